@@ -13,11 +13,12 @@ from unittest import mock
 
 import support
 from planarbend.drawing.core import core_of
-from planarbend.drawing.incremental import incremental_embedding
+from planarbend.drawing.incremental import fold, incremental_embedding
 from planarbend.drawing.moves import Faces, climbed, flipped, flips_of, neighbours, shifted
 from planarbend.drawing.planarization import LinkedEmbedding, Planarization
-from planarbend.drawing.planarize import TooManyCrossings, _embedded, _least, _Starts, needed_by_cycles, needed_crossings, planarize
-from planarbend.drawing.reinsert import FIXED, Reinsertion, one_of
+from planarbend.drawing.planarize import (TooManyCrossings, _embedded, _least, _Starts, needed_by_cycles,
+                                          needed_crossings, planarize)
+from planarbend.drawing.reinsert import FIXED, Reinsertion, growth, one_of
 from planes import Plane
 
 try:
@@ -37,7 +38,17 @@ print(result.tail, result.rotation, result.chains)
 
 UTILITIES = [(tail, head) for tail in range(3) for head in range(3, 6)]
 PETERSEN = [edge for place in range(5) for edge in ((place, (place + 1) % 5), (place, place + 5), (place + 5, (place + 2) % 5 + 5))]
+
+
+def lcf(count: int, shifts: Sequence[int]) -> list[tuple[int, int]]:
+    """The edges of a cubic graph with a cycle through all vertices, by how far along it each vertex has its third neighbour."""
+    third = ((vertex, (vertex + shifts[vertex % len(shifts)]) % count) for vertex in range(count))
+    return [(vertex, (vertex + 1) % count) for vertex in range(count)] + [(one, other) for one, other in third if one < other]
+
+
 HEAWOOD = [(place, (place + 1) % 14) for place in range(14)] + [(place, (place + 5) % 14) for place in range(0, 14, 2)]
+MCGEE = lcf(24, (12, 7, -7))
+TUTTE_COXETER = lcf(30, (-13, -9, 7, -7, 9, 13))
 
 
 def faces_of(result: Planarization) -> list[list[int]]:
@@ -65,11 +76,12 @@ class Needed(unittest.TestCase):
     """Lower bounds for crossings."""
 
     def test_needed_by_cycles(self) -> None:
-        """The bounds of complete graphs, and of those whose shortest cycle has four, five and six edges."""
+        """The bounds of complete graphs, and of those whose shortest cycle has four to eight edges."""
         complete = {count: [(tail, head) for head in range(count) for tail in range(head)] for count in range(1, 9)}
         for count, needed in zip(complete, (0, 0, 0, 0, 1, 3, 6, 10)):
             self.assertEqual(needed_by_cycles(count, complete[count]), needed, count)
-        for count, edges, needed in ((6, UTILITIES, 1), (10, PETERSEN, 2), (14, HEAWOOD, 3)):
+        for count, edges, needed in ((6, UTILITIES, 1), (10, PETERSEN, 2), (14, HEAWOOD, 3),
+                                     (24, MCGEE, 6), (30, TUTTE_COXETER, 8)):
             self.assertEqual(needed_by_cycles(count, edges), needed)
         self.assertEqual(needed_by_cycles(9, [(number, (number + 1) % 9) for number in range(9)]), 0)
         self.assertEqual(needed_by_cycles(9, [(number // 2, number) for number in range(1, 9)]), 0)
@@ -82,6 +94,54 @@ class Needed(unittest.TestCase):
             again = [*complete[count], *((head, tail) for tail, head in complete[count]), (1, 1)]
             self.assertEqual(needed_crossings(count, again), needed)
         self.assertEqual(needed_crossings(6, UTILITIES), 0)
+
+
+class Everywhere(Reinsertion):
+    """A search that seeks the place of a vertex on all faces, however far they are."""
+
+    def put_vertex(self, vertex: int, edges: Sequence[int], most: int = 0) -> None:
+        super().put_vertex(vertex, edges)
+
+
+class Moves(unittest.TestCase):
+    """Vertices and edges are moved to the best places."""
+
+    def test_no_place_is_missed(self) -> None:
+        """The faces that are passed over are no best places: the same are found on all faces, and with the same choices."""
+        for seed in range(24):
+            made = []
+            for kind in (Reinsertion, Everywhere):
+                dice = random.Random(seed)
+                count = 8 + seed
+                pairs = [(vertex, (vertex + 1) % count) for vertex in range(count)]
+                pairs += dice.sample([(one, other) for other in range(count) for one in range(other - 1) if one or other < count - 1],
+                                     count)
+                weights = [dice.choice((1, 1, 2, 5)) if seed % 2 else 1 for _ in pairs]
+                search = kind(LinkedEmbedding(count, pairs), weights, dice)
+                search.put_all()
+                search.improve(2, 10 ** 6)
+                made.append((search.cost, search.embedding.planarization().rotation))
+            with self.subTest(seed=seed):
+                self.assertEqual(*made)
+
+    def test_growth(self) -> None:
+        """The next vertex is always one with the most neighbours before it, then with the most edges."""
+        for seed in range(10):
+            dice = random.Random(seed)
+            pairs = [(dice.randrange(20), dice.randrange(20)) for _ in range(40)]
+            embedding = LinkedEmbedding(20, pairs)
+            before: set[int] = set()
+
+            def rank(vertex: int) -> tuple[int, int]:
+                """Edges to vertices before, and all edges."""
+                others = [sum(pairs[edge]) - vertex for edge in embedding.edges_at[vertex]]
+                return sum(other in before for other in others), len(others)
+
+            for vertex, edges in growth(embedding, dice):
+                self.assertEqual(rank(vertex), max(map(rank, set(range(20)) - before)))
+                self.assertEqual(len(edges), rank(vertex)[0])
+                before.add(vertex)
+            self.assertEqual(len(before), 20)
 
 
 @support.needs_networkx
@@ -241,6 +301,17 @@ class Planarized(unittest.TestCase):
             with self.subTest(name):
                 self.assertEqual(self.checked(*self.graph(made)).crossings, known)
 
+    def test_folded(self) -> None:
+        """Without its vertices of degree 1 and 2, a graph is planar if it was, and not otherwise."""
+        for seed in range(60):
+            made = networkx.gnm_random_graph(12 + seed, 15 + seed + seed // 3, seed=seed)
+            joined = [set(made[vertex]) for vertex in made]
+            fold(joined)
+            self.assertFalse({len(others) for others in joined} & {1, 2})
+            rest = networkx.Graph((vertex, other) for vertex, others in enumerate(joined) for other in others)
+            with self.subTest(seed=seed):
+                self.assertEqual(networkx.check_planarity(rest)[0], networkx.check_planarity(made)[0])
+
     def test_planar(self) -> None:
         """Planar graphs have no crossing."""
         for made in (networkx.path_graph(1), networkx.path_graph(2), networkx.star_graph(9), networkx.tutte_graph(),
@@ -256,6 +327,15 @@ class Planarized(unittest.TestCase):
         apart = [(tail + 20, head + 20) for tail, head in five]
         result = self.checked(26, five + moved + apart + [(0, 10), (10, 11)])
         self.assertEqual(result.crossings, 3)
+
+    def test_cuts(self) -> None:
+        """Vertices without edges, vertices of degree 1 and blocks with a common vertex beside a block with many crossings."""
+        eight = [(tail, head) for head in range(8) for tail in range(head)]  # 18 crossings
+        moved = [(tail + 7, head + 7) for tail, head in eight]
+        for count, edges, known in ((9, eight, 18), (9, [*eight, (0, 8)], 18), (9, [*eight, (8, 3)], 18),
+                                    (10, [*eight, (8, 9)], 18), (15, eight + moved, 36)):
+            with self.subTest(count=count, edges=len(edges)):
+                self.assertEqual(self.checked(count, edges).crossings, known)
 
     def test_many_edges(self) -> None:
         """Loops, parallel edges and chains beside them; crossing a bundle costs each of its edges."""

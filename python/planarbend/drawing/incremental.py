@@ -30,7 +30,7 @@ def incremental_embedding(vertex_count: int, ends: Iterable[tuple[int, int]]) ->
     for tail, head in ends:
         joined[tail].add(head)
         joined[head].add(tail)
-    folded = _fold(joined)
+    folded = fold(joined)
     kept = [vertex for vertex, others in enumerate(joined) if others]
     number = {vertex: place for place, vertex in enumerate(kept)}
     pairs = [(number[vertex], number[other]) for vertex in kept for other in sorted(joined[vertex]) if vertex < other]
@@ -48,7 +48,7 @@ def incremental_embedding(vertex_count: int, ends: Iterable[tuple[int, int]]) ->
     return None
 
 
-def _fold(joined: list[set[int]]) -> list[Folded]:
+def fold(joined: list[set[int]]) -> list[Folded]:
     """Return the vertices of degree 1 and 2, removed one after another from the neighbours `joined` of each vertex; an edge
     then joins the two neighbours of a vertex of degree 2."""
     folded = []

@@ -13,7 +13,7 @@ from collections.abc import Iterable, Sequence
 from typing import Any
 
 from planarbend.drawing.core import Core, core_of
-from planarbend.drawing.incremental import incremental_embedding
+from planarbend.drawing.incremental import fold, incremental_embedding
 from planarbend.graph import Partition
 from planarbend.drawing.planarization import LinkedEmbedding, Planarization
 from planarbend.drawing.reinsert import FIXED, Reinsertion
@@ -24,7 +24,8 @@ STARTS = 8  # first embeddings that are improved, for each unit of effort
 PATIENCE = 2  # consecutive rounds without success after which an embedding is left as it is
 WORK = 12_000_000  # darts to pass for each block and unit of effort (about ten seconds), after which the search ends
 EASY = 25_000  # darts to pass in search of as few crossings as Euler's formula requires
-TEST = 64  # work of a planarity test for each edge, in darts
+TEST = 64  # work of a planarity test for each edge that is left when vertices of degree 1 and 2 are folded away, in darts
+LEAST_EDGES = 9  # of a graph that is not planar
 HOPELESS = 6  # a first embedding may have this many times the allowed crossings: improving it divides them by three at most
 MOST_TESTS = 100  # planarity tests for one first embedding
 
@@ -91,7 +92,7 @@ def _planarized(vertex_count: int, ends: list[Pair], together: list[int], effort
     crossed: list[list[int]] = [[] for _ in ends]
     made = 0
     for block in _blocks(count, ends):
-        if _planar(count, [ends[edge] for edge in block]) is None:
+        if len(block) >= LEAST_EDGES and _planar(count, [ends[edge] for edge in block]) is None:
             core = core_of(block, ends, weights, FIXED)
             made = _unfold(core, _least(core, effort, seed, limit - made), crossed, made)
     result = _embedded(vertex_count, count, ends, crossed)
@@ -114,11 +115,12 @@ def needed_crossings(vertex_count: int, edges: Sequence[Pair]) -> int:
 
 def _certainly_least(vertex_count: int, ends: Sequence[Pair], seed: int) -> Planarization | None:
     """Return an embedding with as many crossings as Euler's formula requires, so that no other has fewer, of a graph that is
-    not planar; `None` if a short search finds none, or there are parallel edges."""
+    not planar; `None` if a short search finds none, or there are parallel edges, or a vertex that would leave others without
+    edges, or parts of the graph apart, if it were moved."""
     if len(set(map(frozenset, ends))) < len(ends):
         return None
     least = needed_by_cycles(vertex_count, ends)
-    if not least:
+    if not least or _has_cuts(vertex_count, ends):
         return None
     dice, work = random.Random(seed + 1), 0  # other choices than `choose` makes
     while work < EASY:
@@ -139,18 +141,22 @@ def needed_by_cycles(vertex_count: int, ends: Sequence[Pair]) -> int:
     for tail, head in ends:
         joined[tail].append(head)
         joined[head].append(tail)
-    girth = min((_shortest_cycle(joined, vertex) for vertex in range(vertex_count)), default=vertex_count + 1)
+    girth = vertex_count + 1
+    for vertex in range(vertex_count):
+        girth = _shortest_cycle(joined, vertex, girth)
     if girth > vertex_count:
         return 0
     return max(0, len(ends) - girth * (vertex_count - 2) // (girth - 2))
 
 
-def _shortest_cycle(joined: Sequence[Sequence[int]], start: int) -> int:
-    """Return the length of a shortest cycle through a vertex of a simple graph, or of a cycle that is no longer; more than the
-    number of vertices if none is found."""
+def _shortest_cycle(joined: Sequence[Sequence[int]], start: int, shortest: int) -> int:
+    """Return the length of a shortest cycle through a vertex of a simple graph, or of a cycle that is no longer; `shortest` if
+    none that is shorter is found."""
     distance, parent = {start: 0}, {start: start}
-    waiting, shortest = [start], len(joined) + 1
+    waiting = [start]
     for vertex in waiting:
+        if 2 * distance[vertex] + 1 >= shortest:
+            break
         for other in joined[vertex]:
             if other not in distance:
                 distance[other], parent[other] = distance[vertex] + 1, vertex
@@ -191,6 +197,14 @@ def _planar(vertex_count: int, ends: Iterable[Pair]) -> list[list[int]] | None:
     if embedding is None:
         return None
     return [list(embedding.neighbors_cw_order(vertex)) if embedding.degree(vertex) else [] for vertex in range(vertex_count)]
+
+
+def _has_cuts(vertex_count: int, ends: Sequence[Pair]) -> bool:
+    """Return whether a graph has a cut vertex, or a vertex of degree 0 or 1."""
+    import networkx
+
+    graph = _graph(vertex_count, ends)
+    return min(len(graph[vertex]) for vertex in graph) < 2 or any(True for _ in networkx.articulation_points(graph))
 
 
 def _blocks(vertex_count: int, ends: Sequence[Pair]) -> list[list[int]]:
@@ -253,26 +267,31 @@ class _Starts:
         for edge in order:
             pair = self.core.ends[edge]
             (kept if parts.unite(*pair) else rest).append(pair)
-        embedding = self._test(kept)
-        assert embedding is not None, "a tree is planar"
         waiting = [rest]
         for _ in range(MOST_TESTS):
             if not waiting:
                 break
             some = waiting.pop()
-            larger = self._test(kept + some)
-            if larger is not None:
-                embedding = larger
+            if self._test(kept + some):
                 kept += some
             elif len(some) > 1:
                 middle = len(some) // 2
                 waiting += (some[middle:], some[:middle])
+        embedding = _planar(len(self.core.vertices), kept)
+        assert embedding is not None, "the tested part is planar"
         return embedding
 
-    def _test(self, pairs: list[Pair]) -> list[list[int]] | None:
-        """Return an embedding of edges of the core, or `None`."""
-        self.work += TEST * len(pairs)
-        return _planar(len(self.core.vertices), pairs)
+    def _test(self, pairs: list[Pair]) -> bool:
+        """Return whether edges of the core, which connect it, make a planar graph."""
+        joined: list[set[int]] = [set() for _ in self.core.vertices]
+        for tail, head in pairs:
+            joined[tail].add(head)
+            joined[head].add(tail)
+        fold(joined)
+        number = {vertex: place for place, vertex in enumerate(vertex for vertex, others in enumerate(joined) if others)}
+        rest = [(place, number[other]) for vertex, place in number.items() for other in joined[vertex] if vertex < other]
+        self.work += TEST * len(rest)
+        return not rest or _planar(len(number), rest) is not None
 
 
 def _least(core: Core, effort: int, seed: int, limit: int) -> LinkedEmbedding:

@@ -4,6 +4,9 @@ An edge goes back along a shortest path of the dual graph (Gutwenger and Mutzel 
 into the face from which the sum of such paths to its neighbours is least (after Clancy, Haythorpe and Newcombe 2019). Neither
 ever adds a crossing. Where several places are equally good, one is chosen at random, which lets the embedding drift.
 
+A vertex came from a place where the sum was known, so faces with a greater one are no places for it. Nor does a shortest path
+to a place pass a face whose distances from two neighbours add up to more, if their edges have the same weight.
+
 Work is counted in darts that a search of the dual graph passes, not in seconds, so the same seed gives the same embedding.
 """
 from __future__ import annotations
@@ -24,16 +27,22 @@ def one_of(numbers: Sequence[int], dice: random.Random) -> int:
 
 def growth(embedding: LinkedEmbedding, dice: random.Random) -> Iterator[tuple[int, list[int]]]:
     """Yield each vertex with its edges to those before it: always one with the most such edges, then with the most edges."""
-    placed = [0] * embedding.vertex_count  # neighbours that come before
-    waiting = dict.fromkeys(range(embedding.vertex_count))
+    count, chance = embedding.vertex_count, dice.random
+    step = 1 + max(map(len, embedding.edges_at), default=0)
+    rank = list(map(len, embedding.edges_at))  # plus `step` for each edge to a vertex that comes before
+    waiting, is_placed = list(range(count)), [False] * count
     while waiting:
-        vertex = max(waiting, key=lambda vertex: (placed[vertex], len(embedding.edges_at[vertex]), dice.random()))
-        del waiting[vertex]
+        ranks = [rank[vertex] for vertex in waiting]
+        most = max(ranks)
+        draws = [chance() for _ in waiting]
+        place = max((draw, place) for place, (draw, other) in enumerate(zip(draws, ranks)) if other == most)[1]
+        vertex = waiting.pop(place)
+        is_placed[vertex] = True
         edges = []
         for edge in embedding.edges_at[vertex]:
             other = sum(embedding.ends[edge]) - vertex
-            placed[other] += 1
-            if other not in waiting:
+            rank[other] += step
+            if is_placed[other]:
                 edges.append(edge)
         yield vertex, edges
 
@@ -61,17 +70,20 @@ class Reinsertion:
 
     # Distances
 
-    def distances(self, vertex: int, goals: Sequence[int] = ()) -> list[int]:
-        """Return for each face the weight of the edges to cross from a vertex to it, by Dial's algorithm; `FAR` if there is no
-        path, and maybe for faces farther than the nearest of some goals."""
+    def distances(self, vertex: int, goals: Sequence[int] = (), most: int = FAR, near: Sequence[int] = (), sum_most: int = FAR
+                  ) -> tuple[list[int], list[list[int]]]:
+        """Return for each face the weight of the edges to cross from a vertex to it, by Dial's algorithm, and the faces that
+        are reached; `FAR` if there is no path, and maybe for faces farther than the nearest of some goals, farther than
+        `most`, or with a sum above `sum_most` of this distance and that of `near`, there or on each shortest path."""
         embedding, weights = self.embedding, self.weights
         onward, face, corner, edge = embedding.onward, embedding.face, embedding.corner, embedding.edge
         buckets = [list({face[dart] for dart in embedding.around(vertex)})]
         distance = [FAR] * len(corner)
         for here in buckets[0]:
             distance[here] = 0
-        work = steps = 0
-        while steps < len(buckets) and min(map(distance.__getitem__, goals), default=FAR) > steps:
+        near = near or [0] * len(corner)
+        work, steps, end = 0, 0, min(most + 1, FIXED)
+        while steps < len(buckets) and steps < most and min(map(distance.__getitem__, goals), default=FAR) > steps:
             next_step = steps + 1
             for here in buckets[steps]:
                 if distance[here] < steps:
@@ -82,7 +94,7 @@ class Reinsertion:
                     other = face[dart ^ 1]
                     if distance[other] > next_step:
                         there = steps + weights[edge[dart >> 1]]
-                        if there < distance[other] and there < FIXED:
+                        if there < distance[other] and there < end and near[other] + there <= sum_most:
                             distance[other] = there
                             while len(buckets) <= there:
                                 buckets.append([])
@@ -92,7 +104,7 @@ class Reinsertion:
                         break
             steps = next_step
         self.work += work
-        return distance
+        return distance, buckets
 
     def path(self, distance: list[int], to: int) -> list[int]:
         """Return the darts that a shortest path to a face crosses, from its start on, chosen at random among the shortest."""
@@ -129,7 +141,7 @@ class Reinsertion:
         embedding = self.embedding
         tail, head = embedding.ends[edge]
         goals = sorted({embedding.face[dart] for dart in embedding.around(head)})
-        distance = self.distances(tail, goals)
+        distance, _ = self.distances(tail, goals)
         least = min(distance[goal] for goal in goals)
         goal = one_of([goal for goal in goals if distance[goal] == least], self.dice)
         crossed = self.path(distance, goal)
@@ -161,25 +173,30 @@ class Reinsertion:
 
     def move_vertex(self, vertex: int) -> None:
         """Remove a vertex with its edges and put it back."""
-        edges = self.embedding.edges_at[vertex]
+        edges, before = self.embedding.edges_at[vertex], self.cost
         for edge in edges:
             self.take(edge)
-        self.put_vertex(vertex, edges)
+        self.put_vertex(vertex, edges, before - self.cost)
 
-    def put_vertex(self, vertex: int, edges: Sequence[int]) -> None:
-        """Insert a vertex with these of its edges, whose other ends have further edges."""
-        totals: list[int] = [0] * len(self.embedding.corner)
-        near: list[list[int]] = []
+    def put_vertex(self, vertex: int, edges: Sequence[int], most: int = FAR) -> None:
+        """Insert a vertex with these of its edges, whose other ends have further edges, where this costs least: at most `most`,
+        which is known to be possible."""
+        embedding, weights = self.embedding, self.weights
+        first, places, totals, least = list[int](), list[int](), list[int](), 0
         for edge in edges:
-            tail, head = self.embedding.ends[edge]
-            distance = self.distances(head if tail == vertex else tail)
-            near.append(distance)
-            weight = self.weights[edge]
-            totals = [total + weight * far for total, far in zip(totals, distance)]
-        least = min(totals)
-        places = [face for face, total in enumerate(totals) if total == least]
-        face = places[int(self.dice.random() * len(places))]
-        self.put_at(edges[0], vertex, face, near[0])
+            lighter = min(weights[edge], weights[edges[0]])
+            near = first if lighter == weights[edges[0]] else ()
+            distance, reached = self.distances(sum(embedding.ends[edge]) - vertex, (), (most - least) // weights[edge], near,
+                                               most // lighter)
+            if not first:
+                first, places = distance, sorted({face for faces in reached for face in faces})
+                totals = [0] * len(places)
+            totals = [total + weights[edge] * distance[face] for total, face in zip(totals, places)]
+            least = min(totals)
+            places = [face for face, total in zip(places, totals) if total <= most]
+            totals = [total for total in totals if total <= most]
+        places = [face for face, total in zip(places, totals) if total == least]
+        self.put_at(edges[0], vertex, places[int(self.dice.random() * len(places))], first)
         for edge in edges[1:]:
             self.put(edge)
 
