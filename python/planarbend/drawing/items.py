@@ -24,7 +24,9 @@ LEAST_SIDE = 22.0  # pixels, the width of a box
 LEAST_FLAG = 14.0  # pixels, the width of a flag
 LABEL_FONT = 10
 LABEL_HEIGHT = 12.0
-LOOP = 32  # units of the fine grid, from the border of a box to the far side of a loop
+LOOPS = 1024  # units of the fine grid that a box takes beyond its last line, for the ends of loops
+LOOP = 32  # units of the fine grid, from there to the far side of a loop
+NEAR_END = 1536  # units of the fine grid, from a box to a label at an end: beyond its loops, before the middle of a line
 
 BOX, LABEL, PIECE = range(3)  # the kinds of items
 
@@ -138,7 +140,7 @@ class Sheet:
             high.append(low[-1] if place is not None else self.axes[axis].add(last, 1.0))
             if place is None:
                 self.within[axis].append((low[-1], high[-1], self.sizes[number][axis]))
-        self.boxes.append(Item(BOX, low, high, [(left, right), (top, bottom)], host=(number,)))
+        self.boxes.append(Item(BOX, low, high, [(left, right + LOOPS), (top, bottom + LOOPS)], host=(number,)))
         self.items.append(self.boxes[-1])
 
     def _add_line(self, number: int) -> None:
@@ -184,7 +186,6 @@ class Sheet:
         ends = [self._coordinate(along, end, [host], 0.1 + (2 * count + last) / 1000) for last in (0, 1)]
         far = self.axes[across].add(border + LOOP * sign), border + LOOP * sign
         near = box.low[across] if is_low else box.high[across], border + sign
-        box.grid[along] = box.grid[along][0], places[1] + 1
         legs = list(zip(ends, places))
         extent = (far, near) if is_low else (near, far)
         self.pieces[number] = [item_at(PIECE, along, legs[0], *extent, [host]), item_at(PIECE, across, far, *legs, []),
@@ -247,7 +248,8 @@ class Sheet:
         first, last = piece.grid[running]
         box = self.boxes[self.graph.edges[number].head if is_head else self.graph.edges[number].tail]
         is_at_last = piece.high[running] in (box.low[running], box.high[running])
-        middle = last - (last - first) / 8 if is_at_last else first + (last - first) / 8
+        far = max((last - first) / 8, NEAR_END) if last - first > UNIT / 2 else (last - first) / 8
+        middle = last - far if is_at_last else first + far
         place = self.axes[running].add(middle)
         item = item_at(LABEL, across, (piece.low[across], piece.grid[across][0]), (place, middle), (place, middle),
                        [-1 - number - (1 + is_head) * len(self.graph.edges)])
