@@ -258,15 +258,16 @@ class Odd(unittest.TestCase):
 
     def test_values_with_quotes_and_brackets(self) -> None:
         for value in ('\\"', "<>", "</svg>", '\\" onload=\\"x', "&amp;", "]]>", "--", "'", "%3C", "url(x)", ""):
-            for key in ("color", "fillcolor", "fontcolor", "fontname", "URL", "tooltip", "style", "penwidth", "fontsize",
-                        "bgcolor", "label", "headlabel", "arrowhead", "colorscheme"):
-                if "color" in key and ";" in value:
-                    continue  # Graphviz refuses it: in colours it stands before a number
-                root, _ = self.drawn(f'digraph {{ graph [{key}="{value}"]; node [style=filled, {key}="{value}"];'
-                                     f' edge [{key}="{value}"]; a -> b }}')
-                for one in root.iter():
-                    self.assertNotIn("onload", one.attrib)
-                    self.assertTrue({one.get("fill"), one.get("stroke")}.isdisjoint({value, ""}), (key, value))
+            keys = [key for key in ("color", "fillcolor", "fontcolor", "fontname", "URL", "tooltip", "style", "penwidth",
+                                    "fontsize", "bgcolor", "label", "headlabel", "arrowhead", "colorscheme")
+                    if "color" not in key or ";" not in value]  # Graphviz refuses it: in colours it stands before a number
+            values = [f'{key}="{value}"' for key in keys]
+            root, _ = self.drawn(f"digraph {{ graph [{', '.join(values)}]; node [style=filled];" + "".join(
+                f"{key} [{said}]; {key} -> {key}2 [{said}];" for key, said in zip(keys, values)) + "}")
+            self.assertEqual(len(list(root.iter(SVG + "polyline"))), len(keys))
+            for one in root.iter():
+                self.assertNotIn("onload", one.attrib)
+                self.assertTrue({one.get("fill"), one.get("stroke")}.isdisjoint({value, ""}), value)
 
     def test_colours_as_graphviz_shows_them(self) -> None:
         names = ["red3", "grey50", "/accent8/3", "0.5 0.5 0.5", "0.1,0.9,1", "#12345680", "RED", "lightgoldenrod2", "none"]

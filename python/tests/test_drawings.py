@@ -158,13 +158,12 @@ class SameBytes(unittest.TestCase):
         with tempfile.TemporaryDirectory() as folder:
             for name, ending in (("petersen.gml", "json"), ("nested.graphml", "svg"), ("amplifier.net", "svg")):
                 told = []
-                for number, seed in enumerate(("0", "0", "4711")):
+                for number, seed in enumerate(("0", "4711")):
                     out = Path(folder) / f"{number}.{ending}"
                     ran = support.ran(["draw", str(support.GRAPHS[name]), "-o", str(out), "--seed", "7"], PYTHONHASHSEED=seed)
                     self.assertEqual(ran.returncode, 0, ran.stderr)
                     told.append(out.read_bytes())
                 self.assertEqual(told[0], told[1], name)
-                self.assertEqual(told[0], told[2], name)
 
 
 if __name__ == "__main__":

@@ -6,6 +6,7 @@ import subprocess
 import sys
 import tempfile
 import unittest
+from importlib.util import find_spec
 from pathlib import Path
 
 import support
@@ -21,11 +22,13 @@ def environment(**changes: str) -> dict[str, str]:
 class Install(unittest.TestCase):
     def test_pip_install_offline(self) -> None:
         with tempfile.TemporaryDirectory() as folder:
-            made = subprocess.run([sys.executable, "-m", "venv", "--system-site-packages", folder], capture_output=True, check=False)
+            words = ["-m", "venv", "--system-site-packages"] + ["--without-pip"] * (find_spec("pip") is not None)
+            made = subprocess.run([sys.executable, *words, folder], capture_output=True, check=False)
             if made.returncode:
                 self.skipTest("venv is missing (Debian: python3-venv)")
             binaries = Path(folder) / "bin"
-            words = ["install", "--no-build-isolation", "--no-index", "--disable-pip-version-check", str(support.PACKAGE)]
+            words = ["install", "--no-build-isolation", "--no-index", "--no-compile", "--disable-pip-version-check",
+                     str(support.PACKAGE)]
             ran = subprocess.run([binaries / "python3", "-m", "pip", *words], capture_output=True, text=True, env=environment(), check=False)
             self.assertEqual(ran.returncode, 0, ran.stdout + ran.stderr)
             (Path(folder) / "edge.txt").write_text(EDGE)

@@ -130,7 +130,7 @@ class Refused(unittest.TestCase):
 class Kept(unittest.TestCase):
     def test_boxes_above_degree_4_are_rectangles_without_repair(self) -> None:
         engine, tried = keeper(), 0
-        for seed in range(1, 24):
+        for seed in range(1, 12):
             dice = random.Random(seed)
             count = dice.randrange(8, 22)
             edges = [(dice.randrange(min(vertex, 4)), vertex) for vertex in range(1, count)]
@@ -141,7 +141,7 @@ class Kept(unittest.TestCase):
                 tried += 1
                 with self.subTest(seed=seed):
                     self.assertEqual(found.broken, [])
-        self.assertGreater(tried, 100)
+        self.assertGreater(tried, 50)
 
     def test_straight_edges(self) -> None:
         """Three edges of a tree within each of some random graphs."""
