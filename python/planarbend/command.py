@@ -60,8 +60,8 @@ def command_line() -> argparse.Namespace:
     parser.add_argument("graph", metavar="GRAPH", help="the file, or - for standard input")
     parser.add_argument("-o", "--output", metavar="OUT", required=True,
                         help="a picture (.svg, .png, .pdf); of planar_code an HTML page of all graphs (.html); the"
-                             " drawing's points for other programs (.json, .graphml, .gml, .gv); the embedding with its crossings"
-                             " as planar_code (.pc); or - for SVG on standard output")
+                             " drawing's points for other programs (.json, .graphml, .gml, .gv, .dot); the embedding with"
+                             " its crossings as planar_code (.pc); or - for SVG on standard output")
     parser.add_argument("--format", choices=FORMS, help="the format of GRAPH (default: by its content)")
     parser.add_argument("--outer", metavar="NAMES", help="put these vertices on the outer face; commas separate names")
     parser.add_argument("--straight", metavar="NAME--NAME", action="append", default=[],

@@ -24,6 +24,7 @@ from planarbend.progress import stage
 MARGIN = 10.0  # pixels around the whole
 BETWEEN = 18.0  # pixels between components
 MOST_EMBEDDINGS = 4  # that are tried while some box would not be a rectangle
+HELP = "--split draws vertices with many edges as flags"
 MOST_BROKEN = 4  # if more boxes than this are not rectangles, no further embedding is tried
 BEND_WEIGHT = 2.5  # of bends per edge, when shapes are compared by area
 COMPACT_WEIGHT = 0.25  # the same for a compact drawing
@@ -144,7 +145,7 @@ def embedded(graph: Graph, options: Options, attempt: int) -> Planarization:
     edges. Raise a `DrawError` if there are more vertices and crossings than can be drawn."""
     count, pairs = len(graph.vertices), [(edge.tail, edge.head) for edge in graph.edges]
     if count > MOST_VERTICES:
-        raise DrawError(f"a component has {count} vertices; the limit is {MOST_VERTICES}")
+        raise DrawError(f"a component has {count} vertices; the limit is {MOST_VERTICES}; {HELP}")
     more = f", embedding {attempt + 1}" if attempt else ""
     stage(f"{count} vertices, {len(pairs)} edges: searching for few crossings{more}")
     order = random.Random(options.seed * MOST_EMBEDDINGS + attempt) if attempt else None
@@ -154,7 +155,7 @@ def embedded(graph: Graph, options: Options, attempt: int) -> Planarization:
     except TooManyCrossings as fault:
         plain = sum(tail != head for tail, head in pairs)
         raise DrawError(f"a component has {count} vertices, {plain} edges and {fault}; the limit is {MOST_VERTICES}"
-                        " vertices and crossings") from None
+                        f" vertices and crossings; {HELP}") from None
 
 
 def shapes_of(planar: Planarization, graph: Graph, options: Options, engine: Engine) -> list[Shape]:
@@ -165,7 +166,8 @@ def shapes_of(planar: Planarization, graph: Graph, options: Options, engine: Eng
         return choose(planar, engine, options)
     except TooLarge as fault:
         raise DrawError(f"a component has {len(graph.vertices)} vertices, {len(graph.edges)} edges and {planar.crossings}"
-                        f" crossings, which takes {fault} vertices of degree 4; the limit is {MOST_VERTICES}") from None
+                        f" crossings, which takes {fault} vertices of degree 4; the limit is {MOST_VERTICES};"
+                        f" {HELP}") from None
     except NoSuchFace:
         names = ", ".join(graph.vertices[vertex].name for vertex in options.outer)
         raise DrawError(f"no embedding was found with these vertices on one face: {names}") from None

@@ -9,6 +9,7 @@ import bisect
 from planarbend.drawing.items import BOX, LABEL, PIECE, Sheet
 
 BOX_WEIGHT = 4.0  # of the size of a box, to that of a line's length
+LABEL_WEIGHT = 0.25  # of the distance of a label from an end of a line
 GAPS = {(BOX, BOX): 20.0, (BOX, LABEL): 10.0, (BOX, PIECE): 12.0, (LABEL, LABEL): 6.0, (LABEL, PIECE): 4.0,
         (PIECE, PIECE): 10.0}  # pixels
 GAP = [[GAPS[min(one, other), max(one, other)] for other in range(3)] for one in range(3)]
@@ -41,13 +42,19 @@ def apart(sheet: Sheet, axis: int, step: int) -> list[tuple[int, int, float]]:
 
 
 def lengths_of(sheet: Sheet, axis: int) -> list[tuple[int, int, float, float]]:
-    """Return what should be short along an axis: pieces of edges, and boxes."""
+    """Return what should be short along an axis: pieces of edges, boxes, and the way from an end of an edge to its label."""
     found = []
     for pieces in sheet.pieces:
         found += [(piece.low[axis], piece.high[axis], 0.0, 1.0) for piece in pieces if piece.owns[1 - axis]]
     for number, box in enumerate(sheet.boxes):
         if box.low[axis] != box.high[axis]:
             found.append((box.low[axis], box.high[axis], sheet.sizes[number][axis], BOX_WEIGHT))
+    for key, label in sheet.end_labels.items():
+        piece, is_at_last = sheet.piece_at(*key)
+        if piece.owns[1 - axis]:
+            place = label.low[axis]
+            ends = (place, piece.high[axis]) if is_at_last else (piece.low[axis], place)
+            found.append((*ends, 0.0, LABEL_WEIGHT))
     return found
 
 

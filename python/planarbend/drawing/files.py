@@ -8,8 +8,8 @@ from html import escape
 from planarbend.drawing.drawn import Box, Drawing, Point
 from planarbend.drawing.items import size_of
 from planarbend.drawing.picture import DOT, FILL, FILLS, INK, LABEL_FONT, LINE, STROKE
-from planarbend.drawing.symbols import ELLIPSES, RING, corner_of
-from planarbend.drawing.texts import FONT, lines_of
+from planarbend.drawing.symbols import ELLIPSES, RING, WHOLE, corner_of
+from planarbend.drawing.texts import FONT, allowed, lines_of
 from planarbend.graph import Arrow, Graph, Kind
 from planarbend.style import Colour, EdgeLook, Font, NodeLook, Outline
 
@@ -17,7 +17,7 @@ INCH = 72.0  # pixels, as one pixel is written as one point
 ARROW = 8.0  # pixels, the length of an arrowhead
 ARROW_SIZE = 0.8  # the same, in Graphviz's unit
 PLAIN = "DejaVu Sans"
-TAB = 12.0  # pixels, four times the greatest height of the tab of a folder in Graphviz
+TAB = 12.0  # pixels, three times the greatest height of the tab of a folder in Graphviz
 PLAIN_LOOK = NodeLook()
 YED = {Outline.ELLIPSE: "ellipse", Outline.CIRCLE: "ellipse", Outline.DOUBLE_CIRCLE: "ellipse", Outline.POINT: "ellipse",
        Outline.DIAMOND: "diamond", Outline.HEXAGON: "hexagon", Outline.OCTAGON: "octagon"}
@@ -114,7 +114,7 @@ def dot_node(drawing: Drawing, number: int) -> dict[str, object]:
 def without_tabs(outline: Outline | None, box: Box) -> Box:
     """Return the box of a node in Graphviz, which draws the tab of a folder and the small boxes of a component outside it."""
     left, top, right, bottom = box
-    out = min(TAB, min(right - left, bottom - top) / 3) / 4
+    out = min(TAB, min(right - left, bottom - top) / 3) / 3
     return left + out * (outline is Outline.COMPONENT), top + out * (outline is Outline.FOLDER), right, bottom
 
 
@@ -125,7 +125,7 @@ def shape_of(kind: Kind, look: NodeLook, box: Box, label: str) -> dict[str, obje
     if outline is not None and any(corner_of(outline, least)):
         is_larger = right - left > least[0] + 1 or bottom - top > least[1] + 1
         outline = (Outline.ROUND_RECORD if outline in ELLIPSES else Outline.OCTAGON) if is_larger else outline
-    is_round = kind is not Kind.PART and (outline in (None, Outline.ROUND_RECORD) or look.is_rounded)
+    is_round = kind is not Kind.PART and (outline in (None, Outline.ROUND_RECORD) or look.is_rounded and outline in WHOLE)
     is_filled = outline is not Outline.NONE or look.fill is not None
     words = [word for word, is_said in (("filled", is_filled), ("rounded", is_round),
                                         (look.dash and look.dash.value, look.dash is not None),
@@ -210,7 +210,7 @@ def gml(drawing: Drawing) -> str:
     return "\n".join([*found, "]\n"])
 
 
-def attribute(text: object) -> str:
+def attribute(text: str) -> str:
     """Return a text as the value of an attribute of XML, in quotes."""
     return '"' + escape(allowed(text)).replace("\n", "&#10;") + '"'
 
@@ -249,7 +249,7 @@ def graphml_node(drawing: Drawing, number: int) -> str:
         f'<y:Fill {hue(fill)}/><y:BorderStyle {hue(line)} type="{look.dash.value if look.dash else "line"}"'
         f' width="{STROKE}"/><y:NodeLabel{size}>{escape(allowed(vertex.label), quote=False)}</y:NodeLabel>'
         f'<y:Shape type="{kind}"/></y:ShapeNode></data>',
-        *(f'<data key="{key}">{escape(allowed(value), quote=False)}</data>' for key, value in values.items())])
+        *(f'<data key="{key}">{escape(allowed(str(value)), quote=False)}</data>' for key, value in values.items())])
 
 
 def graphml_edge(drawing: Drawing, number: int) -> str:
@@ -274,12 +274,6 @@ def graphml_edge(drawing: Drawing, number: int) -> str:
 def hue(colour: Colour) -> str:
     """Return the attributes of a colour for yEd."""
     return 'hasColor="false"' if colour.text == "none" else f'color="{colour.text}"'
-
-
-def allowed(value: object) -> str:
-    """Return a value as text without the characters that XML does not allow."""
-    return "".join(letter if letter >= " " and letter not in "\ufffe\uffff" or letter in "\n\t" else "\ufffd"
-                   for letter in str(value))
 
 
 def address(link: str) -> str | None:

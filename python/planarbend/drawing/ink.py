@@ -1,7 +1,9 @@
 """Turns looks into SVG: attributes of lines, boxes and texts, arrowheads, links and tooltips."""
 from __future__ import annotations
 
-from planarbend.drawing.texts import FAMILY, xml_text
+import re
+
+from planarbend.drawing.texts import FAMILY, MONOSPACED, xml_text
 from planarbend.graph import Arrow, Graph
 from planarbend.style import Colour, Dash, EdgeLook, Font, Head, Look
 
@@ -12,6 +14,8 @@ HEADS = {
     Head.VEE: '<path d="M0 1L9 5L0 9L3.5 5z"{}/>', Head.DOT: '<circle cx="5" cy="5" r="4"{}/>',
     Head.OPEN_DOT: '<circle cx="5" cy="5" r="3.5"{}/>', Head.DIAMOND: '<path d="M0 5L4.5 1.5L9 5L4.5 8.5z"{}/>',
     Head.OPEN_DIAMOND: '<path d="M0.5 5L4.5 1.8L8.5 5L4.5 8.2z"{}/>', Head.TEE: '<path d="M6.5 0H9V10H6.5z"{}/>'}
+SERIF = re.compile("times|roman|palatino|schlbk|schoolbook|bookman|garamond|georgia", re.I)
+GENERIC = {"monospace": MONOSPACED, "serif": SERIF}  # families by which others are replaced
 OPEN = (Head.OPEN_DOT, Head.OPEN_DIAMOND)
 MARKER = ('<marker id="{}" viewBox="0 0 10 10" refX="9" refY="5" markerWidth="8" markerHeight="8"'
           ' markerUnits="userSpaceOnUse" orient="auto-start-reverse">{}</marker>')
@@ -43,7 +47,8 @@ def lettered(font: Font) -> str:
     """Return the attributes of the texts in a font."""
     found = painted("fill", font.colour)
     if font.family:
-        found += f" font-family={quoted(f'{font.family}, {FAMILY}')}"
+        kind = next((f"{generic}, " for generic, names in GENERIC.items() if names.search(font.family)), "")
+        found += f" font-family={quoted(f'{font.family}, {kind}{FAMILY}')}"
     if font.size is not None:
         found += f' font-size="{font.size:g}"'
     return found + (' font-weight="bold"' if font.is_bold else "") + (' font-style="italic"' if font.is_italic else "")

@@ -243,12 +243,10 @@ class Sheet:
 
     def _add_end_label(self, number: int, is_head: bool, text: str) -> None:
         """Put a label on the piece of an edge at its head or its tail, near the end."""
-        size, piece = self._label_size(number, text), self.pieces[number][-1 if is_head else 0]
+        size, (piece, is_at_last) = self._label_size(number, text), self.piece_at(number, is_head)
         across, running = piece.across, 1 - piece.across
         first, last = piece.grid[running]
-        box = self.boxes[self.graph.edges[number].head if is_head else self.graph.edges[number].tail]
-        is_at_last = piece.high[running] in (box.low[running], box.high[running])
-        far = max((last - first) / 8, NEAR_END) if last - first > UNIT / 2 else (last - first) / 8
+        far = NEAR_END if last - first > UNIT / 2 else (last - first) / 8
         middle = last - far if is_at_last else first + far
         place = self.axes[running].add(middle)
         item = item_at(LABEL, across, (piece.low[across], piece.grid[across][0]), (place, middle), (place, middle),
@@ -256,6 +254,12 @@ class Sheet:
         item.owns, item.before, item.after = (True, True), [-size[0] / 2, -size[1] / 2], [size[0] / 2, size[1] / 2]
         self.end_labels[number, is_head] = item
         self.items.append(item)
+
+    def piece_at(self, number: int, is_head: bool) -> tuple[Item, bool]:
+        """Return the piece of an edge at its head or its tail, and whether this end has the greater coordinate."""
+        edge, piece = self.graph.edges[number], self.pieces[number][-1 if is_head else 0]
+        box, running = self.boxes[edge.head if is_head else edge.tail], 1 - piece.across
+        return piece, piece.high[running] in (box.low[running], box.high[running])
 
     def _label_size(self, number: int, text: str) -> tuple[float, float]:
         """Return the size of a label of an edge."""

@@ -68,7 +68,8 @@ def line_of(drawing: Drawing, number: int) -> list[Point]:
         if look is None or look.outline in WHOLE or vertex.kind in (Kind.NET, Kind.FLAG):
             ends.append(at)
         else:
-            corners = border(look.outline, drawing.boxes[end], size_of(vertex.label, vertex.kind, look))
+            least = size_of(vertex.label, vertex.kind, look)
+            corners = border(look.outline, drawing.boxes[end], least, ROUND * look.is_rounded)
             ends.append(drawn_on(corners, at, before))
     return [ends[0], *line[1:-1], ends[1]]
 
@@ -111,6 +112,8 @@ def outline_elements(vertex: Vertex, look: NodeLook, box: Box) -> list[str]:
     stroke = stroked(look)
     if outline is Outline.NONE:
         fill, stroke = "none", ' stroke="none"'
+    elif outline is Outline.POINT:
+        fill = LINE
     paint = f' fill="{fill}"' if look.fill is None else painted("fill", look.fill)
     return elements(outline, box, size_of(vertex.label, vertex.kind, look), corner, paint + stroke)
 

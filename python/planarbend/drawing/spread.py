@@ -61,8 +61,21 @@ def centre(sheet: Sheet, axis: int, solver: Solver) -> None:
         for number, lines in sheet.at_box[axis].items():
             box = sheet.boxes[number]
             solver.fit(box.low[axis], box.high[axis], lines, sheet.sizes[number][axis], sheet.inset(number, axis))
+        place_labels(sheet, axis, solver)
         if solver.value == before:
             return
+
+
+def place_labels(sheet: Sheet, axis: int, solver: Solver) -> None:
+    """Move labels at ends of edges towards these ends, and others to the middle of their lines."""
+    for key, label in sheet.end_labels.items():
+        piece, is_at_last = sheet.piece_at(*key)
+        if piece.owns[1 - axis]:
+            solver.move_to(label.low[axis], solver.value[piece.high[axis] if is_at_last else piece.low[axis]])
+    for number, label in sheet.labels.items():
+        for piece in sheet.pieces[number] if number not in sheet.corners else ():
+            if piece.owns[1 - axis] and piece.low[1 - axis] == label.low[1 - axis]:
+                solver.move_to(label.low[axis], (solver.value[piece.low[axis]] + solver.value[piece.high[axis]]) / 2)
 
 
 def pull(sheet: Sheet, axis: int, solver: Solver) -> None:
@@ -84,5 +97,6 @@ def pull(sheet: Sheet, axis: int, solver: Solver) -> None:
             solver.fit(*fit)
         for number in movable:
             solver.move(number, ends[number])
+        place_labels(sheet, axis, solver)
         if solver.value == before:
             return

@@ -26,6 +26,7 @@ SLANT = 0.4  # of a hexagon, in heights
 CUT = 0.29  # of the corners of an octagon, in shorter sides
 WIDER = 1.72  # a diamond, than its label
 STEPS = 24  # pieces of a quarter of an ellipse
+BENDS = 6  # pieces of a rounded corner
 ROUND = 8  # pixels, the radius of rounded corners
 NEAR = 1e-6
 APART = 2.0  # pixels, for lines that meet the outline beside the same corner
@@ -77,8 +78,9 @@ def inset_of(outline: Outline | None, least: Point) -> Point:
     return across, down
 
 
-def border(outline: Outline | None, box: Box, least: Point) -> list[Point]:
-    """Return the corners of an outline in its box, clockwise; those of an ellipse or a cylinder approximate it."""
+def border(outline: Outline | None, box: Box, least: Point, corner: float = 0) -> list[Point]:
+    """Return the corners of an outline in its box, clockwise; those of an ellipse or a cylinder approximate it. `corner` is
+    the radius of the corners of a diamond, a hexagon or an octagon."""
     left, top, right, bottom = box
     if outline is Outline.CYLINDER:
         upper, lower = (left, top, right, top + 2 * CAP), (left, bottom - 2 * CAP, right, bottom)
@@ -93,7 +95,24 @@ def border(outline: Outline | None, box: Box, least: Point) -> list[Point]:
                 *arc((left, top, left + wide, top + high), 2, 3), *arc((right - wide, top, right, top + high), 3, 4)]
     found = [(left + across, top), (right - across, top), (right, top + down), (right, bottom - down),
              (right - across, bottom), (left + across, bottom), (left, bottom - down), (left, top + down)]
-    return [point for place, point in enumerate(found) if math.dist(point, found[place - 1]) > JOINED]
+    found = [point for place, point in enumerate(found) if math.dist(point, found[place - 1]) > JOINED]
+    return softened(found, corner) if corner else found
+
+
+def softened(corners: list[Point], size: float) -> list[Point]:
+    """Return the corners of a polygon, each replaced by a curve that begins and ends at this distance, or half-way."""
+    found = []
+    for place, (x, y) in enumerate(corners):
+        ends = []
+        for u, v in (corners[place - 1], corners[(place + 1) % len(corners)]):
+            share = min(0.5, size / math.dist((x, y), (u, v)))
+            ends.append((x + share * (u - x), y + share * (v - y)))
+        (a, b), (c, d) = ends
+        for step in range(BENDS + 1):
+            t = step / BENDS
+            first, middle, last = (1 - t) ** 2, 2 * t * (1 - t), t * t
+            found.append((first * a + middle * x + last * c, first * b + middle * y + last * d))
+    return found
 
 
 def straight_border(outline: Outline | None, box: Box) -> list[Point]:
@@ -143,8 +162,8 @@ def drawn_on(corners: Sequence[Point], end: Point, before: Point) -> Point:
 
 
 def elements(outline: Outline | None, box: Box, least: Point, corner: float, words: str) -> list[str]:
-    """Return the SVG of an outline in a box with this least size; `corner` is the radius of the corners of a box, `words` are
-    the attributes of all."""
+    """Return the SVG of an outline in a box with this least size; `corner` is the radius of its corners, `words` are the
+    attributes of all."""
     left, top, right, bottom = box
     if outline in ELLIPSES:
         radii = corner_of(outline, least)
@@ -162,7 +181,8 @@ def elements(outline: Outline | None, box: Box, least: Point, corner: float, wor
         return [f'<path d="M{left:.1f} {top + CAP:.1f}{arc} 1 {right:.1f} {top + CAP:.1f}V{bottom - CAP:.1f}'
                 f'{arc} 1 {left:.1f} {bottom - CAP:.1f}z"{words}/>',
                 f'<path d="M{left:.1f} {top + CAP:.1f}{arc} 0 {left + 2 * wide:.1f} {top + CAP:.1f}"{words}/>']
-    found = [f'<polygon points="{" ".join(f"{x:.1f},{y:.1f}" for x, y in border(outline, box, least))}"{words}/>']
+    points = " ".join(f"{x:.1f},{y:.1f}" for x, y in border(outline, box, least, corner))
+    found = [f'<polygon points="{points}"{words}/>']
     if outline is Outline.NOTE:
         found.append(f'<path d="M{right - FOLD:.1f} {top:.1f}V{top + FOLD:.1f}H{right:.1f}"{words}/>')
     if outline is Outline.FOLDER:

@@ -62,10 +62,15 @@ def lines_of(name: str, longest: float = LONGEST_LINE) -> list[str]:
     return lines
 
 
+def allowed(text: str) -> str:
+    """Return a text with U+FFFD in place of characters that XML does not allow."""
+    return "".join(letter if letter >= " " and letter not in "\ufffe\uffff" or letter in "\n\t" else "\ufffd"
+                   for letter in text)
+
+
 def xml_text(text: str) -> str:
     """Return a text with XML escapes; characters that XML does not allow become U+FFFD."""
-    known = "".join(letter if letter >= " " and letter not in "\ufffe\uffff" else "\ufffd" for letter in text)
-    return known.replace("&", "&amp;").replace("<", "&lt;").replace(">", "&gt;")
+    return allowed(text).replace("&", "&amp;").replace("<", "&lt;").replace(">", "&gt;")
 
 
 def svg_text(width: int, height: int, elements: Iterable[str], paper: str = ' fill="white"') -> str:

@@ -24,7 +24,7 @@ BOLD = 3.2  # pixels, the width of a bold line
 FONTS = (4.0, 400.0)  # pixels, the least and the greatest size of a font that is taken
 WIDEST = 60.0  # pixels, of a line
 WORDS = re.compile(r"([\w-]+)(?:\(([^)]*)\))?")
-FACE = re.compile(r"[\s-]*\b(bold|italic|oblique|regular|roman)\b", re.I)
+FACE = re.compile(r"[\s-]*(?:(?:\b|(?<=[a-z]))(Bold|Italic|Oblique)|\b(bold|italic|oblique)\b)(?![a-z])|-(?:Roman|Regular)\b")
 
 Values = Mapping[str, str]
 Palette = Mapping[tuple[str, str], Colour | None]
@@ -49,9 +49,9 @@ class Attributes:
     def font(self, values: Values) -> Font:
         """Return the font of a label."""
         name = "".join(letter for letter in values.get("fontname", "") if letter.isprintable())
-        faces = {face.lower() for face in FACE.findall(name)}
+        faces = {face.lower() for pair in FACE.findall(name) for face in pair}
         size = number_of(values.get("fontsize", ""), *FONTS)
-        return Font(FACE.sub("", name).strip(), size, self.colour(values, "fontcolor"),
+        return Font(FACE.sub("", name).strip(" :"), size, self.colour(values, "fontcolor"),
                     "bold" in faces, bool(faces & {"italic", "oblique"}))
 
     def node(self, values: Values, names: dict[str, str]) -> NodeLook:
@@ -64,19 +64,22 @@ class Attributes:
         colour = self.colour(values, "color")
         fill = (self.colour(values, "fillcolor") or colour or PLAIN_FILL) if "filled" in styles else None
         if outline is Outline.POINT:
-            fill = self.colour(values, "fillcolor") or colour or Colour("black")
+            fill = self.colour(values, "fillcolor") or colour
         return NodeLook(**vars_of(self.look(values, names), colour=colour, fill=fill), outline=outline,
                         is_rounded="rounded" in styles)
 
     def edge(self, values: Values, names: dict[str, str], labels: tuple[str, str]) -> EdgeLook:
         """Return the look of an edge; `labels` are those at its head and its tail."""
-        heads = [HEADS.get(values.get(key, ""), Head.NORMAL) if values.get(key) else None
-                 for key in ("arrowhead", "arrowtail")]
+        head, tail = (self.head(values.get(key, "")) for key in ("arrowhead", "arrowtail"))
         look = self.look(values, names)
         found = vars_of(look, colour=self.colour(values, "color"), fill=self.colour(values, "fillcolor"))
-        return EdgeLook(**found, head=None if values.get("arrowhead") == "none" else heads[0],
-                        tail=None if values.get("arrowtail") == "none" else heads[1],
-                        head_label=labels[0], tail_label=labels[1])
+        return EdgeLook(**found, head=head, tail=tail, head_label=labels[0], tail_label=labels[1])
+
+    def head(self, kind: str) -> Head | None:
+        """Return a kind of arrowhead, or None if there is none or nothing is said."""
+        if kind and kind != "none" and kind not in HEADS:
+            self.strange.setdefault("arrowheads that are drawn as normal", set()).add(kind)
+        return None if kind in ("", "none") else HEADS.get(kind, Head.NORMAL)
 
     def graph(self, values: Values, label: str) -> GraphLook:
         """Return the look of the whole."""
