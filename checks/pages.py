@@ -2,10 +2,10 @@
 """Checks of the pages for checks/ready: no page is too long; the numbers of crates, proofs, edits, attacks and tests
 that pages quote are those of the tree; and each name in backticks exists in the tree as a file, a crate, an option, or
 a word of the code, the definitions or the scripts. In docs/PROVED.md, a name must occur in the crates of its section,
-and each clause in a table must be in the contract of a call in the same row. Code blocks are not checked. The man page
-docs/planarbend.1 has the arguments and options of --help in the same words, its version is the program's, and
-`man --warnings` finds no fault in it. Its texts are those of checks/start/texts, which checks/first-answer compares
-with the program's. Run directly, this script puts these texts into the man page.
+and each clause in a table must be in the contract of a call in the same row. Code blocks are not checked. The man pages
+docs/planarbend.1 and docs/planarbend-draw.1 have the arguments and options of --help in the same words, their version is
+the program's, and `man --warnings` finds no fault in them. The program's texts are those of checks/start/texts, which
+checks/first-answer compares with the program's. Run directly, this script puts these texts into the man pages.
 """
 import collections
 import difflib
@@ -14,6 +14,7 @@ import os
 import re
 import shutil
 import subprocess
+import sys
 from pathlib import Path
 
 import programs
@@ -30,8 +31,9 @@ NUMBER = re.compile(r"([\d,]*\d) (crates|proofs|edits|attacks|tests)\b")
 OUTSIDE = set("""rt ci check fmt tidy lemma test doc version must-fail verdict Ok Err printf png svg planarg geng -p -c
     -D4 plantri parallel slurm-wlm munge nauty chromium futex clap MOD RES kill cred_expire slurm.conf sshlogin workdir
     env passed failed smallvec --only requires docs/REFUSED.md python3-networkx graphviz pip -e""".split())
-MAN, TEXTS = "docs/planarbend.1", "checks/start/texts"
+MEN, TEXTS = ("docs/planarbend.1", "docs/planarbend-draw.1"), "checks/start/texts"
 ENTRY = re.compile(r"^ {2,6}(-\S.*?|<.*?>\S*)  +(\S.*)$")  # an argument or option of --help, and what it says
+DRAW_ENTRY = re.compile(r"^ {2}(-\S.*?|[A-Z]+)(?: {2,}|\n {10,})(\S.*)$", re.M)  # the same of planarbend-draw
 WORD = re.compile(r"-{0,2}[A-Za-z_][\w\-]*(?:\.[a-z]\w*)*|\d[\d,.]*")
 
 
@@ -180,8 +182,7 @@ def troff(text):
 def man_page(text):
     """The man page with the texts of --help between its headings."""
     for command in re.findall(r'^\.\\" (\w+)$', text, re.M):
-        entries = filter(None, map(ENTRY.match, text_of(f"{TEXTS}/{command}").splitlines()))
-        section = "".join(f".TP\n.B {troff(entry[1])}\n{troff(entry[2])}\n" for entry in entries)
+        section = "".join(f".TP\n.B {troff(name)}\n{troff(said)}\n" for name, said in entries_of(command))
         heading = f'.\\" {command}\n'
         before, _, after = text.partition(heading)
         text = before + heading + section + ".SH " + after.partition(".SH ")[2]
@@ -189,12 +190,24 @@ def man_page(text):
     return re.sub(r'"planarbend [\d.]+"', f'"planarbend {version}"', text, count=1)
 
 
-def faults_of_man():
-    """The faults of the man page, one line each."""
-    text = text_of(MAN)
-    lines = list(difflib.unified_diff(text.splitlines(), man_page(text).splitlines(), MAN, "--help", lineterm=""))
+def entries_of(command):
+    """The arguments and options of a command, each with what --help says of it."""
+    if command != "draw":
+        return [entry.groups() for entry in map(ENTRY.match, text_of(f"{TEXTS}/{command}").splitlines()) if entry]
+    words = [sys.executable, "-m", "planarbend", "draw", "--help"]
+    environment = {"COLUMNS": "1000", "PYTHONPATH": os.path.join(ROOT, "python"), "PYTHONDONTWRITEBYTECODE": "1"}
+    ran = subprocess.run(words, capture_output=True, text=True, env=os.environ | environment, check=True)
+    told = ran.stdout.partition("arguments:\n")[2].partition("\nexamples:")[0]
+    return [(re.sub(r"^(-\w) \w+,", r"\1,", name), said)  # as Python 3.13 has it
+            for name, said in DRAW_ENTRY.findall(told)]
+
+
+def faults_of_man(page):
+    """The faults of a man page, one line each."""
+    text = text_of(page)
+    lines = list(difflib.unified_diff(text.splitlines(), man_page(text).splitlines(), page, "--help", lineterm=""))
     if shutil.which("man"):
-        words = ["man", "--warnings", "-E", "UTF-8", "-l", "-Tutf8", "-Z", os.path.join(ROOT, MAN)]
+        words = ["man", "--warnings", "-E", "UTF-8", "-l", "-Tutf8", "-Z", os.path.join(ROOT, page)]
         environment = {"LC_ALL": "C.UTF-8", "MANROFFSEQ": "", "MANWIDTH": "80", "PATH": "/usr/bin:/bin"}
         ran = subprocess.run(words, capture_output=True, text=True, env=environment)
         status = [f"status {ran.returncode}"] if ran.returncode else []
@@ -209,9 +222,10 @@ def faults(crates):
     for page, text in found.items():
         if page not in NO_TREE:
             lines += lost_names(tree, page, text) + wrong_numbers(counts, page, text)
-    return lines + lost_clauses(tree, found["docs/PROVED.md"]) + faults_of_man()
+    return lines + lost_clauses(tree, found["docs/PROVED.md"]) + [line for page in MEN for line in faults_of_man(page)]
 
 
 if __name__ == "__main__":
     programs.parser_of(__doc__).parse_args()
-    Path(ROOT, MAN).write_text(man_page(text_of(MAN)), encoding="utf-8")
+    for man in MEN:
+        Path(ROOT, man).write_text(man_page(text_of(man)), encoding="utf-8")

@@ -1,6 +1,6 @@
 #!/usr/bin/env python3
 """Copies what --build has made to folders below PREFIX: the program and planarbend-draw to bin, the library to lib, its
-header to include, the man page to share/man/man1, and the Python package to the folder below PREFIX where this version
+header to include, the man pages to share/man/man1, and the Python package to the folder below PREFIX where this version
 of Python looks for packages. The list of all these files is share/planarbend/files.
 
 All files are first written next to their places under temporary names, and then renamed, so that each is complete at
@@ -39,7 +39,7 @@ sys.exit(run())
 def files_of(prefix):
     """What each path below PREFIX gets: a file, a text, or for a link its target, each with its mode."""
     found = {"bin/planarbend": (Path(PROGRAM), 0o755),
-             "share/man/man1/planarbend.1": (TOP / "docs/planarbend.1", 0o644)}
+             **{f"share/man/man1/{name}": (TOP / "docs" / name, 0o644) for name in ("planarbend.1", "planarbend-draw.1")}}
     if (make.OUT / make.SONAME).is_file():
         found |= {"lib/libplanarbend.a": (make.OUT / "libplanarbend.a", 0o644),
                   f"lib/{make.SONAME}": (make.OUT / make.SONAME, 0o755), "lib/libplanarbend.so": (make.SONAME, None),
