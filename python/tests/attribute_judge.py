@@ -484,6 +484,8 @@ class Judge:
                          and is_same(self.hue(said, "fillcolor"), in_picture(head, "fill")))
             found = None if head is None else head_kind(head, is_filled)
             hue, behind = self.hue(said, "color"), in_picture(self.elements[self.behind], "fill")
+            if behind is None or not behind[3]:
+                behind = (255, 255, 255, 255)
             if kind[0] == "o" and is_same(in_picture(line, "stroke"), behind):
                 found = kind if found == kind[1:] else found  # a line of the colour of the background
             if found is not None and hue is not None and not hue[3]:

@@ -6,12 +6,13 @@ then what shortens lines.
 """
 from __future__ import annotations
 
-from planarbend.drawing.constraints import apart, lengths_of, reach_of
-from planarbend.drawing.items import Sheet
+from planarbend.drawing.constraints import GAP, apart, lengths_of, reach_of
+from planarbend.drawing.items import BOX, LABEL, Sheet
 from planarbend.drawing.solver import Solver
 from planarbend.graph import Kind
 
 PASSES = 2
+SAME = 1e-3  # pixels, by which distances may differ
 
 
 def spread(sheet: Sheet) -> None:
@@ -19,6 +20,24 @@ def spread(sheet: Sheet) -> None:
     for step in range(PASSES):
         for axis in (0, 1):
             settle(sheet, axis, step)
+        return_labels(sheet)
+
+
+def return_labels(sheet: Sheet) -> None:
+    """Move labels at ends of edges beside these ends, past other items, where the place there is free."""
+    for key, label in sheet.end_labels.items():
+        piece, is_at_last = sheet.piece_at(*key)
+        axis = 1 - piece.across
+        value, number = sheet.axes[axis].value, label.low[axis]
+        far = GAP[BOX][LABEL] + label.after[axis]
+        before, wanted = value[number], value[piece.high[axis]] - far if is_at_last else value[piece.low[axis]] + far
+        others = [(GAP[item.kind][LABEL] - SAME, sheet.extent(item)) for item in sheet.items
+                  if item is not label and item is not piece]
+        value[number] = wanted
+        left, top, right, bottom = sheet.extent(label)
+        if any(left - gap < box[2] and box[0] < right + gap and top - gap < box[3] and box[1] < bottom + gap
+               for gap, box in others):
+            value[number] = before
 
 
 def settle(sheet: Sheet, axis: int, step: int) -> None:
