@@ -47,8 +47,8 @@ def lettered(font: Font) -> str:
     """Return the attributes of the texts in a font."""
     found = painted("fill", font.colour)
     if font.family:
-        kind = next((f"{generic}, " for generic, names in GENERIC.items() if names.search(font.family)), "")
-        found += f" font-family={quoted(f'{font.family}, {kind}{FAMILY}')}"
+        others = next((generic for generic, names in GENERIC.items() if names.search(font.family)), FAMILY)
+        found += f" font-family={quoted(f'{font.family}, {others}')}"
     if font.size is not None:
         found += f' font-size="{font.size:g}"'
     return found + (' font-weight="bold"' if font.is_bold else "") + (' font-style="italic"' if font.is_italic else "")
