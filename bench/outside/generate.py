@@ -1,11 +1,12 @@
 #!/usr/bin/env python3
-"""Prints a planar_code file of graphs of degree at most 4.
+"""Prints a planar_code file of graphs of degree at most 4; those of more than 255 vertices in the two-byte form.
 
   generate.py KIND VERTICES COUNT SEED    random graphs: VERTICES is met as nearly as the kind allows
     cubic     duals of random triangulations; an even number of vertices
     medial    medial graphs of random triangulations, so 4-regular; a multiple of 3
     grid      connected parts of a square grid
     tree      random trees
+    nested    prisms round one another: cycles of as many vertices as there are cycles, joined one to the next
     mixed     one of the first three, of any size up to VERTICES, without a random share of the edges that are not
               needed to connect it
   generate.py KIND                        fixed graphs
@@ -36,7 +37,7 @@ from collections.abc import Callable, Iterator
 
 sys.path.insert(0, os.path.join(os.path.dirname(os.path.abspath(__file__)), "../../checks"))
 import programs
-from planarbend.layout.planar_code import HEADER, Lists, record_of
+from planarbend.layout.planar_code import HEADER, MOST_VERTICES, Lists, record_of, wide_record_of
 from planarbend.layout.reports import End, File, Graph
 
 MOST_DEGREE = 4
@@ -123,6 +124,20 @@ def tree(vertices: int, rng: random.Random) -> Rotation:
     return rotation
 
 
+def nested(vertices: int, _: random.Random) -> Rotation:
+    """Prisms round one another: cycles of as many vertices as there are cycles, the first of them inside."""
+    sides = max(3, math.isqrt(vertices))
+    cycles = max(1, vertices // sides)
+    rotation: Rotation = {}
+    for cycle in range(cycles):
+        first = cycle * sides
+        for at in range(sides):
+            outward = [first + sides + at] if cycle + 1 < cycles else []
+            inward = [first - sides + at] if cycle else []
+            rotation[first + at] = [*outward, first + (at + 1) % sides, *inward, first + (at - 1) % sides]
+    return rotation
+
+
 def thinned(rotation: Rotation, rng: random.Random) -> Rotation:
     """The same without a random share of the edges, and still connected."""
     edges = [(v, w) for v, around in rotation.items() for w in around if v < w]
@@ -150,7 +165,7 @@ def mixed(vertices: int, rng: random.Random) -> Rotation:
 RANDOM: dict[str, Callable[[int, random.Random], Rotation]] = {
     "cubic": lambda vertices, rng: dual(triangulation(vertices // 2 + 2, rng)),
     "medial": lambda vertices, rng: medial(triangulation(vertices // 3 + 2, rng)),
-    "grid": grid_part, "tree": tree, "mixed": mixed}
+    "grid": grid_part, "tree": tree, "nested": nested, "mixed": mixed}
 
 
 def relabelled(rotation: Rotation, rng: random.Random) -> Lists:
@@ -253,6 +268,11 @@ def drawn(graph: Placed) -> Lists:
     return [[w + 1 for w in others] for others in around]
 
 
+def form_of(lists: Lists) -> bytes:
+    """The record with these neighbour lists: of more than 255 vertices in the two-byte form, after a byte 0."""
+    return record_of(lists) if len(lists) <= MOST_VERTICES else b"\0" + wide_record_of(lists).tobytes()
+
+
 def report() -> Iterator[object]:
     """The lines of the report on the families."""
     graphs = families()
@@ -281,7 +301,7 @@ def main() -> None:
         return
     graphs = random_graphs(told.kind, *told.numbers) if told.kind in RANDOM else FIXED[told.kind]()
     sys.stdout.buffer.write(HEADER)
-    sys.stdout.buffer.writelines(map(record_of, graphs))
+    sys.stdout.buffer.writelines(map(form_of, graphs))
 
 
 if __name__ == "__main__":

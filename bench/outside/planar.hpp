@@ -2,7 +2,6 @@
 // product, with which it shares no code.
 #pragma once
 #include <algorithm>
-#include <array>
 #include <cstdint>
 #include <cstdio>
 #include <fstream>
@@ -29,24 +28,31 @@ inline std::string bytes_of(const char *name) {
   return text;
 }
 
-// One record from `at`; false where none is whole there.
+// The entry of this many bytes, the least first, and moves on; -1 where none is whole there.
+inline int next_entry(const std::string &text, size_t &place, size_t bytes) {
+  if (place + bytes > text.size()) return -1;
+  int entry = 0;
+  for (size_t byte = bytes; byte-- > 0;) entry = entry << 8 | static_cast<unsigned char>(text[place + byte]);
+  place += bytes;
+  return entry;
+}
+
+// One record from `at`; false where none is whole there. After a byte 0 its entries have two bytes.
 inline bool next_record(const std::string &text, size_t &at, Graph &graph) {
-  if (at >= text.size()) return false;
-  const int n = static_cast<unsigned char>(text[at]);
-  if (n == 0) return false;
+  size_t place = at;
+  const size_t bytes = place < text.size() && text[place] == 0 ? ++place, 2 : 1;
+  const int n = next_entry(text, place, bytes);
+  if (n <= 0) return false;
   graph.vertices = n;
   graph.lists.assign(n + 1, {});
-  size_t place = at + 1;
-  for (int v = 1; v <= n; ++v) {
-    for (;; ++place) {
-      if (place >= text.size()) return false;
-      const int entry = static_cast<unsigned char>(text[place]);
+  for (int v = 1; v <= n; ++v)
+    for (;;) {
+      const int entry = next_entry(text, place, bytes);
+      if (entry < 0) return false;
       if (entry == 0) break;
       graph.lists[v].push_back(entry);
-      if (graph.lists[v].size() > 254) return false;
+      if (bytes == 1 && graph.lists[v].size() > 254) return false;
     }
-    ++place;
-  }
   at = place;
   return true;
 }
@@ -54,26 +60,27 @@ inline bool next_record(const std::string &text, size_t &at, Graph &graph) {
 // The first broken rule, or nullptr; fills in darts and faces on the way.
 inline const char *broken_rule(Graph &graph) {
   const int n = graph.vertices;
-  static std::array<std::array<int, 256>, 256> place;
   for (int u = 1; u <= n; ++u)
     for (int v : graph.lists[u])
       if (v > n) return "range";
   for (int u = 1; u <= n; ++u)
     for (int v : graph.lists[u])
       if (v == u) return "loop";
-  for (int u = 1; u <= n; ++u) std::fill_n(place[u].begin(), n + 1, -1);
+  static std::vector<int> places;
+  places.assign(static_cast<size_t>(n + 1) * (n + 1), -1);
+  const auto place = [n](int u, int v) -> int & { return places[static_cast<size_t>(u) * (n + 1) + v]; };
   graph.tail.clear();
   graph.head.clear();
   for (int u = 1; u <= n; ++u)
     for (int v : graph.lists[u]) {
-      if (place[u][v] >= 0) return "multi";
-      place[u][v] = graph.darts();
+      if (place(u, v) >= 0) return "multi";
+      place(u, v) = graph.darts();
       graph.tail.push_back(u);
       graph.head.push_back(v);
     }
   const int darts = graph.darts();
   for (int d = 0; d < darts; ++d)
-    if (place[graph.head[d]][graph.tail[d]] < 0) return "asymmetric";
+    if (place(graph.head[d], graph.tail[d]) < 0) return "asymmetric";
   if (darts == 0) return "edgeless";
   for (int u = 1; u <= n; ++u)
     if (graph.lists[u].size() > 4) return "degree";
@@ -96,7 +103,7 @@ inline const char *broken_rule(Graph &graph) {
     for (int i = 0; i < degree; ++i) graph.after[first + i] = first + (i + 1) % degree;
     first += degree;
   }
-  for (int d = 0; d < darts; ++d) graph.reverse[d] = place[graph.head[d]][graph.tail[d]];
+  for (int d = 0; d < darts; ++d) graph.reverse[d] = place(graph.head[d], graph.tail[d]);
   graph.face.assign(darts, -1);
   graph.degree.clear();
   for (int d = 0; d < darts; ++d) {

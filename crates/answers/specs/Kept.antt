@@ -1,6 +1,5 @@
--- What is known of a record whose layout keeps conditions.
+-- What is known of a graph, given by its neighbour lists, whose layout keeps conditions.
 use Rattle.std.specs.Prelude.{◌≡◌, ◌⊎◌, ℕ, ◌<◌, true, List, []}
-use Rattle.planar_code.specs.Stream.{lists_of}
 use Rattle.common.specs.declared.choice.Choice.{Choice}
 use Rattle.faces.specs.Planes.{PlaneModel, IsPlane, darts, reverse_dart}
 use Rattle.ortho_rep.specs.Shapes.{ShapeModel, turns_at}
@@ -13,17 +12,17 @@ use Rattle.conditions.specs.Chosen.{IsKept, IsKeepFault}
 use Rattle.answers.specs.declared.kept_plane.KeptPlane.{KeptPlane}
 use Rattle.answers.specs.Steps.{IsTracedPlane}
 
--- the plane of the record's bytes with the chosen outer face among those that may be outside, and a shape of it with the
+-- the plane of the lists with the chosen outer face among those that may be outside, and a shape of it with the
 -- fewest bends of all that keep the edges straight, as the prices prove
-pub record IsKeptPlane (conditions : Conditions) (choice : Choice) (bytes : List ℕ) (made : KeptPlane) : Type 0 where
-  pub lists : made.plane.lists ≡ lists_of bytes
+pub record IsKeptPlane (conditions : Conditions) (choice : Choice) (g : List (List ℕ)) (made : KeptPlane) : Type 0 where
+  pub lists : made.plane.lists ≡ g
   pub rules : IsPlane made.plane
   pub kept : IsKept conditions choice made.plane made.shape made.prices
 
--- the plane of the record, with its greatest face as the outer one, shows why no shape keeps the conditions
-pub record IsUnkept (conditions : Conditions) (choice : Choice) (bytes : List ℕ) (fault : KeepFault) : Type 0 where
+-- the plane of the lists, with its greatest face as the outer one, shows why no shape keeps the conditions
+pub record IsUnkept (conditions : Conditions) (choice : Choice) (g : List (List ℕ)) (fault : KeepFault) : Type 0 where
   pub plane : PlaneModel
-  pub traced : IsTracedPlane bytes plane
+  pub traced : IsTracedPlane g plane
   pub shown : IsKeepFault conditions choice plane fault
 
 -- an edge without turns has no corners

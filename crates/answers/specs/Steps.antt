@@ -1,6 +1,5 @@
--- What is known of a record between the stages that answer it.
+-- What is known of a graph, given by its neighbour lists, between the stages that answer it.
 use Rattle.std.specs.Prelude.{◌≡◌, ℕ, List, Result, Ok, Err}
-use Rattle.planar_code.specs.Stream.{lists_of}
 use Rattle.embedding.specs.Rules.{FirstBroken, KeepsBefore}
 use Rattle.common.specs.declared.choice.Choice.{Choice}
 use Rattle.faces.specs.Planes.{PlaneModel, IsPlane, HasGreatestOuter}
@@ -12,44 +11,43 @@ use Rattle.embedding.specs.declared.faults.ReadFault.{ReadFault}
 use Rattle.embedding.specs.declared.faults.ReadFault.TheVariants.{Rule, Memory}
 use Rattle.answers.specs.declared.shaped_plane.ShapedPlane.{ShapedPlane}
 
--- the plane of a record of these bytes, once its faces are traced
-pub record IsTracedPlane (bytes : List ℕ) (plane : PlaneModel) : Type 0 where
-  -- it has the record's neighbour lists
-  pub lists : plane.lists ≡ lists_of bytes
+-- the plane of these neighbour lists, once its faces are traced
+pub record IsTracedPlane (g : List (List ℕ)) (plane : PlaneModel) : Type 0 where
+  pub lists : plane.lists ≡ g
   -- no rule is broken, and the faces are those of the lists
   pub rules : IsPlane plane
   -- the outer face has the most darts, and among equals it holds the least dart
   pub greatest : HasGreatestOuter plane
 
--- the plane of such a record, once its outer face is chosen
-pub record IsPlaneOf (choice : Choice) (bytes : List ℕ) (plane : PlaneModel) : Type 0 where
-  pub lists : plane.lists ≡ lists_of bytes
+-- the plane of such lists, once its outer face is chosen
+pub record IsPlaneOf (choice : Choice) (g : List (List ℕ)) (plane : PlaneModel) : Type 0 where
+  pub lists : plane.lists ≡ g
   pub rules : IsPlane plane
   pub chosen : IsChosen choice plane
 
--- why such a record has no plane, or no shape: the rule is broken, and none before it; or memory ran out, and no rule is
+-- why such lists have no plane, or no shape: the rule is broken, and none before it; or memory ran out, and no rule is
 -- broken
-abbrev pub IsRefused : List ℕ → ReadFault → Type 0
-IsRefused bytes (Rule rule) = FirstBroken (lists_of bytes) rule
-IsRefused bytes Memory = KeepsBefore (lists_of bytes) 9
+abbrev pub IsRefused : List (List ℕ) → ReadFault → Type 0
+IsRefused g (Rule rule) = FirstBroken g rule
+IsRefused g Memory = KeepsBefore g 9
 
--- the plane of the record, or why there is none
-abbrev pub IsEmbedded : List ℕ → Result PlaneModel ReadFault → Type 0
-IsEmbedded bytes (Ok plane) = IsTracedPlane bytes plane
-IsEmbedded bytes (Err fault) = IsRefused bytes fault
+-- the plane of the lists, or why there is none
+abbrev pub IsEmbedded : List (List ℕ) → Result PlaneModel ReadFault → Type 0
+IsEmbedded g (Ok plane) = IsTracedPlane g plane
+IsEmbedded g (Err fault) = IsRefused g fault
 
--- the record's plane with the chosen outer face and a least shape, or why there is none
-abbrev pub IsShaped : Choice → List ℕ → Result ShapedPlane ReadFault → Type 0
-IsShaped choice bytes (Ok shaped_plane) = IsPlaneOf choice bytes shaped_plane.plane
-IsShaped choice bytes (Err fault) = IsRefused bytes fault
+-- the plane of the lists with the chosen outer face and a least shape, or why there is none
+abbrev pub IsShaped : Choice → List (List ℕ) → Result ShapedPlane ReadFault → Type 0
+IsShaped choice g (Ok shaped_plane) = IsPlaneOf choice g shaped_plane.plane
+IsShaped choice g (Err fault) = IsRefused g fault
 
--- the answer to a record for which this was found
+-- the answer to a graph for which this was found
 abbrev pub answer_in : Result (ShapedPlane × PointsModel) ReadFault → Answer
 answer_in (Ok drawn) = Laid drawn.0.plane drawn.0.shape drawn.0.prices (Ok drawn.1)
 answer_in (Err (Rule rule)) = Refused rule
 answer_in (Err Memory) = NoMemory
 
--- what may be found for a record with this shaped plane, or without one: points and the same shaped plane, or memory ran
+-- what may be found for a graph with this shaped plane, or without one: points and the same shaped plane, or memory ran
 -- out; without one, the same reason
 abbrev pub IsFoundFor : Result ShapedPlane ReadFault → Result (ShapedPlane × PointsModel) ReadFault → Type 0
 IsFoundFor (Ok shaped_plane) (Ok drawn) = drawn.0 ≡ shaped_plane

@@ -1,6 +1,7 @@
 //! Records that are answered one after another on the caller's thread, in memory that is kept.
 
 ghost use Rattle.std.specs.Prelude.{◌≡◌, IfOk, IfErr};
+ghost use Rattle.planar_code.specs.Stream.{lists_of};
 ghost use Rattle.entries.specs.declared.cause.Cause.TheVariants.{Wide};
 ghost use Rattle.entries.specs.Drawn.{IsCause};
 ghost use Rattle.answers.specs.Drawings.{IsDrawing};
@@ -16,13 +17,14 @@ use crate::kept_plane::KeptPlane;
 use crate::shaped_plane::ShapedPlane;
 use crate::shaping::{ShapeScratch, with_shape_keeping};
 use crate::stages::{embed, shape};
+use crate::wide::embed_wide;
 use common::{Choice, DrawingKind};
 use compact::CompactFault;
 use conditions::{Conditions, KeepFault};
 use drawing_check::Drawing;
 use embedding::ReadFault;
 use ortho_rep::Points;
-use planar_code::Record;
+use planar_code::{Record, WideRecord};
 use std::alloc::{AllocError, Global};
 
 /// The buffers of all stages, reused for the next record.
@@ -58,11 +60,30 @@ impl RecordScratch {
         choice: Choice,
         drawing_kind: DrawingKind,
     ) -> Result<ShapedPlane, ReadFault>
-        ensures shaped { IsShaped choice rec.now result }
+        ensures shaped { IsShaped choice (lists_of rec.now) result }
         ensures kind { IfOk result (λ shaped_plane. shaped_plane.drawing_kind ≡ drawing_kind) }
     {
         let plane = embed(alloc, &mut self.planes, rec);
         shape(alloc, &mut self.shapes, plane, choice, drawing_kind)
+    }
+
+    /// The plane of a wide record with a least shape, exactly as [`RecordScratch::shape`] of a record.
+    ///
+    /// # Errors
+    ///
+    /// As there.
+    pub fn shape_wide(
+        &mut self,
+        alloc: Global,
+        rec: &WideRecord,
+        choice: Choice,
+        drawing_kind: DrawingKind,
+    ) -> Result<ShapedPlane, ReadFault>
+        ensures shaped { IsShaped choice (lists_of rec.now) result }
+        ensures kind { IfOk result (λ shaped_plane. shaped_plane.drawing_kind ≡ drawing_kind) }
+    {
+        let embedded = embed_wide(alloc, &mut self.planes, rec);
+        shape(alloc, &mut self.shapes, embedded, choice, drawing_kind)
     }
 
     /// Returns points that draw a shaped plane: a drawing of the kind that its shape is for.
@@ -108,12 +129,42 @@ impl RecordScratch {
         choice: Choice,
         drawing_kind: DrawingKind,
     ) -> Result<Result<KeptPlane, KeepFault>, ReadFault>
-        ensures kept { IfOk result (λ made. IfOk made (IsKeptPlane conditions.now choice rec.now)) }
+        ensures kept { IfOk result (λ made. IfOk made (IsKeptPlane conditions.now choice (lists_of rec.now))) }
         ensures kind { IfOk result (λ made. IfOk made (λ kept. kept.drawing_kind ≡ drawing_kind)) }
-        ensures unkept { IfOk result (λ made. IfErr made (IsUnkept conditions.now choice rec.now)) }
-        ensures refused { IfErr result (IsRefused rec.now) }
+        ensures unkept { IfOk result (λ made. IfErr made (IsUnkept conditions.now choice (lists_of rec.now))) }
+        ensures refused { IfErr result (IsRefused (lists_of rec.now)) }
     {
         let plane = embed(alloc, &mut self.planes, rec)?;
+        Ok(with_shape_keeping(
+            alloc,
+            &mut self.shapes,
+            plane,
+            conditions,
+            choice,
+            drawing_kind,
+        ))
+    }
+
+    /// The plane of a wide record with a shape that keeps the conditions, exactly as [`RecordScratch::shape_keeping`] of a
+    /// record.
+    ///
+    /// # Errors
+    ///
+    /// As there.
+    pub fn shape_wide_keeping(
+        &mut self,
+        alloc: Global,
+        rec: &WideRecord,
+        conditions: &Conditions<'_>,
+        choice: Choice,
+        drawing_kind: DrawingKind,
+    ) -> Result<Result<KeptPlane, KeepFault>, ReadFault>
+        ensures kept { IfOk result (λ made. IfOk made (IsKeptPlane conditions.now choice (lists_of rec.now))) }
+        ensures kind { IfOk result (λ made. IfOk made (λ kept. kept.drawing_kind ≡ drawing_kind)) }
+        ensures unkept { IfOk result (λ made. IfErr made (IsUnkept conditions.now choice (lists_of rec.now))) }
+        ensures refused { IfErr result (IsRefused (lists_of rec.now)) }
+    {
+        let plane = embed_wide(alloc, &mut self.planes, rec)?;
         Ok(with_shape_keeping(
             alloc,
             &mut self.shapes,

@@ -20,6 +20,7 @@ mod shaping;
 mod stages;
 mod state;
 mod task;
+mod wide;
 
 pub use carried::Carried;
 pub use drawing::DrawScratch;

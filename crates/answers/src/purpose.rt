@@ -1,5 +1,6 @@
 //! What lanes are for.
 ghost use Rattle.std.specs.Prelude.{◌≡◌, ⊤};
+ghost use Rattle.planar_code.specs.Stream.{lists_of};
 ghost use Rattle.lanes.specs.Notes.{About};
 ghost use Rattle.answers.specs.Steps.{IsShaped};
 ghost use Rattle.answers.specs.Tasks.{about_in};
@@ -37,7 +38,7 @@ pub trait Purpose: Drop + Send {
         shaped_plane: Result<ShapedPlane, ReadFault>,
     ) -> Self::Entry
         requires known { ∥ knows (about_in task (Self.Carried.bytes rec)) ∥₁ }
-        requires shaped { ∥ IsShaped task.choice (Self.Carried.bytes rec) shaped_plane ∥₁ }
+        requires shaped { ∥ IsShaped task.choice (lists_of (Self.Carried.bytes rec)) shaped_plane ∥₁ }
         ensures { Self.Entry.about result ≡ about_in task (Self.Carried.bytes rec) };
 }
 

@@ -46,7 +46,7 @@ impl EmbedScratch {
         alloc: Global,
         plane: Result<Plane, ReadFault>,
     ) -> Result<Holder<Plane>, ReadFault>
-        ensures { (bytes : List ℕ) → IsEmbedded bytes plane → IsEmbedded bytes result }
+        ensures { (g : List (List ℕ)) → IsEmbedded g plane → IsEmbedded g result }
     {
         let plane = plane?;
         match self.shell.take() {

@@ -113,7 +113,7 @@ impl ShapeScratch {
         alloc: Global,
         shaped_plane: Result<ShapedPlane, ReadFault>,
     ) -> Result<Holder<ShapedPlane>, ReadFault>
-        ensures { (choice : Choice) (bytes : List ℕ) → IsShaped choice bytes shaped_plane → IsShaped choice bytes result }
+        ensures { (choice : Choice) (g : List (List ℕ)) → IsShaped choice g shaped_plane → IsShaped choice g result }
     {
         let shaped_plane = shaped_plane?;
         match self.shell.take() {
@@ -141,8 +141,8 @@ pub(crate) fn with_least_shape(
     choice: Choice,
     drawing_kind: DrawingKind,
 ) -> Result<ShapedPlane, AllocError>
-    ensures shaped { IfOk result (λ shaped_plane. (bytes : List ℕ)
-        → IsTracedPlane bytes plane → IsPlaneOf choice bytes shaped_plane.plane) }
+    ensures shaped { IfOk result (λ shaped_plane. (g : List (List ℕ))
+        → IsTracedPlane g plane → IsPlaneOf choice g shaped_plane.plane) }
     ensures kind { IfOk result (λ shaped_plane. shaped_plane.drawing_kind ≡ drawing_kind) }
 {
     let (shape, prices) = shape_of(alloc, &mut scratch.shapes, &mut plane, choice)?;
@@ -179,8 +179,8 @@ pub(crate) fn with_shape_keeping(
     choice: Choice,
     drawing_kind: DrawingKind,
 ) -> Result<KeptPlane, KeepFault>
-    ensures kept { IfOk result (λ made. (bytes : List ℕ)
-        → IsTracedPlane bytes plane → IsKeptPlane conditions.now choice bytes made) }
+    ensures kept { IfOk result (λ made. (g : List (List ℕ))
+        → IsTracedPlane g plane → IsKeptPlane conditions.now choice g made) }
     ensures kind { IfOk result (λ made. made.drawing_kind ≡ drawing_kind) }
     ensures fault { IfErr result (IsKeepFault conditions.now choice plane) }
 {
@@ -211,8 +211,8 @@ fn shape_of(
     plane: &mut Plane,
     choice: Choice,
 ) -> Result<(Shape, Prices), AllocError>
-    ensures chosen { OnOk result ((bytes : List ℕ)
-        → IsTracedPlane bytes plane.old → IsPlaneOf choice bytes plane.new) }
+    ensures chosen { OnOk result ((g : List (List ℕ))
+        → IsTracedPlane g plane.old → IsPlaneOf choice g plane.new) }
     ensures shape { IfOk result (λ found. IsShape plane.new found.0) }
     ensures least { IfOk result (λ found. IsLeast plane.new found.0) }
     ensures proof { IfOk result (λ found. IsProof plane.new found.0 found.1) }

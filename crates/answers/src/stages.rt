@@ -1,10 +1,10 @@
 //! The stages that answer a record.
 
-ghost use Rattle.std.specs.Prelude.{◌≡◌, ℕ, List, IfOk};
+ghost use Rattle.std.specs.Prelude.{◌≡◌, ℕ, List, IfOk, MatchOption};
 ghost use Rattle.entries.specs.Lengths.{IfDrawn, IsNear, IsNoLonger, IsQuick};
 ghost use Rattle.answers.specs.Steps.{IsRefused, IsEmbedded, IsShaped, IsFoundFor, answer_in};
 ghost use Rattle.common.specs.declared.choice.Choice.{Choice};
-ghost use Rattle.embedding.specs.Rules.{KeepsBefore};
+ghost use Rattle.embedding.specs.Rules.{FirstBroken, KeepsBefore};
 ghost use Rattle.planar_code.specs.Stream.{lists_of};
 ghost use Rattle.entries.specs.Answers.{Answers};
 ghost use Rattle.drawing_laws.specs.Drawings.{IsDrawnIfLaid};
@@ -20,30 +20,25 @@ use faces::{Plane, TraceFault};
 use planar_code::Record;
 use std::alloc::{AllocError, Global};
 
-/// Why a record has no plane if there is no memory for its graph: the first rule that it breaks, or else out of memory.
-/// Trying the rules allocates nothing.
-fn fault_without_graph(rec: &Record) -> ReadFault
-    ensures { IsRefused rec.now result }
+/// Why lists have no plane if there is no memory for their graph: the first rule that they break, or else out of memory.
+pub(crate) fn fault_without_graph(broken: Option<Rule>) -> ReadFault
+    ensures { (g : List (List ℕ))
+        → MatchOption broken (KeepsBefore g 9) (λ rule. FirstBroken g rule) → IsRefused g result }
 {
-    match broken_rule(rec) {
+    match broken {
         Some(rule) => ReadFault::Rule(rule),
         None => ReadFault::Memory,
     }
 }
 
-/// The plane of a record, or why there is none; reuses the caller's scratch.
-pub(crate) fn embed(
+/// The plane of a graph, unless it breaks the last rule; reuses the caller's scratch.
+pub(crate) fn trace(
     alloc: Global,
     scratch: &mut faces::Scratch,
-    rec: &Record,
+    graph: Graph,
 ) -> Result<Plane, ReadFault>
-    ensures { IsEmbedded rec.now result }
+    ensures { IsEmbedded graph result }
 {
-    let graph = match Graph::read_in(alloc, &mut scratch.graph, rec) {
-        Ok(graph) => graph,
-        Err(ReadFault::Rule(rule)) => return Err(ReadFault::Rule(rule)),
-        Err(ReadFault::Memory) => return Err(fault_without_graph(rec)),
-    };
     match Plane::trace_in(alloc, scratch, graph) {
         Ok(plane) => Ok(plane),
         Err(TraceFault::Genus(graph)) => {
@@ -51,6 +46,22 @@ pub(crate) fn embed(
             Err(ReadFault::Rule(Rule::Genus))
         }
         Err(TraceFault::Memory(_)) => unreachable!(),
+    }
+}
+
+/// The plane of a record, or why there is none; reuses the caller's scratch. If there is no memory for the graph, the
+/// rules are tried without one, which allocates nothing.
+pub(crate) fn embed(
+    alloc: Global,
+    scratch: &mut faces::Scratch,
+    rec: &Record,
+) -> Result<Plane, ReadFault>
+    ensures { IsEmbedded (lists_of rec.now) result }
+{
+    match Graph::read_in(alloc, &mut scratch.graph, rec) {
+        Ok(graph) => trace(alloc, scratch, graph),
+        Err(ReadFault::Rule(rule)) => Err(ReadFault::Rule(rule)),
+        Err(ReadFault::Memory) => Err(fault_without_graph(broken_rule(rec))),
     }
 }
 
@@ -62,7 +73,7 @@ pub(crate) fn shape(
     choice: Choice,
     drawing_kind: DrawingKind,
 ) -> Result<ShapedPlane, ReadFault>
-    ensures shaped { (bytes : List ℕ) → IsEmbedded bytes plane → IsShaped choice bytes result }
+    ensures shaped { (g : List (List ℕ)) → IsEmbedded g plane → IsShaped choice g result }
     ensures kind { IfOk result (λ shaped_plane. shaped_plane.drawing_kind ≡ drawing_kind) }
 {
     match with_least_shape(alloc, scratch, plane?, choice, drawing_kind) {
@@ -78,9 +89,9 @@ pub(crate) fn answer_with(
     shaped_plane: Result<ShapedPlane, ReadFault>,
     drawing_kind: DrawingKind,
 ) -> Answer
-    ensures answers { (choice : Choice) (bytes : List ℕ) → IsShaped choice bytes shaped_plane → Answers choice bytes result }
-    ensures memory { (choice : Choice) (bytes : List ℕ) → IsShaped choice bytes shaped_plane
-        → result ≡ Answer.NoMemory → KeepsBefore (lists_of bytes) 9 }
+    ensures answers { (choice : Choice) (g : List (List ℕ)) → IsShaped choice g shaped_plane → Answers choice g result }
+    ensures memory { (choice : Choice) (g : List (List ℕ)) → IsShaped choice g shaped_plane
+        → result ≡ Answer.NoMemory → KeepsBefore g 9 }
     ensures quick { drawing_kind ≡ DrawingKind.Quick → IfDrawn IsQuick result }
     ensures no_longer { IfDrawn IsNoLonger result }
     ensures near { IfDrawn IsNear result }
@@ -117,7 +128,7 @@ pub fn find_points(
     shaped_plane: Result<ShapedPlane, ReadFault>,
     drawing_kind: DrawingKind,
 ) -> PointsFound
-    ensures answers { (choice : Choice) (bytes : List ℕ) → IsShaped choice bytes shaped_plane → Answers choice bytes (answer_in result) }
+    ensures answers { (choice : Choice) (g : List (List ℕ)) → IsShaped choice g shaped_plane → Answers choice g (answer_in result) }
     ensures same { IsFoundFor shaped_plane result }
     ensures quick { drawing_kind ≡ DrawingKind.Quick → IfDrawn IsQuick (answer_in result) }
     ensures no_longer { IfDrawn IsNoLonger (answer_in result) }
@@ -139,7 +150,7 @@ pub fn answer(alloc: Global, file: u32, ordinal: u32, rec: Record, choice: Choic
     ensures ordinal { result.ordinal ≡ ordinal }
     ensures same { result.rec ≡ rec }
     ensures chosen { result.choice ≡ choice }
-    ensures answered { Answers choice rec result.answer }
+    ensures answered { Answers choice (lists_of rec) result.answer }
     ensures drawn { IsDrawnIfLaid result.answer }
     ensures quick { IfDrawn IsQuick result.answer }
     ensures near { IfDrawn IsNear result.answer }

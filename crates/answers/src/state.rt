@@ -1,5 +1,6 @@
 //! What the stages of a lane make of records.
 ghost use Rattle.std.specs.Prelude.{⊤};
+ghost use Rattle.planar_code.specs.Stream.{lists_of};
 ghost use Rattle.lanes.specs.Notes.{About};
 ghost use Rattle.answers.specs.Steps.{IsEmbedded, IsShaped};
 
@@ -24,14 +25,14 @@ impl State for () {
 pub type Traced = Result<Holder<Plane>, ReadFault>;
 
 impl State for Traced {
-    ghost describes = { λ about plane. IsEmbedded about.bytes plane };
+    ghost describes = { λ about plane. IsEmbedded (lists_of about.bytes) plane };
 }
 
 /// The record's plane with a least shape, or the reason why there is none.
 pub type ShapeFound = Result<Holder<ShapedPlane>, ReadFault>;
 
 impl State for ShapeFound {
-    ghost describes = { λ about shaped_plane. IsShaped about.choice about.bytes shaped_plane };
+    ghost describes = { λ about shaped_plane. IsShaped about.choice (lists_of about.bytes) shaped_plane };
 }
 
 /// The record's plane with a least shape and points that draw it, or the reason why there are none.

@@ -1,5 +1,6 @@
 -- What is told of a line tells whether it is the end of a run, unless memory ran out.
 use Rattle.std.proofs.Common.{◌≡◌, ◌≢◌, ℕ, Bool, List, Option, None, Some, inl, inr, ap, subst, arith}
+use Rattle.planar_code.specs.Stream.{lists_of}
 use Rattle.drawn_lines.specs.declared.fault.LineFault.{LineFault}
 use Rattle.drawn_lines.specs.declared.fault.LineFault.TheVariants.{Memory}
 use Rattle.verdicts.specs.Said.{IsEndLine, SaysDrawing, Says}
@@ -44,7 +45,7 @@ told_goes_on failed (Some bytes) given.Unread tells known = absurd tells
 told_goes_on failed None told tells known = tt
 
 -- a verdict where memory that runs out for the line is told
-pub judged_as : (faces failed : Bool) (bytes : List ℕ) (line : Option (List ℕ)) (v : Verdict) (told : Given) → TellsOf failed line told → IsVerdict faces bytes told v
+pub judged_as : (faces failed : Bool) (bytes : List ℕ) (line : Option (List ℕ)) (v : Verdict) (told : Given) → TellsOf failed line told → IsVerdict faces (lists_of bytes) told v
     → (told ≡ given.Fault Memory → v ≡ verdict.Memory) → IsVerdictOf faces failed bytes line v
 judged_as faces failed bytes line v told tells holds memory = record {
   given = told;

@@ -1,6 +1,7 @@
 -- What a reader of lines keeps, step by step.
 use Rattle.std.proofs.Common.{◌≡◌, ◌≢◌, ◌≤◌, ◌-◌, ◌^◌, min, ◌⊎◌, ℕ, ◌+◌, Bool, true, false, List, [], ◌∷◌, ◌++◌, Option, None, Some, length, inl, inr, refl, ap, sym, subst, ◌∙◌, append_assoc, append-nil, length-append, arith}
 use Rattle.std.proofs.lemmas.List.Elements.{All-nil, All-push}
+use Rattle.planar_code.specs.Stream.{lists_of}
 use Rattle.text_lines.specs.declared.TheConstants.{MAX_LINE}
 use Rattle.text_lines.specs.declared.lines.Lines.{Lines}
 use Rattle.text_lines.specs.declared.lines.Next.TheVariants as next
@@ -202,7 +203,7 @@ module _ {L : Type 0} (to_come : L → Option (List ℕ)) (fails : L → Bool) (
   -- a record and the next line, if there is one
   pub pairs_next : (before : State) (faces : Bool) (records kept : List (List ℕ)) (verdicts : List Verdict) (bytes : List ℕ) (v : Verdict) (told : Given)
       → Keeps before (length kept) (length records) → ((failed : Bool) → MayFail before failed → AreVerdicts faces failed records kept verdicts)
-      → KeepsNext to_come fails known known_fails before lines kept told → IsVerdict faces bytes told v → (told ≡ given.Fault Memory → v ≡ verdict.Memory)
+      → KeepsNext to_come fails known known_fails before lines kept told → IsVerdict faces (lists_of bytes) told v → (told ≡ given.Fault Memory → v ≡ verdict.Memory)
       → ArePaired faces (records ++ bytes ∷ []) (verdicts ++ v ∷ [])
   pairs_next before faces records kept verdicts bytes v given.Missing many each step holds memory =
       pairs_none before faces false records kept verdicts bytes v many each step (judged_as faces false bytes None v given.Missing refl holds memory)

@@ -2,6 +2,7 @@
 use Rattle.std.proofs.Common.{◌≡◌, ◌≢◌, ◌↔◌, ℕ, ◌+◌, Bool, true, false, List, [], ◌∷◌, ◌++◌, Option, Ok, length, refl, ap, sym, subst, ◌∙◌, length-append, arith}
 use Rattle.std.specs.Prelude.{All}
 use Rattle.std.proofs.lemmas.List.Elements.{All-nil, All-push}
+use Rattle.planar_code.specs.Stream.{lists_of}
 use Rattle.streams.specs.Sink.{AppendsPrefix, IsInTransit, StaysInTransit}
 use Rattle.streams.specs.declared.frames.Mark.{Mark}
 use Rattle.streams.proofs.Sinks.{added_none}
@@ -52,7 +53,7 @@ module _ {L : Type 0} (to_come : L → Option (List ℕ)) (fails : L → Bool) (
   pub under_way_next : (start old_out new_out : Option (List ℕ)) (judge next : Judge L) (records : List (List ℕ)) (bytes : List ℕ) (v : Verdict) (told : Given) (mid : List ℕ) (failed : Bool)
       → (u : IsUnderWay to_come fails known known_fails start old_out judge records)
       → KeepsNext to_come fails known known_fails (state_in judge.lines) next.lines u.kept told
-      → IsVerdict judge.asked.faces bytes told v → (told ≡ given.Fault Memory → v ≡ verdict.Memory)
+      → IsVerdict judge.asked.faces (lists_of bytes) told v → (told ≡ given.Fault Memory → v ≡ verdict.Memory)
       → next.asked ≡ judge.asked → next.count ≡ judge.count + 1
       → (next.all_ok ≡ true) ↔ ((judge.all_ok ≡ true) × IsOk v) → (next.wants_memory ≡ false) ↔ ((judge.wants_memory ≡ false) × (v ≢ verdict.Memory))
       → StaysInTransit {A = Unit {0}} old_out judge.text new_out mid failed [] (Ok tt) → next.text ≡ mid ++ verdict_line judge.asked.json next.count v

@@ -1,5 +1,6 @@
 -- The verdicts on records, each with the next line that is no end of a run.
 use Rattle.std.specs.Prelude.{◌≡◌, ◌≢◌, ◌⊎◌, ◌<◌, ◌≤◌, ◌-◌, ◌^◌, min, ℕ, Bool, true, false, List, [], ◌∷◌, length, drop, Option, Some, None, All, ⊤}
+use Rattle.planar_code.specs.Stream.{lists_of}
 use Rattle.text_lines.specs.declared.TheConstants.{MAX_LINE}
 use Rattle.drawn_lines.specs.declared.fault.LineFault.{LineFault}
 use Rattle.drawn_lines.specs.declared.fault.LineFault.TheVariants as line
@@ -43,7 +44,7 @@ GoesOn None = ⊤
 pub record IsVerdictOf (faces failed : Bool) (bytes : List ℕ) (line : Option (List ℕ)) (v : Verdict) : Type 0 where
   pub given : Given
   pub tells : TellsOf failed line given
-  pub holds : IsVerdict faces bytes given v
+  pub holds : IsVerdict faces (lists_of bytes) given v
   pub goes_on : v ≢ verdict.Memory → GoesOn line
 
 -- one verdict a record, in order, each with its line as long as there are lines

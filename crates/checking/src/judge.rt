@@ -2,6 +2,7 @@
 ghost use Rattle.std.specs.Prelude.{◌≡◌, ◌≢◌, ◌+◌, ◌≤◌, ◌<◌, ◌++◌, ◌∷◌, ◌↔◌, ℕ, Bool, Option, List, [], length, true, false, IfOk, OnOk, IfErr, OnErr};
 ghost use Rattle.planar_code.specs.declared.TheConstants.{MAX_RECORDS};
 ghost use Rattle.planar_code.specs.declared.ending.Ending.{Ending};
+ghost use Rattle.planar_code.specs.Stream.{lists_of};
 ghost use Rattle.streams.specs.declared.frames.Mark.{Mark};
 ghost use Rattle.streams.specs.Reading.{IsFoundIn};
 ghost use Rattle.text_lines.specs.Lines.{state_in};
@@ -144,7 +145,7 @@ impl<L: Tap> Judge<L> {
     /// The verdict on a record and what is given for it. Where memory ran out for the line, it may be the end of a run, and
     /// the verdict is that memory ran out.
     fn verdict_on(&mut self, rec: &Record, given: Given) -> Verdict
-        ensures holds { IsVerdict self.old.asked.faces rec.now given result }
+        ensures holds { IsVerdict self.old.asked.faces (lists_of rec.now) given result }
         ensures memory { given ≡ told.Fault line.Memory → result ≡ found.Memory }
         ensures lines { self.new.lines ≡ self.old.lines }
         ensures asked { self.new.asked ≡ self.old.asked }

@@ -4,6 +4,7 @@ use Rattle.std.proofs.Math.Logic.{∥∥₁_map}
 use Rattle.std.proofs.lemmas.Bool.{false≢true}
 use Rattle.planar_code.specs.declared.ending.Ending.{Ending}
 use Rattle.planar_code.specs.declared.ending.Ending.TheVariants as ending
+use Rattle.planar_code.specs.Stream.{lists_of}
 use Rattle.planar_code.specs.Split.{IsSplit}
 use Rattle.streams.specs.declared.frames.Mark.{Mark}
 use Rattle.streams.specs.declared.frames.Mark.TheVariants.{Ended, Io}
@@ -21,27 +22,27 @@ use Rattle.entries.specs.AllBooks.{AreAllBooks}
 use Rattle.drawing_laws.proofs.Drawings.{answer_drawn}
 use Rattle.collector.specs.Headline.{IsDecided, IsEntryFor, AreOneForEach, IsWholeRun, HasMemory}
 
-decided : (choice : Choice) (bytes : List ℕ) (answer : Answer) → answer ≢ NoMemory → Answers choice bytes answer → IsDecided choice bytes answer
-decided choice bytes (Laid plane shape prices drawing) has is = is
-decided choice bytes (Refused rule) has is = is
-decided choice bytes NoMemory has is = has refl
+decided : (choice : Choice) (g : List (List ℕ)) (answer : Answer) → answer ≢ NoMemory → Answers choice g answer → IsDecided choice g answer
+decided choice g (Laid plane shape prices drawing) has is = is
+decided choice g (Refused rule) has is = is
+decided choice g NoMemory has is = has refl
 
 entry_for : (choice : Choice) (file ordinal : ℕ) (bytes : List ℕ) (entry : Entry)
     → about_of entry ≡ record { file = file; ordinal = ordinal; bytes = bytes; choice = choice }
-    → ∥ Answers entry.choice entry.rec entry.answer ∥₁ → entry.answer ≢ NoMemory → IsEntryFor choice file ordinal bytes entry
+    → ∥ Answers entry.choice (lists_of entry.rec) entry.answer ∥₁ → entry.answer ≢ NoMemory → IsEntryFor choice file ordinal bytes entry
 entry_for choice file ordinal bytes entry e answered has = record {
   file_is = ap (λ about. about.file) e;
   ordinal_is = ap (λ about. about.ordinal) e;
   bytes_are = ap (λ about. about.bytes) e;
   choice_is = ap (λ about. about.choice) e;
   decided = ∥∥₁_map answered (λ is.
-      decided choice bytes entry.answer has (subst (λ about. Answers about.choice about.bytes entry.answer) e is));
-  drawn = ∥∥₁_map answered (λ is. answer_drawn entry.choice entry.rec entry.answer is);
+      decided choice (lists_of bytes) entry.answer has (subst (λ about. Answers about.choice (lists_of about.bytes) entry.answer) e is));
+  drawn = ∥∥₁_map answered (λ is. answer_drawn entry.choice (lists_of entry.rec) entry.answer is);
 }
 
 entries_for : (choice : Choice) (file ordinal : ℕ) (records : List (List ℕ)) (entries : List Entry)
     → map about_of entries ≡ numbered choice file ordinal records
-    → All (λ entry. ∥ Answers entry.choice entry.rec entry.answer ∥₁) entries
+    → All (λ entry. ∥ Answers entry.choice (lists_of entry.rec) entry.answer ∥₁) entries
     → All (λ entry. entry.answer ≢ NoMemory) entries
     → AreOneForEach choice file ordinal records entries
 entries_for choice file ordinal [] [] e answered has = tt

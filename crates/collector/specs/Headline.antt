@@ -13,12 +13,12 @@ use Rattle.entries.specs.Answers.{IsLaid}
 use Rattle.drawing_laws.specs.Drawings.{IsDrawnIfLaid}
 use Rattle.entries.specs.Books.{BookModel}
 
--- The answer names the first rule that a record of these bytes breaks, or gives a plane with the record's lists, an
--- orthogonal representation of it and its chosen outer face with the fewest bends.
-abbrev pub IsDecided : Choice → List ℕ → Answer → Type 0
-IsDecided choice bytes (Laid plane shape prices drawing) = IsLaid choice bytes plane shape prices drawing
-IsDecided choice bytes (Refused rule) = FirstBroken (lists_of bytes) rule
-IsDecided choice bytes NoMemory = ⊥
+-- The answer names the first rule that these neighbour lists break, or gives a plane with the lists, an orthogonal
+-- representation of it and its chosen outer face with the fewest bends.
+abbrev pub IsDecided : Choice → List (List ℕ) → Answer → Type 0
+IsDecided choice g (Laid plane shape prices drawing) = IsLaid choice g plane shape prices drawing
+IsDecided choice g (Refused rule) = FirstBroken g rule
+IsDecided choice g NoMemory = ⊥
 
 -- the entry is about the record of these bytes, at this place of this file, decides it under this choice, and if it has
 -- a shape has points that draw it
@@ -27,7 +27,7 @@ pub record IsEntryFor (choice : Choice) (file ordinal : ℕ) (bytes : List ℕ) 
   pub ordinal_is : entry.ordinal ≡ ordinal
   pub bytes_are : entry.rec ≡ bytes
   pub choice_is : entry.choice ≡ choice
-  pub decided : ∥ IsDecided choice bytes entry.answer ∥₁
+  pub decided : ∥ IsDecided choice (lists_of bytes) entry.answer ∥₁
   pub drawn : ∥ IsDrawnIfLaid entry.answer ∥₁
 
 -- the entries are one for each record, each once and in order; the first is at this place of the file

@@ -1,6 +1,7 @@
 //! The kind of answers that become output lines.
 ghost use Rattle.std.specs.Prelude.{◌≡◌};
 ghost use Rattle.common.specs.declared.drawing_kind.DrawingKind.{DrawingKind};
+ghost use Rattle.planar_code.specs.Stream.{lists_of};
 ghost use Rattle.entries.specs.Lengths.{IfDrawn, IsQuick};
 ghost use Rattle.lanes.specs.Opening.{IsPlacedAt};
 ghost use Rattle.answers.specs.Steps.{IsFoundFor, IsShaped, answer_in};
@@ -56,7 +57,7 @@ impl<J: Meant + Send + Sync> Purpose for Worded<J> {
         shaped_plane: Result<ShapedPlane, ReadFault>,
     ) -> Printed<J>
         requires known { ∥ IsPlacedAt (J.meaning task.file) task.ordinal rec.value × IsSpelt rec.value ∥₁ }
-        requires shaped { ∥ IsShaped task.choice rec.value shaped_plane ∥₁ }
+        requires shaped { ∥ IsShaped task.choice (lists_of rec.value) shaped_plane ∥₁ }
         ensures about { ⟦<Printed<J> as Numbered>⟧.about result ≡ about_in task rec.value }
         ensures found { IsFoundFor shaped_plane result.found.value }
         ensures quick { task.drawing_kind ≡ DrawingKind.Quick → IfDrawn IsQuick (answer_in result.found.value) }

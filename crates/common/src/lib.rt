@@ -1,11 +1,13 @@
-//! What many crates use: sums of numbers below a bound, lists that reuse their buffers, the choice of the outer face,
-//! and the kinds of drawings.
+//! What many crates use: the limit of vertices, sums of numbers below a bound, lists that reuse their buffers, the
+//! choice of the outer face, and the kinds of drawings.
 #![tactic(auto)]
 
 mod choice;
 mod drawing_kind;
+mod limits;
 mod lists;
 
 pub use choice::Choice;
 pub use drawing_kind::DrawingKind;
+pub use limits::MAX_VERTICES;
 pub use lists::{emptied, filled};

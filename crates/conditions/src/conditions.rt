@@ -5,9 +5,9 @@
 #[derive(Clone, Copy, Debug)]
 pub struct DartEnds {
     /// The vertex that the dart comes from.
-    pub from: u8,
+    pub from: u16,
     /// The vertex that it goes to.
-    pub to: u8,
+    pub to: u16,
 }
 
 /// The conditions that a layout must keep: edges that stay straight, and faces that stay inside.

@@ -10,7 +10,7 @@ use faces::Plane;
 use std::alloc::{AllocError, Global};
 
 /// Whether some pair leads from one vertex to another.
-fn holds(list: &[DartEnds], from: u8, to: u8) -> bool
+fn holds(list: &[DartEnds], from: u16, to: u16) -> bool
     ensures { IsTrue result ↔ Any (Joins from to) list.now }
 {
     list.iter().any(|ends| ends.from == from && ends.to == to)

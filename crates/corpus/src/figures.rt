@@ -92,7 +92,7 @@ fn distance(from: Point, to: Point) -> u32 {
 }
 
 /// The point of a vertex, or the origin if there is none.
-fn place_of(points: &Points, vertex: u8) -> Point {
+fn place_of(points: &Points, vertex: u16) -> Point {
     match points.vertices().get(usize::from(vertex).wrapping_sub(1)) {
         Some(place) => *place,
         None => Point { x: 0, y: 0 },

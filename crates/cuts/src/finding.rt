@@ -76,7 +76,7 @@ fn vertices_of(alloc: Global, plane: &Plane, faces: &[bool]) -> Result<Vec<bool>
 }
 
 /// Whether all faces of a vertex are marked.
-fn has_faces_in(plane: &Plane, faces: &[bool], vertex: u8) -> bool
+fn has_faces_in(plane: &Plane, faces: &[bool], vertex: u16) -> bool
     ensures inside { result ≡ true → HasFacesIn plane.now faces.now vertex }
     ensures outside { result ≡ false → HasFaceOut plane.now faces.now vertex }
 {

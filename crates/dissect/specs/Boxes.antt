@@ -1,5 +1,6 @@
 -- What callers see of `Boxes`: a map in four directions, and which of its parts are those of a plane.
 use Rattle.std.specs.Prelude.{◌≡◌, ℕ, ◌<◌, ◌≤◌, ◌⊎◌, List, [], ◌∷◌, length, slice_index, slice_index_or}
+use Rattle.common.specs.declared.limits.TheConstants.{MAX_VERTICES}
 use Rattle.embedding.specs.declared.graphs.TheConstants.{MAX_EDGES}
 use Rattle.dissect.specs.declared.table.DartTable.{DartTable}
 use Rattle.dissect.specs.DartMaps.{DartMap, IsSound, no_dart}
@@ -83,7 +84,7 @@ pub record AreBoxes (b : BoxesModel) : Type 0 where
   pub faces : HasBoxFaces (dart_map b)
   pub few_darts : b.darts ≤ no_dart
   pub old_in : b.old ≤ b.vertices
-  pub old_few : b.old ≤ 255
+  pub old_few : b.old ≤ MAX_VERTICES
   pub few_edges : length b.edges ≤ MAX_EDGES
   pub edges : (e : ℕ) → e < length b.edges → HasEdge b e
   pub path_count : length b.paths ≡ length b.edges

@@ -1,13 +1,12 @@
 //! The table of a plane's darts before the edges have bends.
 
-ghost use Rattle.std.specs.Prelude.{◌≡◌, ◌+◌, ◌-◌, ◌*◌, ◌<◌, ◌≤◌, ℕ, IfOk, length, slice_index, slice_set, vec_len};
-ghost use Rattle.common.specs.Sums.{sum_below};
-ghost use Rattle.faces.specs.Planes.{darts, vertices, head, reverse_dart, next};
-ghost use Rattle.ortho_rep.specs.Shapes.{angle_at, turns_at};
+ghost use Rattle.std.specs.Prelude.{◌≡◌, ◌-◌, ◌^◌, ◌<◌, ◌≤◌, ℕ, IfOk, OnErr, length, slice_index, slice_set, vec_len};
+ghost use Rattle.faces.specs.Planes.{darts, head, reverse_dart, next};
+ghost use Rattle.ortho_rep.specs.Shapes.{angle_at};
 ghost use Rattle.ortho_rep.specs.Representation.{HasDarts};
-ghost use Rattle.dissect.specs.declared.table.TheConstants.{NO_DART, RECTANGLE_ROOM};
+ghost use Rattle.dissect.specs.declared.table.TheConstants.{NO_DART};
 ghost use Rattle.dissect.specs.Tables.{dart_map_of, room};
-ghost use Rattle.dissect.specs.Bare.{IsBare, IsBlank};
+ghost use Rattle.dissect.specs.Bare.{IsBare, IsBlank, room_of};
 
 use crate::table::{DartTable, NO_DART, RECTANGLE_ROOM};
 use common::filled;
@@ -20,14 +19,22 @@ use std::alloc::AllocError;
 /// These are the plane's darts, two for each bend, four for each right turn, of which there are at most two for each
 /// vertex and one for each bend, and `RECTANGLE_ROOM` for a rectangle round it. A bend is two turns here, one of each
 /// dart of its edge. Linear in the darts.
-pub fn room_for(plane: &Plane, shape: &Shape) -> u32
+///
+/// # Errors
+///
+/// `AllocError` exactly if they are 2^32 or more: no table has room for so many.
+pub fn room_for(plane: &Plane, shape: &Shape) -> Result<u32, AllocError>
     requires { HasDarts plane.now shape.now }
-    ensures { let turns = sum_below (darts plane.now) (λ d. length (turns_at shape.now d)) in
-        result ≡ darts plane.now + 3 * turns + 8 * vertices plane.now + RECTANGLE_ROOM }
+    ensures room { IfOk result (λ room. room ≡ room_of plane.now shape.now) }
+    ensures refused { OnErr result (2 ^ 32 ≤ room_of plane.now shape.now) }
 {
     let graph = plane.graph();
     let turns = shape.turn_count();
-    u32::from(graph.darts()) + 3 * turns + 8 * u32::from(graph.vertices()) + RECTANGLE_ROOM
+    let old = u64::from(graph.darts()) + 8 * u64::from(graph.vertices());
+    match u32::try_from(old + 3 * turns + u64::from(RECTANGLE_ROOM)) {
+        Ok(room) => Ok(room),
+        Err(_) => Err(AllocError),
+    }
 }
 
 /// A table of `darts` darts and `vertices` vertices, not written yet, with room for at least `places` darts.

@@ -22,7 +22,7 @@ use std::marker::Model;
 #[derive(Drop)]
 pub struct Boxes {
     table: DartTable,
-    old: u8,
+    old: u16,
     edges: Vec<u16>,
     paths: FlatLists<u32>,
 }
@@ -39,7 +39,7 @@ impl Model for Boxes {
 
 impl Boxes {
     /// The boxes that a table holds, for a plane with `old` vertices, these lesser darts and their paths.
-    pub(crate) fn of(table: DartTable, old: u8, edges: Vec<u16>, paths: FlatLists<u32>) -> Boxes
+    pub(crate) fn of(table: DartTable, old: u16, edges: Vec<u16>, paths: FlatLists<u32>) -> Boxes
         requires { AreBoxes (parts_of table old edges.items paths) }
         ensures { result ≡ parts_of table old edges.items paths }
     {
@@ -167,7 +167,7 @@ impl Boxes {
     }
 
     /// The number of vertices of the plane.
-    pub fn old_vertices(&self) -> u8
+    pub fn old_vertices(&self) -> u16
         ensures value { result ≡ self.now.old }
         ensures inside { result ≤ self.now.vertices }
     {
@@ -175,7 +175,7 @@ impl Boxes {
     }
 
     /// The vertex of the boxes that is this vertex of the plane, where vertices are numbered from 1.
-    pub fn old(&self, vertex: u8) -> u32
+    pub fn old(&self, vertex: u16) -> u32
         requires from { 1 ≤ vertex }
         requires to { vertex ≤ self.now.old }
         ensures value { result ≡ vertex - 1 }

@@ -26,7 +26,8 @@ use std::mem;
 ///
 /// # Errors
 ///
-/// `AllocError` if there is no memory for the boxes; there is no other error.
+/// `AllocError` if there is no memory for the boxes, or their table needs room for 2^32 darts (over 1,431,000,000 turns in
+/// all); there is no other error.
 pub fn dissect(alloc: Global, plane: &Plane, shape: &Shape) -> Result<Boxes, AllocError>
     requires { IsShape plane.now shape.now }
     ensures { IfOk result (IsBoxed plane.now shape.now) }
@@ -41,7 +42,7 @@ pub fn dissect(alloc: Global, plane: &Plane, shape: &Shape) -> Result<Boxes, All
 ///
 /// # Errors
 ///
-/// `AllocError` if there is no memory for the boxes, and no other; the buffers of the scratch may be gone then.
+/// `AllocError` as [`dissect`], and no other; the buffers of the scratch may be gone then.
 pub fn dissect_in(
     alloc: Global,
     scratch: &mut Scratch,
@@ -64,7 +65,7 @@ pub fn dissect_in(
 ///
 /// # Errors
 ///
-/// `AllocError` if there is no memory for the boxes, and no other; the buffers of the scratch are then gone.
+/// `AllocError` as [`dissect`], and no other; the buffers of the scratch are then gone.
 pub fn dissect_along(
     alloc: Global,
     scratch: &mut Scratch,

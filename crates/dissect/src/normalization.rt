@@ -39,7 +39,7 @@ use std::alloc::{AllocError, Global};
 ///
 /// # Errors
 ///
-/// `AllocError` if there is no memory for the table, whose buffers are then gone.
+/// `AllocError` if there is no memory for the table, whose buffers are then gone, or it needs room for 2^32 darts or more.
 pub fn normalize_into(
     table: DartTable,
     plane: &Plane,
@@ -66,7 +66,7 @@ pub fn normalize_into(
 {
     // Only the proof needs this: `graph` says that the plane is one.
     let _graph = plane.graph();
-    let room = room_for(plane, shape);
+    let room = room_for(plane, shape)?;
     let mut table = bare_table(table, plane, shape, directions, room)?;
     'edges: for dart in edges {
         bend_edge(&mut table, u32::from(*dart), shape.turns(*dart));

@@ -121,10 +121,32 @@ fn find_fault(
         → KeepsFirstThree plane.now shape.now points.now }
 {
     if usize::from(plane.graph().darts()) > FEW_DARTS {
-        let mut directions = [Direction::East; MAX_DARTS];
-        return first_fault(alloc, scratch, plane, shape, points, &mut directions);
+        return fault_of_many(alloc, scratch, plane, shape, points);
     }
     let mut directions = [Direction::East; FEW_DARTS];
+    first_fault(alloc, scratch, plane, shape, points, &mut directions)
+}
+
+/// The same, with a list for the directions of as many darts as there can be. It is a function of its own, since a
+/// function pays at entry for the size of its lists.
+#[inline(never)]
+fn fault_of_many(
+    alloc: Global,
+    scratch: &mut Scratch,
+    plane: &Plane,
+    shape: &Shape,
+    points: &Points,
+) -> Option<CheckFault>
+    requires lengths { HasDarts plane.now shape.now }
+    requires points { HasPoints plane.now points.now }
+    ensures draws { IfNone result (Draws plane.now shape.now points.now) }
+    ensures fault { IfSome result (IsFirstFault plane.now shape.now points.now) }
+    ensures memory { result ≡ Some CheckFault.Memory
+        → KeepsFirstThree plane.now shape.now points.now }
+{
+    // Only the proof needs this: `graph` says how many darts there are at most.
+    let _graph = plane.graph();
+    let mut directions = [Direction::East; MAX_DARTS];
     first_fault(alloc, scratch, plane, shape, points, &mut directions)
 }
 

@@ -32,24 +32,24 @@ none_shown plane shape b cause is least boxed shown =
     some_order plane shape b boxed
     (subst (MayShow b) (shown_wide plane shape b cause is boxed shown) (remaining_of_least plane shape b cause is least boxed shown))
 
-pub no_cause : (choice : Choice) (bytes : List ℕ) (plane : PlaneModel) (shape : ShapeModel) (prices : PricesModel) (cause : Cause)
-    → ¬ IsLaid choice bytes plane shape prices (Err cause)
-no_cause choice bytes plane shape prices cause is =
+pub no_cause : (choice : Choice) (g : List (List ℕ)) (plane : PlaneModel) (shape : ShapeModel) (prices : PricesModel) (cause : Cause)
+    → ¬ IsLaid choice g plane shape prices (Err cause)
+no_cause choice g plane shape prices cause is =
     let found = is.drawn in
     none_shown plane shape found.boxes cause is.rules is.least found.boxed found.shown
 
-pub drawn : (choice : Choice) (bytes : List ℕ) (plane : PlaneModel) (shape : ShapeModel) (prices : PricesModel) (drawing : Result PointsModel Cause)
-    → IsLaid choice bytes plane shape prices drawing
+pub drawn : (choice : Choice) (g : List (List ℕ)) (plane : PlaneModel) (shape : ShapeModel) (prices : PricesModel) (drawing : Result PointsModel Cause)
+    → IsLaid choice g plane shape prices drawing
     → (points : PointsModel) × (drawing ≡ Ok points) × IsDrawingOf plane shape points
-drawn choice bytes plane shape prices (Ok points) is = (points, refl, is.drawn)
-drawn choice bytes plane shape prices (Err cause) is = absurd (no_cause choice bytes plane shape prices cause is)
+drawn choice g plane shape prices (Ok points) is = (points, refl, is.drawn)
+drawn choice g plane shape prices (Err cause) is = absurd (no_cause choice g plane shape prices cause is)
 
-laid_drawn : (choice : Choice) (bytes : List ℕ) (plane : PlaneModel) (shape : ShapeModel) (prices : PricesModel) (drawing : Result PointsModel Cause)
-    → IsLaid choice bytes plane shape prices drawing → HasDrawing plane shape drawing
-laid_drawn choice bytes plane shape prices (Ok points) is = is.drawn
-laid_drawn choice bytes plane shape prices (Err cause) is = no_cause choice bytes plane shape prices cause is
+laid_drawn : (choice : Choice) (g : List (List ℕ)) (plane : PlaneModel) (shape : ShapeModel) (prices : PricesModel) (drawing : Result PointsModel Cause)
+    → IsLaid choice g plane shape prices drawing → HasDrawing plane shape drawing
+laid_drawn choice g plane shape prices (Ok points) is = is.drawn
+laid_drawn choice g plane shape prices (Err cause) is = no_cause choice g plane shape prices cause is
 
-pub answer_drawn : (choice : Choice) (bytes : List ℕ) (answer : Answer) → Answers choice bytes answer → IsDrawnIfLaid answer
-answer_drawn choice bytes (Laid plane shape prices drawing) is = laid_drawn choice bytes plane shape prices drawing is
-answer_drawn choice bytes (Refused rule) is = tt
-answer_drawn choice bytes NoMemory is = tt
+pub answer_drawn : (choice : Choice) (g : List (List ℕ)) (answer : Answer) → Answers choice g answer → IsDrawnIfLaid answer
+answer_drawn choice g (Laid plane shape prices drawing) is = laid_drawn choice g plane shape prices drawing is
+answer_drawn choice g (Refused rule) is = tt
+answer_drawn choice g NoMemory is = tt

@@ -7,8 +7,9 @@ use Rattle.std.specs.Prelude.{ℤ}
 use Rattle.common.specs.Sums.{sum_below}
 use Rattle.common.proofs.Sums.{sum_below-same, sum_below-add, sum_below-times, sum_below-constant, sum_below-turned}
 use Rattle.ortho_rep.specs.declared.turn.Turn.{Turn}
+use Rattle.embedding.proofs.Rotation.{darts_few}
 use Rattle.faces.specs.Planes.{PlaneModel, IsPlane, HasEnds, darts, vertices, head, tail, reverse_dart, face_at}
-use Rattle.faces.proofs.Ends.{plane_ends}
+use Rattle.faces.proofs.Ends.{plane_ends, seven_rules}
 use Rattle.ortho_rep.specs.Shapes.{ShapeModel, angle_at, turns_at}
 use Rattle.ortho_rep.specs.Representation.{Rep, IsLeast, bends_of}
 use Rattle.ortho_rep.specs.Prices.{Prove}
@@ -148,7 +149,6 @@ few_five p shape plane least =
     let ends = plane_ends p plane in
     omega (arith, few_inner p shape plane least, plane.euler, plane.outer, ends.tail_from 0 ends.some_darts, ends.tail_to 0 ends.some_darts)
 
-pub few_limit : (p : PlaneModel) (shape : ShapeModel) → IsPlane p → IsLeast p shape → bends p shape ≤ 1534
+pub few_limit : (p : PlaneModel) (shape : ShapeModel) → IsPlane p → IsLeast p shape → bends p shape ≤ 6 * vertices p + 4
 few_limit p shape plane least =
-    let ends = plane_ends p plane in
-    omega (arith, few_inner p shape plane least, ends.few_darts, ends.few_faces)
+    omega (arith, few_inner p shape plane least, plane.euler, plane.outer, darts_few p.lists (seven_rules p.lists plane.rules))

@@ -51,8 +51,8 @@ pub remaining_of_least : (plane : PlaneModel) (shape : ShapeModel) (b : BoxesMod
 remaining_of_least plane shape b cause is least boxed shown =
     remaining plane shape b cause boxed (omega (arith, few_limit plane shape is least, boxed.few, is.order)) shown
 
-pub remaining_in_laid : (choice : Choice) (bytes : List ℕ) (plane : PlaneModel) (shape : ShapeModel) (prices : PricesModel) (cause : Cause)
-    → IsLaid choice bytes plane shape prices (Err cause) → (boxes : BoxesModel) × IsBoxed plane shape boxes × MayShow boxes cause
-remaining_in_laid choice bytes plane shape prices cause is =
+pub remaining_in_laid : (choice : Choice) (g : List (List ℕ)) (plane : PlaneModel) (shape : ShapeModel) (prices : PricesModel) (cause : Cause)
+    → IsLaid choice g plane shape prices (Err cause) → (boxes : BoxesModel) × IsBoxed plane shape boxes × MayShow boxes cause
+remaining_in_laid choice g plane shape prices cause is =
     let found = is.drawn in
     (found.boxes, found.boxed, remaining_of_least plane shape found.boxes cause is.rules is.least found.boxed found.shown)

@@ -23,9 +23,9 @@ shown_wide plane shape b NotAxis is boxed shown = absurd (shown.first.1 (least_p
 shown_wide plane shape b WrongTurn is boxed shown = absurd (shown.first.2 (least_points_draw plane shape b shown.points is boxed shown.least_points).turns)
 shown_wide plane shape b Meet is boxed shown = absurd (shown.first.3 (least_points_draw plane shape b shown.points is boxed shown.least_points).apart)
 
-pub laid_wide : (choice : Choice) (bytes : List ℕ) (plane : PlaneModel) (shape : ShapeModel) (prices : PricesModel) (cause : Cause)
-    → IsLaid choice bytes plane shape prices (Err cause) → (boxes : BoxesModel) × IsBoxed plane shape boxes × HasNoCoordinates boxes × (cause ≡ Wide)
-laid_wide choice bytes plane shape prices cause is =
+pub laid_wide : (choice : Choice) (g : List (List ℕ)) (plane : PlaneModel) (shape : ShapeModel) (prices : PricesModel) (cause : Cause)
+    → IsLaid choice g plane shape prices (Err cause) → (boxes : BoxesModel) × IsBoxed plane shape boxes × HasNoCoordinates boxes × (cause ≡ Wide)
+laid_wide choice g plane shape prices cause is =
     let found = is.drawn in
     let wide = shown_wide plane shape found.boxes cause is.rules found.boxed found.shown in (
       found.boxes,

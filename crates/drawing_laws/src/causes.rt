@@ -36,8 +36,8 @@ pub fn remaining_causes()
     ensures least { (plane : PlaneModel) (shape : ShapeModel) (b : BoxesModel) (cause : Cause)
         → IsPlane plane → IsLeast plane shape → IsBoxed plane shape b
         → ShowsCause plane shape b cause → MayShow b cause }
-    ensures laid { (choice : Choice) (bytes : List ℕ) (plane : PlaneModel) (shape : ShapeModel) (prices : PricesModel) (cause : Cause)
-        → IsLaid choice bytes plane shape prices (Err cause)
+    ensures laid { (choice : Choice) (g : List (List ℕ)) (plane : PlaneModel) (shape : ShapeModel) (prices : PricesModel) (cause : Cause)
+        → IsLaid choice g plane shape prices (Err cause)
         → (boxes : BoxesModel) × IsBoxed plane shape boxes × MayShow boxes cause }
 {}
 
@@ -48,7 +48,7 @@ pub fn remaining_causes()
 pub fn only_wide()
     ensures shown { (plane : PlaneModel) (shape : ShapeModel) (b : BoxesModel) (cause : Cause)
         → IsPlane plane → IsBoxed plane shape b → ShowsCause plane shape b cause → cause ≡ Cause.Wide }
-    ensures laid { (choice : Choice) (bytes : List ℕ) (plane : PlaneModel) (shape : ShapeModel) (prices : PricesModel) (cause : Cause)
-        → IsLaid choice bytes plane shape prices (Err cause)
+    ensures laid { (choice : Choice) (g : List (List ℕ)) (plane : PlaneModel) (shape : ShapeModel) (prices : PricesModel) (cause : Cause)
+        → IsLaid choice g plane shape prices (Err cause)
         → (boxes : BoxesModel) × IsBoxed plane shape boxes × HasNoCoordinates boxes × (cause ≡ Cause.Wide) }
 {}

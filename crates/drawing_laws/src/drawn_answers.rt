@@ -26,14 +26,14 @@ pub fn no_cause_is_shown()
 
 /// A laid answer has points that draw its shape, with each face where it belongs, and never a cause.
 pub fn laid_answers_are_drawn()
-    ensures cause { (choice : Choice) (bytes : List ℕ) (plane : PlaneModel) (shape : ShapeModel) (prices : PricesModel) (cause : Cause)
-        → ¬ IsLaid choice bytes plane shape prices (Err cause) }
-    ensures points { (choice : Choice) (bytes : List ℕ) (plane : PlaneModel) (shape : ShapeModel) (prices : PricesModel) (drawing : Result PointsModel Cause)
-        → IsLaid choice bytes plane shape prices drawing
+    ensures cause { (choice : Choice) (g : List (List ℕ)) (plane : PlaneModel) (shape : ShapeModel) (prices : PricesModel) (cause : Cause)
+        → ¬ IsLaid choice g plane shape prices (Err cause) }
+    ensures points { (choice : Choice) (g : List (List ℕ)) (plane : PlaneModel) (shape : ShapeModel) (prices : PricesModel) (drawing : Result PointsModel Cause)
+        → IsLaid choice g plane shape prices drawing
         → (points : PointsModel) × (drawing ≡ Ok points) × IsDrawingOf plane shape points }
 {}
 
-/// An answer to a record that has a shape has a drawing of it.
+/// An answer to a graph that has a shape has a drawing of it.
 pub fn answers_are_drawn()
-    ensures { (choice : Choice) (bytes : List ℕ) (answer : Answer) → Answers choice bytes answer → IsDrawnIfLaid answer }
+    ensures { (choice : Choice) (g : List (List ℕ)) (answer : Answer) → Answers choice g answer → IsDrawnIfLaid answer }
 {}

@@ -208,7 +208,7 @@ fn length_of(plane: &Plane, points: &Points) -> u32 {
 }
 
 /// The point of a vertex, or the origin if there is none.
-fn vertex_of(points: &Points, vertex: u8) -> Point {
+fn vertex_of(points: &Points, vertex: u16) -> Point {
     match points.vertices().get(usize::from(vertex).wrapping_sub(1)) {
         Some(point) => *point,
         None => Point { x: 0, y: 0 },

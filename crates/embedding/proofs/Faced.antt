@@ -1,13 +1,13 @@
 -- A table of the rotation, faces and degrees, and what it says of a graph.
 use Rattle.std.proofs.Common.{◌≡◌, ℕ, ◌+◌, ◌*◌, ◌<◌, ◌≤◌, ◌==◌, cond, true, List, ◌++◌, length, get_or, replicate, take, drop, refl, sym, ap, ◌∙◌, subst, arith}
-use Rattle.std.proofs.lemmas.List.{length-append, get_or-append-add, get_or_append_left, get_or-take, get_or-drop, length-take, length-drop}
+use Rattle.std.proofs.lemmas.List.{get_or-append-add, get_or-take, get_or-drop, length-take, length-take-le, length-drop}
 use Rattle.std.proofs.lemmas.List.Elements.{All-take, All-replicate}
 use Rattle.common.proofs.Sums.{sum_below-same}
 use Rattle.embedding.specs.Darts.{dart_count, next_of, reverse_of}
 use Rattle.embedding.specs.Rules.{KeepsBefore}
 use Rattle.embedding.specs.Faces.{HasFaces, degree_in}
 use Rattle.embedding.specs.Tables.{IsRotation}
-use Rattle.embedding.specs.Walk.{AreRotations, HasDegrees, HasFaceTable, at, next_in}
+use Rattle.embedding.specs.Walk.{AreRotations, HasFaceTable, at, next_in}
 use Rattle.embedding.proofs.Rotation.{reverse_is, next_one}
 
 -- a part of a list of one value has that value everywhere
@@ -29,23 +29,39 @@ same_faces n next other_next face other f inside steps is h =
 pub same_degree : (n : ℕ) (face other : ℕ → ℕ) (k : ℕ) → ((d : ℕ) → d < n → other d ≡ face d) → degree_in n other k ≡ degree_in n face k
 same_degree n face other k is = sum_below-same n (λ d. cond (other d == k) 1 0) (λ d. cond (face d == k) 1 0) (λ d b. ap (λ (x : ℕ). cond (x == k) 1 0) (is d b))
 
--- faces and degrees come after the rotation
-pub faced : (rotation faces table : List ℕ) (n count : ℕ) → AreRotations n rotation → length faces ≡ n → HasDegrees (rotation ++ faces) (length faces) (at faces) count table → HasFaces n (next_in rotation) (at faces) count → HasFaceTable n rotation count table
-faced rotation faces table n count tied all behind numbered =
-    let front = rotation ++ faces in
-    let long = tied.size in
-    let size : length front ≡ 3 * n = length-append rotation faces ∙ omega (arith, long, all) in
-    let read : (i : ℕ) → i < 3 * n → get_or table i 0 ≡ get_or front i 0 =
-    λ i b. sym (get_or-take (length front) table i 0 (omega (arith, size, b))) ∙ ap (λ (t : List ℕ). get_or t i 0) behind.prefix_is in
-    let face_is : (d : ℕ) → d < n → get_or table (2 * n + d) 0 ≡ get_or faces d 0 =
-    λ d b. read (2 * n + d) (omega (arith, b)) ∙ ap (λ (m : ℕ). get_or front (m + d) 0) (sym long) ∙ get_or-append-add rotation faces d 0 in
+-- the faces of n darts, read where they stand in a table
+pub faces_within : (table : List ℕ) (n d : ℕ) → d < n → get_or (drop (2 * n) (take (3 * n) table)) d 0 ≡ get_or table (2 * n + d) 0
+faces_within table n d below =
+    get_or-drop (2 * n) (take (3 * n) table) d 0 ∙ get_or-take (3 * n) table (2 * n + d) 0 (omega arith)
+
+pub faces_counted : (table : List ℕ) (n : ℕ) → 3 * n ≤ length table → length (drop (2 * n) (take (3 * n) table)) ≡ n
+faces_counted table n long =
+    length-drop (2 * n) (take (3 * n) table) ∙ omega (arith, length-take-le (3 * n) table long)
+
+-- what a part behind has is what the table has there
+pub behind_is : (front rest table : List ℕ) (n k : ℕ) → length front ≡ n → table ≡ front ++ rest → get_or table (n + k) 0 ≡ get_or rest k 0
+behind_is front rest table n k size is =
+    ap (λ (t : List ℕ). get_or t (n + k) 0) is ∙ ap (λ (m : ℕ). get_or (front ++ rest) (m + k) 0) (sym size) ∙ get_or-append-add front rest k 0
+
+-- faces are numbered behind the rotation, and then their degrees are counted behind them
+pub faced : (rotation numbered before table : List ℕ) (n count : ℕ) → AreRotations n rotation → length numbered ≡ 3 * n → take (2 * n) numbered ≡ rotation → HasFaces n (next_in rotation) (at (drop (2 * n) numbered)) count
+    → length before ≡ 3 * n + count → take (3 * n) before ≡ numbered → length table ≡ length before → take (3 * n) table ≡ take (3 * n) before
+    → ((k : ℕ) → 3 * n + k < length before → get_or table (3 * n + k) 0 ≡ degree_in n (λ d. get_or before (2 * n + d) 0) k)
+    → HasFaceTable n rotation count table
+faced rotation numbered before table n count tied long front faces size filled same kept degrees =
+    let read : (i : ℕ) → i < 3 * n → get_or table i 0 ≡ get_or before i 0 =
+    λ i b. sym (get_or-take (3 * n) table i 0 b) ∙ ap (λ (t : List ℕ). get_or t i 0) kept ∙ get_or-take (3 * n) before i 0 b in
+    let was : (i : ℕ) → i < 3 * n → get_or before i 0 ≡ get_or numbered i 0 =
+    λ i b. sym (get_or-take (3 * n) before i 0 b) ∙ ap (λ (t : List ℕ). get_or t i 0) filled in
+    let face_is : (d : ℕ) → d < n → get_or table (2 * n + d) 0 ≡ get_or (drop (2 * n) numbered) d 0 =
+    λ d b. read (2 * n + d) (omega (arith, b)) ∙ was (2 * n + d) (omega (arith, b)) ∙ sym (get_or-drop (2 * n) numbered d 0) in
     record {
-      size = behind.size ∙ omega (arith, size);
-      rotation_is = λ i b. read i (omega (arith, b)) ∙ get_or_append_left rotation faces 0 i (omega (arith, long, b));
-      faces_are = same_faces n (next_in rotation) (next_in rotation) (at faces) (λ d. get_or table (2 * n + d) 0) count tied.walked.inside (λ d b. refl) face_is numbered;
+      size = same ∙ size;
+      rotation_is = λ i b. read i (omega (arith, b)) ∙ was i (omega (arith, b)) ∙ sym (get_or-take (2 * n) numbered i 0 b) ∙ ap (λ (t : List ℕ). get_or t i 0) front;
+      faces_are = same_faces n (next_in rotation) (next_in rotation) (at (drop (2 * n) numbered)) (λ d. get_or table (2 * n + d) 0) count tied.walked.inside (λ d b. refl) face_is faces;
       degrees_are = λ k b.
-          ap (λ (m : ℕ). get_or table (m + k) 0) (sym size) ∙ behind.degrees_are k b ∙ ap (λ (m : ℕ). degree_in m (at faces) k) all
-          ∙ sym (same_degree n (at faces) (λ d. get_or table (2 * n + d) 0) k face_is);
+          degrees k (omega (arith, b, size))
+          ∙ sym (same_degree n (λ d. get_or before (2 * n + d) 0) (λ d. get_or table (2 * n + d) 0) k (λ d below. read (2 * n + d) (omega (arith, below))));
     }
 
 -- what the rotation leads to is what the graph's darts lead to

@@ -2,6 +2,7 @@
 use Rattle.std.proofs.Common.{◌≡◌, ℕ, ◌*◌, ◌<◌, ◌≤◌, List, length, get_or, ap, ◌∙◌, subst, inl, inr, arith}
 use Rattle.std.proofs.lemmas.List.{get_or_read}
 use Rattle.std.proofs.lemmas.Bool.{cases_lt}
+use Rattle.common.specs.declared.limits.TheConstants.{MAX_VERTICES}
 use Rattle.embedding.specs.declared.graphs.TheConstants.{MAX_DARTS}
 use Rattle.embedding.specs.declared.rules.Rule.TheVariants.{Degree}
 use Rattle.embedding.specs.Lists.{list_of}
@@ -23,7 +24,7 @@ pub record HasSizes (g : List (List ℕ)) : Type 0 where
   pub edges : ℕ
   pub even : 2 * edges ≡ dart_count g
 
-pub sizes : (g : List (List ℕ)) → KeepsBefore g 8 → length g < 256 → HasSizes g
+pub sizes : (g : List (List ℕ)) → KeepsBefore g 8 → length g ≤ MAX_VERTICES → HasSizes g
 sizes g rules order =
     let some = darts_some g rules in
     let few = darts_few g rules in

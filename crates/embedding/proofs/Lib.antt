@@ -11,6 +11,7 @@ pub mod RowBits
 pub mod RowWords
 pub mod EachList
 pub mod SmallGraphs
+pub mod Ranges
 pub mod Flagging
 pub mod Symmetry
 pub mod Reached
@@ -21,4 +22,5 @@ pub mod Tracing
 pub mod Unique
 pub mod Degrees
 pub mod Faced
+pub mod Filled
 pub mod Euler

@@ -1,16 +1,16 @@
--- One pass over the bytes of lists, which finds where each list begins.
+-- One pass over the entries of lists, which finds where each list begins.
 use Rattle.std.proofs.Common.{◌≡◌, ℕ, ◌+◌, ◌<◌, ◌≤◌, eqb, List, [], length, get_or, set, ap, subst, ◌∙◌, inl, inr, arith}
 use mir.Val.{bool_byte}
-use Rattle.std.specs.List.{flat_map, All}
+use Rattle.std.specs.List.{flat_map}
 use Rattle.std.proofs.lemmas.List.{get_or-set_same, get_or-set_other, length-set}
 use Rattle.std.proofs.lemmas.Bool.{cases_lt, cases_eq, eq-eqb, ne_eqb}
-use Rattle.planar_code.specs.Stream.{IsList, ended}
+use Rattle.planar_code.specs.Stream.{ended}
 use Rattle.embedding.specs.Split.{start_of}
-use Rattle.embedding.proofs.WrittenLists.{start_of-more, start_of-all, start_of-within, byte_in, byte_behind}
+use Rattle.embedding.proofs.WrittenLists.{HasNoZero, start_of-more, start_of-all, start_of-within, entry_in, entry_behind}
 
--- before byte i, `count` lists are whole, and the starts are known up to that of the next one
+-- before entry i, `count` lists are whole, and the starts are known up to that of the next one
 pub record IsReading (g : List (List ℕ)) (starts : List ℕ) (i count : ℕ) : Type 0 where
-  pub size : length starts ≡ 256
+  pub room : length g < length starts
   pub few : count ≤ length g
   pub from : start_of g count ≤ i
   pub to : count < length g → i < start_of g (count + 1)
@@ -25,21 +25,21 @@ next_list g starts i count r below =
     ]
 
 -- a 0 ends a list
-pub reading_end : (g : List (List ℕ)) (starts : List ℕ) (i count : ℕ) → All IsList g → length g < 256 → IsReading g starts i count → i < length (flat_map ended g) → get_or (flat_map ended g) i 0 ≡ 0 → IsReading g (set starts (count + 1) (i + 1)) (i + 1) (count + 1)
-reading_end g starts i count each few r below zeros =
+pub reading_end : (g : List (List ℕ)) (starts : List ℕ) (i count : ℕ) → HasNoZero g → IsReading g starts i count → i < length (flat_map ended g) → get_or (flat_map ended g) i 0 ≡ 0 → IsReading g (set starts (count + 1) (i + 1)) (i + 1) (count + 1)
+reading_end g starts i count none r below zeros =
     let less = next_list g starts i count r below in
     let more = start_of-more g count less in
     let before = r.to less in
     let from = r.from in
     let at : i ≡ start_of g count + length (get_or g count []) =
     elim (cases_lt i (start_of g count + length (get_or g count []))) [
-      | inl within ↦ absurd (omega (arith, byte_in g count i less each from within, zeros))
+      | inl within ↦ absurd (omega (arith, entry_in g count i less none from within, zeros))
       | inr past ↦ omega arith
     ] in
     let next : i + 1 ≡ start_of g (count + 1) = omega arith in
-    let inside : count + 1 < length starts = omega (arith, r.size) in
+    let inside : count + 1 < length starts = omega (arith, r.room) in
     record {
-      size = length-set starts (count + 1) (i + 1) ∙ r.size;
+      room = omega (arith, r.room, length-set starts (count + 1) (i + 1));
       few = omega arith;
       from = omega arith;
       to = λ again. omega (arith, start_of-more g (count + 1) again);
@@ -49,24 +49,24 @@ reading_end g starts i count each few r below zeros =
       ];
     }
 
--- another byte does not
+-- another entry does not
 pub reading_entry : (g : List (List ℕ)) (starts : List ℕ) (i count : ℕ) → IsReading g starts i count → i < length (flat_map ended g) → (get_or (flat_map ended g) i 0 ≡ 0 → ⊥) → IsReading g starts (i + 1) count
 reading_entry g starts i count r below entry =
     let less = next_list g starts i count r below in
     let more = start_of-more g count less in
     let before = r.to less in
     record {
-      size = r.size;
+      room = r.room;
       few = r.few;
       from = omega (arith, r.from);
       to = λ _. elim (cases_eq i (start_of g count + length (get_or g count []))) [
-        | inl behind ↦ absurd (entry (byte_behind g count i less behind))
+        | inl behind ↦ absurd (entry (entry_behind g count i less behind))
         | inr other ↦ omega arith
       ];
       starts_are = r.starts_are;
     }
 
--- after the last byte all lists are whole
+-- after the last entry all lists are whole
 pub reading_all : (g : List (List ℕ)) (starts : List ℕ) (i count : ℕ) → IsReading g starts i count → length (flat_map ended g) ≤ i → count ≡ length g
 reading_all g starts i count r past =
     elim (cases_lt count (length g)) [
@@ -77,11 +77,11 @@ reading_all g starts i count r past =
     within : (g : List (List ℕ)) (count : ℕ) → count < length g → start_of g (count + 1) ≤ length (flat_map ended g)
     within g count less = start_of-within g (count + 1)
 
--- before the first byte
-pub reading_none : (g : List (List ℕ)) (starts : List ℕ) → length starts ≡ 256 → get_or starts 0 0 ≡ 0 → IsReading g starts 0 0
-reading_none g starts size first =
+-- before the first entry
+pub reading_none : (g : List (List ℕ)) (starts : List ℕ) → length g < length starts → get_or starts 0 0 ≡ 0 → IsReading g starts 0 0
+reading_none g starts room first =
     record {
-      size = size;
+      room = room;
       few = omega arith;
       from = omega arith;
       to = λ some. omega (arith, start_of-more g 0 some);
@@ -92,7 +92,7 @@ reading_none g starts size first =
 pub reading_ahead : (g : List (List ℕ)) (starts : List ℕ) (i count x : ℕ) → IsReading g starts i count → IsReading g (set starts (count + 1) x) i count
 reading_ahead g starts i count x r =
     record {
-      size = length-set starts (count + 1) x ∙ r.size;
+      room = omega (arith, r.room, length-set starts (count + 1) x);
       few = r.few;
       from = r.from;
       to = r.to;
@@ -101,15 +101,15 @@ reading_ahead g starts i count x r =
           get_or-set_other starts (count + 1) k x 0 other ∙ r.starts_are k b;
     }
 
--- the place after a byte is written, and counts where the byte is 0
-pub reading_step : (g : List (List ℕ)) (starts : List ℕ) (i count n : ℕ) → All IsList g → length g < 256 → IsReading g starts i count → i < length (flat_map ended g) → n ≡ bool_byte (eqb (get_or (flat_map ended g) i 0) 0) → IsReading g (set starts (count + 1) (i + 1)) (i + 1) (count + n)
-reading_step g starts i count n each few r below is =
+-- the place after an entry is written, and counts where the entry is 0
+pub reading_step : (g : List (List ℕ)) (starts : List ℕ) (i count n : ℕ) → HasNoZero g → IsReading g starts i count → i < length (flat_map ended g) → n ≡ bool_byte (eqb (get_or (flat_map ended g) i 0) 0) → IsReading g (set starts (count + 1) (i + 1)) (i + 1) (count + n)
+reading_step g starts i count n none r below is =
     elim (cases_eq (get_or (flat_map ended g) i 0) 0) [
       | inl zeros ↦
           let one : n ≡ 1 = is ∙ ap bool_byte (eq-eqb _ _ zeros) in
-          rw one (reading_end g starts i count each few r below zeros)
+          rw one (reading_end g starts i count none r below zeros)
       | inr other ↦
-          let none : n ≡ 0 = is ∙ ap bool_byte (ne_eqb _ _ other) in
+          let no : n ≡ 0 = is ∙ ap bool_byte (ne_eqb _ _ other) in
           let same : count ≡ count + n = omega arith in
           subst (λ (m : ℕ). IsReading g (set starts (count + 1) (i + 1)) (i + 1) m) same
           (reading_ahead g starts (i + 1) count (i + 1) (reading_entry g starts i count r below other))

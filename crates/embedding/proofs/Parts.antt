@@ -3,6 +3,7 @@ use Rattle.std.proofs.Common.{◌≡◌, ℕ, zero, suc, ◌+◌, ◌-◌, ◌*�
 use Rattle.std.specs.List.{slice_range}
 use Rattle.std.proofs.lemmas.List.{length-append, take_at, drop_at, drop-drop, ext_get_or, get_or_append_left, get_or_read, get_or-drop}
 use Rattle.std.proofs.lemmas.List.FromFn.{get_or-map-range_with_len, length-map-range_with_len}
+use Rattle.common.specs.declared.limits.TheConstants.{MAX_VERTICES}
 use Rattle.embedding.specs.Lists.{list_of}
 use Rattle.embedding.specs.Darts.{heads, dart_count, first_dart, next_of}
 use Rattle.embedding.specs.Walk.{HasFaceTable, next_in}
@@ -83,7 +84,7 @@ parts_whole g starts ends table same =
     ∙ (part_between g ends k (get_or starts k 0) (get_or starts (k + 1) 0) same (omega (arith, count)) (table.each k (omega (arith, count))) (table.each (k + 1) (omega (arith, count)))).part)
 
 -- the table in which the rotation, faces and degrees stand before the starts
-pub kept_whole : (g : List (List ℕ)) (ends rotation front starts table : List ℕ) (count : ℕ) → KeepsBefore g 8 → length g < 256 → ends ≡ heads g
+pub kept_whole : (g : List (List ℕ)) (ends rotation front starts table : List ℕ) (count : ℕ) → KeepsBefore g 8 → length g ≤ MAX_VERTICES → ends ≡ heads g
     → IsRotation g (dart_count g) rotation → HasFaceTable (dart_count g) rotation count front → IsTable (length g + 1) (first_dart g) starts → table ≡ front ++ starts
     → (slices_at (drop (3 * length ends + count) table) ends ≡ g) × AreTables g ends count table
 kept_whole g ends rotation front starts table count rules order same l f s is =

@@ -1,6 +1,7 @@
 -- What a graph keeps: where its lists start, the darts' ends and where they lead.
-use Rattle.std.specs.Prelude.{◌≡◌, ℕ, ◌+◌, ◌-◌, ◌*◌, ◌<◌, List, length, map, drop, slice_index, slice_range}
+use Rattle.std.specs.Prelude.{◌≡◌, ℕ, ◌+◌, ◌-◌, ◌*◌, ◌<◌, ◌≤◌, List, length, map, drop, slice_index, slice_range}
 use Rattle.std.specs.List.{range_with_len}
+use Rattle.common.specs.declared.limits.TheConstants.{MAX_VERTICES}
 use Rattle.embedding.specs.Darts.{heads, dart_count, first_dart, reverse_of, after_of, next_of}
 use Rattle.embedding.specs.Faces.{HasFaces, degree_in}
 use Rattle.embedding.specs.Rules.{KeepsBefore}
@@ -25,7 +26,7 @@ pub record IsRotation (g : List (List ℕ)) (n : ℕ) (rotation : List ℕ) : Ty
 -- darts, the degrees of `count` faces and the starts
 pub record AreTables (g : List (List ℕ)) (ends : List ℕ) (count : ℕ) (table : List ℕ) : Type 0 where
   pub rules : KeepsBefore g 8
-  pub order : length g < 256
+  pub order : length g ≤ MAX_VERTICES
   pub heads_are : ends ≡ heads g
   pub size : length table ≡ 3 * dart_count g + count + (length g + 1)
   pub starts_are : IsTable (length g + 1) (first_dart g) (drop (3 * length ends + count) table)

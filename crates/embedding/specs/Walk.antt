@@ -29,12 +29,6 @@ pub record AreRotations (n : ℕ) (rotation : List ℕ) : Type 0 where
   pub back : (d : ℕ) → d < n → slice_index rotation (2 * d) < n
   pub walked : IsOneToOne n (next_in rotation)
 
--- the table begins with the front, and after it has the degrees of `count` faces
-pub record HasDegrees (front : List ℕ) (n : ℕ) (face : ℕ → ℕ) (count : ℕ) (table : List ℕ) : Type 0 where
-  pub size : length table ≡ length front + count
-  pub prefix_is : take (length front) table ≡ front
-  pub degrees_are : (k : ℕ) → k < count → slice_index table (length front + k) ≡ degree_in n face k
-
 -- the table has the rotation, after it the faces of n darts, and after these the degrees of `count` faces
 pub record HasFaceTable (n : ℕ) (rotation : List ℕ) (count : ℕ) (table : List ℕ) : Type 0 where
   pub size : length table ≡ 3 * n + count

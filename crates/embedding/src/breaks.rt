@@ -1,25 +1,26 @@
 //! Whether a record's lists break each of the first seven rules. No test allocates.
 
-ghost use Rattle.std.specs.Prelude.{◌≡◌, ℕ, ◌+◌, ◌<◌, ◌≤◌, ◌↔◌, ◌⊎◌, List, [], length, slice_index, IsTrue, MatchOption, Any, Contains};
+ghost use Rattle.std.specs.Prelude.{◌≡◌, ℕ, ◌+◌, ◌<◌, ◌≤◌, ◌↔◌, ◌⊎◌, List, [], length, slice_index, IsTrue, MatchOption, All, Any, Contains};
+ghost use Rattle.embedding.specs.declared.lists.TheConstants.{NUMBERS};
 ghost use Rattle.embedding.specs.Lists.{list_of};
 ghost use Rattle.embedding.specs.Pairs.{HasPair};
 ghost use Rattle.embedding.specs.Rules.{Breaks, KeepsBefore, FirstBroken, NamesTwice, rule_number};
 
-use crate::lists::Lists;
+use crate::lists::{Lists, NUMBERS};
 use crate::pairs::Pairs;
 use crate::reach::breaks_disconnected;
 use crate::rows::is_small_graph;
 use crate::rules::Rule;
 
 /// Whether some entry of the list is greater than n.
-fn exceeds(list: &[u8], n: u8) -> bool
+fn exceeds(list: &[u16], n: u16) -> bool
     ensures { IsTrue result ↔ Any (λ v. n < v) list.now }
 {
     list.iter().any(|v| *v > n)
 }
 
 /// Whether the list holds the vertex.
-fn holds(list: &[u8], vertex: u8) -> bool
+fn holds(list: &[u16], vertex: u16) -> bool
     ensures { IsTrue result ↔ Contains list.now vertex }
 {
     list.iter().any(|v| *v == vertex)
@@ -27,10 +28,11 @@ fn holds(list: &[u8], vertex: u8) -> bool
 
 /// Whether the list names a neighbour twice. `last` has for each number the last list that named
 /// it, and no list has named one for this vertex yet.
-fn names_twice(list: &[u8], vertex: u8, last: &mut [u8; 256]) -> bool
-    requires { (v : ℕ) → v < 256 → slice_index last.old v < vertex }
+fn names_twice(list: &[u16], vertex: u16, last: &mut [u16; NUMBERS]) -> bool
+    requires small { All (λ v. v < NUMBERS) list.now }
+    requires unnamed { (v : ℕ) → v < NUMBERS → slice_index last.old v < vertex }
     ensures twice { IsTrue result ↔ NamesTwice list.now }
-    ensures flagged { (v : ℕ) → v < 256 → slice_index last.new v ≤ vertex }
+    ensures flagged { (v : ℕ) → v < NUMBERS → slice_index last.new v ≤ vertex }
 {
     for v in list {
         if last[usize::from(*v)] == vertex {
@@ -42,7 +44,9 @@ fn names_twice(list: &[u8], vertex: u8, last: &mut [u8; 256]) -> bool
 }
 
 /// Adds the pairs of the vertex and each entry of its list.
-fn add_pairs(pairs: &mut Pairs, vertex: u8, list: &[u8])
+fn add_pairs(pairs: &mut Pairs, vertex: u16, list: &[u16])
+    requires vertex { vertex < 256 }
+    requires small { All (λ v. v < 256) list.now }
     ensures { (a b : ℕ) → a < 256 → b < 256
         → (HasPair pairs.new.words a b
         ↔ (HasPair pairs.old.words a b ⊎ ((a ≡ vertex) × Contains list.now b))) }
@@ -53,7 +57,9 @@ fn add_pairs(pairs: &mut Pairs, vertex: u8, list: &[u8])
 }
 
 /// Whether some entry of the vertex's list lacks the pair the other way.
-fn lacks_pair(pairs: &Pairs, vertex: u8, list: &[u8]) -> bool
+fn lacks_pair(pairs: &Pairs, vertex: u16, list: &[u16]) -> bool
+    requires vertex { vertex < 256 }
+    requires small { All (λ v. v < 256) list.now }
     ensures { IsTrue result ↔ Any (λ v. ¬ HasPair pairs.now.words v vertex) list.now }
 {
     list.iter().any(|v| !pairs.contains(*v, vertex))
@@ -83,9 +89,10 @@ fn breaks_loop(lists: &Lists<'_>) -> bool
 }
 
 fn breaks_multi(lists: &Lists<'_>) -> bool
+    requires { ¬ Breaks lists.now Rule.Range }
     ensures { IsTrue result ↔ Breaks lists.now Rule.Multi }
 {
-    let mut last = [0; 256];
+    let mut last = [0; NUMBERS];
     for place in 0..lists.count() {
         if names_twice(lists.at(place), place + 1, &mut last) {
             return true;
@@ -94,7 +101,10 @@ fn breaks_multi(lists: &Lists<'_>) -> bool
     false
 }
 
-fn breaks_asymmetric(lists: &Lists<'_>) -> bool
+/// The test of rule 4 for up to 255 lists, by a bit for each pair of vertices.
+fn lacks_any_pair(lists: &Lists<'_>) -> bool
+    requires few { length lists.now < 256 }
+    requires range { ¬ Breaks lists.now Rule.Range }
     ensures { IsTrue result ↔ Breaks lists.now Rule.Asymmetric }
 {
     let mut pairs = Pairs::new();
@@ -107,6 +117,40 @@ fn breaks_asymmetric(lists: &Lists<'_>) -> bool
         }
     }
     false
+}
+
+/// Whether some entry of the vertex's list has a list that does not hold the vertex.
+fn lacks_return(lists: &Lists<'_>, vertex: u16) -> bool
+    ensures { IsTrue result
+        ↔ Any (λ v. ¬ Contains (list_of lists.now v) vertex) (list_of lists.now vertex) }
+{
+    lists
+        .of_vertex(vertex)
+        .iter()
+        .any(|v| !holds(lists.of_vertex(*v), vertex))
+}
+
+/// The test of rule 4 by a search in the list of each entry.
+fn lacks_any_return(lists: &Lists<'_>) -> bool
+    ensures { IsTrue result ↔ Breaks lists.now Rule.Asymmetric }
+{
+    for place in 0..lists.count() {
+        if lacks_return(lists, place + 1) {
+            return true;
+        }
+    }
+    false
+}
+
+fn breaks_asymmetric(lists: &Lists<'_>) -> bool
+    requires { ¬ Breaks lists.now Rule.Range }
+    ensures { IsTrue result ↔ Breaks lists.now Rule.Asymmetric }
+{
+    if lists.count() < 256 {
+        lacks_any_pair(lists)
+    } else {
+        lacks_any_return(lists)
+    }
 }
 
 fn breaks_edgeless(lists: &Lists<'_>) -> bool
@@ -131,15 +175,12 @@ fn breaks_degree(lists: &Lists<'_>) -> bool
     false
 }
 
-/// The first of rules 1 to 7 that the lists break. The tests take time in proportion to the
-/// record's bytes, whatever they are.
-pub(crate) fn first_broken(lists: &Lists<'_>) -> Option<Rule>
+/// The first of rules 1 to 7 that the lists break, found by a test of each.
+#[inline(never)]
+fn first_broken_of_all(lists: &Lists<'_>) -> Option<Rule>
     ensures { MatchOption result (KeepsBefore lists.now 8)
         (λ rule. FirstBroken lists.now rule × (rule_number rule < 8)) }
 {
-    if is_small_graph(lists) {
-        return None;
-    }
     if breaks_range(lists) {
         Some(Rule::Range)
     } else if breaks_loop(lists) {
@@ -156,5 +197,18 @@ pub(crate) fn first_broken(lists: &Lists<'_>) -> Option<Rule>
         Some(Rule::Disconnected)
     } else {
         None
+    }
+}
+
+/// The first of rules 1 to 7 that the lists break. The tests take time in proportion to the entries, whatever they are,
+/// except of more than 255 lists, of which some have more than four entries.
+pub(crate) fn first_broken(lists: &Lists<'_>) -> Option<Rule>
+    ensures { MatchOption result (KeepsBefore lists.now 8)
+        (λ rule. FirstBroken lists.now rule × (rule_number rule < 8)) }
+{
+    if is_small_graph(lists) {
+        None
+    } else {
+        first_broken_of_all(lists)
     }
 }

@@ -1,6 +1,7 @@
 //! A graph that keeps rules 1 to 7, as a combinatorial map (Edmonds 1960): darts, and their order round each vertex.
 
-ghost use Rattle.std.specs.Prelude.{◌≡◌, ℕ, ◌*◌, ◌<◌, ◌≤◌, List, length, IfOk, IfErr, OnOk};
+ghost use Rattle.std.specs.Prelude.{◌≡◌, ℕ, ◌+◌, ◌*◌, ◌<◌, ◌≤◌, List, length, IfOk, IfErr, OnOk};
+ghost use Rattle.common.specs.declared.limits.TheConstants.{MAX_VERTICES};
 ghost use Rattle.embedding.specs.declared.graphs.TheConstants.{MAX_DARTS, MAX_EDGES};
 ghost use Rattle.embedding.specs.Lists.{list_of};
 ghost use Rattle.embedding.specs.Darts.{dart_count, head_of, tail_of, reverse_of, after_of, next_of, IsInvolution, IsOneToOne};
@@ -8,6 +9,7 @@ ghost use Rattle.embedding.specs.Faces.{HasFaces, degree_in};
 ghost use Rattle.embedding.specs.Walk.{at};
 ghost use Rattle.embedding.specs.Rules.{KeepsBefore};
 ghost use Rattle.embedding.specs.Faults.{IsReadFault};
+ghost use Rattle.planar_code.specs.declared.TheConstants.{MAX_ENTRIES};
 ghost use Rattle.planar_code.specs.Stream.{lists_of};
 
 use crate::breaks::first_broken;
@@ -15,16 +17,21 @@ use crate::faults::ReadFault;
 use crate::lists::Lists;
 use crate::scratch::Scratch;
 use crate::tables::darts_in;
-use planar_code::Record;
+use crate::writing::{
+    FEW_ENTRIES, FEW_STARTS, RECORD_ENTRIES, RECORD_STARTS, SOME_ENTRIES, WIDE_STARTS, find_starts,
+    size_of, write_lists,
+};
+use common::MAX_VERTICES;
+use planar_code::{Record, WideRecord};
 use std::alloc::{AllocError, Global};
 use std::marker::Model;
 use std::mem;
 
-/// The maximum number of darts of a graph: four for each of 255 vertices.
-pub const MAX_DARTS: usize = 1020;
+/// The maximum number of darts of a graph: four for each of 1,200 vertices.
+pub const MAX_DARTS: usize = 4 * MAX_VERTICES;
 
 /// The maximum number of edges of a graph: half the number of darts.
-pub const MAX_EDGES: usize = 510;
+pub const MAX_EDGES: usize = 2 * MAX_VERTICES;
 
 /// A connected simple graph of maximum degree at most 4, given by its clockwise neighbour lists.
 ///
@@ -34,7 +41,7 @@ pub const MAX_EDGES: usize = 510;
 /// from 0 in the order of their entries. No accessor allocates, and each takes constant time.
 #[derive(Debug, Drop)]
 pub struct Graph {
-    heads: Vec<u8>,
+    heads: Vec<u16>,
     /// Of each dart its reverse and the dart after it; then the face of each dart, the degree of each face, and where
     /// the list of each vertex begins in `heads`, at the end the number of darts.
     table: Vec<u16>,
@@ -83,11 +90,114 @@ impl Graph {
         ensures rules { OnOk result (KeepsBefore (lists_of rec.now) 8) }
         ensures fault { IfErr result (IsReadFault (lists_of rec.now)) }
     {
-        let lists = Lists::of(rec);
-        if let Some(rule) = first_broken(&lists) {
+        let size = size_of(rec);
+        let order = usize::from(rec.order());
+        if size <= FEW_ENTRIES && order < FEW_STARTS {
+            Graph::read_within::<FEW_ENTRIES, FEW_STARTS>(alloc, scratch, rec)
+        } else if size <= SOME_ENTRIES {
+            Graph::read_within::<SOME_ENTRIES, RECORD_STARTS>(alloc, scratch, rec)
+        } else {
+            Graph::read_within::<RECORD_ENTRIES, RECORD_STARTS>(alloc, scratch, rec)
+        }
+    }
+
+    /// The graph of a record, whose entries have room in an array of this length, and the starts of its lists in one of
+    /// that.
+    #[inline(never)]
+    fn read_within<const ENTRIES: usize, const STARTS: usize>(
+        alloc: Global,
+        scratch: &mut Scratch,
+        rec: &Record,
+    ) -> Result<Graph, ReadFault>
+        requires fits_entries { ENTRIES < MAX_ENTRIES }
+        requires fits_starts { STARTS < MAX_ENTRIES }
+        requires entries { length rec.now ≤ ENTRIES + 1 }
+        requires starts { length (lists_of rec.now) < STARTS }
+        ensures lists { IfOk result (λ graph. graph ≡ lists_of rec.now) }
+        ensures rules { OnOk result (KeepsBefore (lists_of rec.now) 8) }
+        ensures fault { IfErr result (IsReadFault (lists_of rec.now)) }
+    {
+        let mut room = [0u16; ENTRIES];
+        let mut starts = [0u16; STARTS];
+        let entries = &mut room[..size_of(rec)];
+        let count = write_lists(rec, entries, &mut starts);
+        let lists = Lists::new(entries, &starts, count);
+        Graph::read_lists(alloc, scratch, &lists)
+    }
+
+    /// The graph of a wide record. The time is linear in its entries if no list has more than four or there are at most
+    /// 255 lists, and otherwise at most in proportion to the entries times the length of the longest list.
+    ///
+    /// # Errors
+    ///
+    /// As [`Graph::read`].
+    pub fn read_wide(alloc: Global, rec: &WideRecord) -> Result<Graph, ReadFault>
+        ensures lists { IfOk result (λ graph. graph ≡ lists_of rec.now) }
+        ensures rules { OnOk result (KeepsBefore (lists_of rec.now) 8) }
+        ensures fault { IfErr result (IsReadFault (lists_of rec.now)) }
+    {
+        let mut scratch = Scratch::empty(alloc);
+        Graph::read_wide_in(alloc, &mut scratch, rec)
+    }
+
+    /// The graph of a wide record, exactly as [`Graph::read_wide`]; reuses the caller's scratch.
+    ///
+    /// The graph takes its lists with it; [`Graph::give_back`] returns them.
+    ///
+    /// # Errors
+    ///
+    /// As [`Graph::read_in`].
+    pub fn read_wide_in(
+        alloc: Global,
+        scratch: &mut Scratch,
+        rec: &WideRecord,
+    ) -> Result<Graph, ReadFault>
+        ensures lists { IfOk result (λ graph. graph ≡ lists_of rec.now) }
+        ensures rules { OnOk result (KeepsBefore (lists_of rec.now) 8) }
+        ensures fault { IfErr result (IsReadFault (lists_of rec.now)) }
+    {
+        if usize::from(rec.order()) < FEW_STARTS {
+            Graph::read_wide_within::<FEW_STARTS>(alloc, scratch, rec)
+        } else {
+            Graph::read_wide_within::<WIDE_STARTS>(alloc, scratch, rec)
+        }
+    }
+
+    /// The graph of a wide record, the starts of whose lists have room in an array of this length.
+    #[inline(never)]
+    fn read_wide_within<const STARTS: usize>(
+        alloc: Global,
+        scratch: &mut Scratch,
+        rec: &WideRecord,
+    ) -> Result<Graph, ReadFault>
+        requires fits { STARTS < MAX_ENTRIES }
+        requires starts { length (lists_of rec.now) < STARTS }
+        ensures lists { IfOk result (λ graph. graph ≡ lists_of rec.now) }
+        ensures rules { OnOk result (KeepsBefore (lists_of rec.now) 8) }
+        ensures fault { IfErr result (IsReadFault (lists_of rec.now)) }
+    {
+        let mut starts = [0u16; STARTS];
+        let entries = &rec.entries()[1..];
+        find_starts(entries, &mut starts);
+        let lists = Lists::new(entries, &starts, rec.order());
+        Graph::read_lists(alloc, scratch, &lists)
+    }
+
+    /// The graph of lists.
+    fn read_lists(
+        alloc: Global,
+        scratch: &mut Scratch,
+        lists: &Lists<'_>,
+    ) -> Result<Graph, ReadFault>
+        requires { length lists.now ≤ MAX_VERTICES }
+        ensures lists { IfOk result (λ graph. graph ≡ lists.now) }
+        ensures rules { OnOk result (KeepsBefore lists.now 8) }
+        ensures fault { IfErr result (IsReadFault lists.now) }
+    {
+        if let Some(rule) = first_broken(lists) {
             return Err(ReadFault::Rule(rule));
         }
-        match Graph::of(alloc, scratch, &lists) {
+        match Graph::of(alloc, scratch, lists) {
             Ok(graph) => Ok(graph),
             Err(_) => Err(ReadFault::Memory),
         }
@@ -96,7 +206,7 @@ impl Graph {
     /// The graph of lists that keep rules 1 to 7.
     fn of(alloc: Global, scratch: &mut Scratch, lists: &Lists<'_>) -> Result<Graph, AllocError>
         requires rules { KeepsBefore lists.now 8 }
-        requires few { length lists.now < 256 }
+        requires few { length lists.now ≤ MAX_VERTICES }
         ensures { IfOk result (λ graph. graph ≡ lists.now) }
     {
         let heads = mem::replace(&mut scratch.heads, Vec::new(alloc));
@@ -115,16 +225,17 @@ impl Graph {
         scratch.table = self.table;
     }
 
-    /// The number of vertices, 1 to 255.
-    pub fn vertices(&self) -> u8
+    /// The number of vertices, 1 to 1,200.
+    pub fn vertices(&self) -> u16
         ensures count { result ≡ length self.now }
         ensures some { 0 < result }
+        ensures few { result ≤ MAX_VERTICES }
         ensures rules { KeepsBefore self.now 8 }
     {
-        (self.table.len() - 3 * self.heads.len() - usize::from(self.faces) - 1) as u8
+        (self.table.len() - 3 * self.heads.len() - usize::from(self.faces) - 1) as u16
     }
 
-    /// The number of edges, 1 to 510: half the number of darts.
+    /// The number of edges, 1 to 2,400: half the number of darts.
     pub fn edges(&self) -> u16
         ensures count { 2 * result ≡ dart_count self.now }
         ensures some { 0 < result }
@@ -133,7 +244,7 @@ impl Graph {
         (self.heads.len() / 2) as u16
     }
 
-    /// The number of darts, 2 to 1,020.
+    /// The number of darts, 2 to 4,800.
     pub fn darts(&self) -> u16
         ensures count { result ≡ dart_count self.now }
         ensures some { 0 < result }
@@ -149,7 +260,7 @@ impl Graph {
     }
 
     /// The neighbours of a vertex, clockwise: at most four.
-    pub fn neighbours(&self, vertex: u8) -> &[u8]
+    pub fn neighbours(&self, vertex: u16) -> &[u16]
         requires some { 0 < vertex }
         requires within { vertex ≤ length self.now }
         ensures value { result.now ≡ list_of self.now vertex }
@@ -163,7 +274,7 @@ impl Graph {
     }
 
     /// The vertex that a dart comes from, 1 to n.
-    pub fn tail(&self, dart: u16) -> u8
+    pub fn tail(&self, dart: u16) -> u16
         requires { dart < dart_count self.now }
         ensures value { result ≡ tail_of self.now dart }
         ensures some { 0 < result }
@@ -173,7 +284,7 @@ impl Graph {
     }
 
     /// The vertex that a dart goes to, 1 to n.
-    pub fn head(&self, dart: u16) -> u8
+    pub fn head(&self, dart: u16) -> u16
         requires { dart < dart_count self.now }
         ensures value { result ≡ head_of self.now dart }
         ensures some { 0 < result }

@@ -17,9 +17,11 @@ mod rows;
 mod rules;
 mod scratch;
 mod tables;
+mod writing;
 
+pub use common::MAX_VERTICES;
 pub use faults::ReadFault;
-pub use genus::broken_rule;
+pub use genus::{broken_rule, broken_wide_rule};
 pub use graphs::{Graph, MAX_DARTS, MAX_EDGES};
 pub use lesser_darts::LesserDarts;
 pub use rules::Rule;

@@ -1,22 +1,25 @@
-//! The neighbour lists of a record, borrowed from its bytes.
+//! The neighbour lists of a record, borrowed from its entries.
 
-ghost use Rattle.std.specs.Prelude.{◌≡◌, ℕ, ◌<◌, ◌≤◌, ◌∷◌, List, length, All, slice_index, slice_index_or, [], Contains};
-ghost use Rattle.std.specs.List.{flat_map};
-ghost use Rattle.planar_code.specs.declared.TheConstants.{MAX_LIST};
-ghost use Rattle.planar_code.specs.Stream.{IsList, ended, lists_in, lists_of};
+ghost use Rattle.std.specs.Prelude.{◌≡◌, ℕ, ◌<◌, ◌≤◌, List, length, slice_index, slice_index_or, [], Contains};
+ghost use Rattle.common.specs.declared.limits.TheConstants.{MAX_VERTICES};
+ghost use Rattle.planar_code.specs.declared.TheConstants.{MAX_ENTRIES};
+ghost use Rattle.planar_code.specs.Stream.{lists_in};
 ghost use Rattle.embedding.specs.Lists.{list_of};
 ghost use Rattle.embedding.specs.Darts.{dart_count, first_dart};
-ghost use Rattle.embedding.specs.Split.{HoldsLists, start_of};
+ghost use Rattle.embedding.specs.Split.{HoldsLists};
 
-use planar_code::Record;
+use common::MAX_VERTICES;
 use std::marker::Model;
 
-/// The lists that a record's bytes hold, and where each of them begins.
+/// How many numbers there are from 0 to the maximum number of vertices.
+pub(crate) const NUMBERS: usize = MAX_VERTICES + 1;
+
+/// The lists that entries hold, each ended by a 0, and where each of them begins.
 #[derive(Drop)]
 pub(crate) struct Lists<'a> {
-    bytes: &'a [u8],
-    starts: [u16; 256],
-    count: u8,
+    entries: &'a [u16],
+    starts: &'a [u16],
+    count: u16,
 }
 
 impl<'a> Model for Lists<'a> {
@@ -26,50 +29,29 @@ impl<'a> Model for Lists<'a> {
 
     ghost Value = { List (List ℕ) };
 
-    ghost view = { λ l. lists_in l.bytes.now };
+    ghost view = { λ l. lists_in l.entries.now };
 
-    ghost invariant = { λ l. HoldsLists l.bytes.now l.starts l.count };
-}
-
-/// Where each of the lists begins, in one pass over their bytes. Each byte might be the last of its
-/// list, so the place after it is always written, and kept only if the byte is the last.
-fn starts_in(bytes: &[u8]) -> [u16; 256]
-    requires spelt { bytes.now ≡ flat_map ended (lists_in bytes.now) }
-    requires each { All IsList (lists_in bytes.now) }
-    requires few { length (lists_in bytes.now) < 256 }
-    ensures { (k : ℕ) → k ≤ length (lists_in bytes.now)
-        → slice_index result k ≡ start_of (lists_in bytes.now) k }
-{
-    let mut starts = [0u16; 256];
-    let mut count = 0;
-    for (i, byte) in bytes.iter().enumerate() {
-        starts[count + 1] = (i + 1) as u16;
-        count += usize::from(*byte == 0);
-    }
-    starts
+    ghost invariant = { λ l. HoldsLists l.entries.now l.starts.now l.count };
 }
 
 impl<'a> Lists<'a> {
-    /// The lists of a record, in one pass over its bytes.
-    pub(crate) fn of(rec: &'a Record) -> Lists<'a>
-        ensures value { result ≡ lists_of rec.now }
-        ensures few { length result < 256 }
+    /// The lists that the entries hold, where the starts say where each begins.
+    pub(crate) fn new(entries: &'a [u16], starts: &'a [u16], count: u16) -> Lists<'a>
+        requires { HoldsLists entries.now starts.now count }
+        ensures { result ≡ lists_in entries.now }
     {
-        let count = rec.order();
-        let bytes = &rec.bytes()[1..];
-        let starts = starts_in(bytes);
         Lists {
-            bytes,
+            entries,
             starts,
             count,
         }
     }
 
-    /// How many lists there are, 1 to 255.
-    pub(crate) fn count(&self) -> u8
+    /// How many lists there are, 1 to 1,200.
+    pub(crate) fn count(&self) -> u16
         ensures count { result ≡ length self.now }
         ensures some { 0 < result }
-        ensures each { All IsList self.now }
+        ensures few { result ≤ MAX_VERTICES }
     {
         self.count
     }
@@ -77,39 +59,43 @@ impl<'a> Lists<'a> {
     /// How many entries all lists have together.
     pub(crate) fn darts(&self) -> usize
         ensures count { result ≡ dart_count self.now }
-        ensures few { result ≤ 65025 }
+        ensures few { result < MAX_ENTRIES }
     {
-        self.bytes.len() - usize::from(self.count)
+        self.entries.len() - usize::from(self.count)
     }
 
     /// The list at a place, counted from 0.
-    pub(crate) fn at(&self, place: u8) -> &'a [u8]
+    pub(crate) fn at(&self, place: u16) -> &'a [u16]
         requires { place < length self.now }
         ensures value { result.now ≡ slice_index_or self.now place [] }
-        ensures short { length result.now ≤ MAX_LIST }
-        ensures few { length self.now < 256 }
+        ensures short { length result.now < MAX_ENTRIES }
+        ensures few { length self.now ≤ MAX_VERTICES }
     {
         let place = usize::from(place);
         let from = usize::from(self.starts[place]);
         let to = usize::from(self.starts[place + 1]);
-        &self.bytes[from..to - 1]
+        &self.entries[from..to - 1]
     }
 
-    /// The first three bytes from where the list at a place begins. Past the last byte of all it is that byte again.
-    fn three_at(&self, place: u8) -> [u8; 3]
+    /// The first three entries from where the list at a place begins. Past the last entry of all it is that entry again.
+    fn three_at(&self, place: u16) -> [u16; 3]
         requires within { place < length self.now }
         requires some { 0 < length (slice_index_or self.now place []) }
         ensures { (i : ℕ) → i < 3 → i < length (slice_index_or self.now place [])
             → slice_index result i ≡ slice_index (slice_index_or self.now place []) i }
     {
         let first = usize::from(self.starts[usize::from(place)]);
-        let third = (first + 2).min(self.bytes.len() - 1);
-        [self.bytes[first], self.bytes[first + 1], self.bytes[third]]
+        let third = (first + 2).min(self.entries.len() - 1);
+        [
+            self.entries[first],
+            self.entries[first + 1],
+            self.entries[third],
+        ]
     }
 
     /// The place of a vertex in the short list at a place, which contains it. No branch depends on it, and the end
     /// of the list is not looked for: what follows the list comes after the vertex.
-    pub(crate) fn place_in(&self, place: u8, vertex: u8) -> u16
+    pub(crate) fn place_in(&self, place: u16, vertex: u16) -> u16
         requires within { place < length self.now }
         requires held { Contains (slice_index_or self.now place []) vertex }
         requires short { length (slice_index_or self.now place []) ≤ 4 }
@@ -124,10 +110,11 @@ impl<'a> Lists<'a> {
     }
 
     /// The list of a vertex, empty where no vertex has that number.
-    pub(crate) fn of_vertex(&self, vertex: u8) -> &'a [u8]
-        ensures { result.now ≡ list_of self.now vertex }
+    pub(crate) fn of_vertex(&self, vertex: u16) -> &'a [u16]
+        ensures value { result.now ≡ list_of self.now vertex }
+        ensures few { length self.now ≤ MAX_VERTICES }
     {
-        if vertex == 0 || vertex > self.count() {
+        if vertex > self.count() || vertex == 0 {
             &[]
         } else {
             self.at(vertex - 1)
@@ -135,11 +122,11 @@ impl<'a> Lists<'a> {
     }
 
     /// The number of the first dart of the list at a place.
-    pub(crate) fn first_dart(&self, place: u8) -> u16
+    pub(crate) fn first_dart(&self, place: u16) -> u16
         requires { place < length self.now }
         ensures value { result ≡ first_dart self.now place }
-        ensures few { dart_count self.now ≤ 65025 }
+        ensures few { dart_count self.now < MAX_ENTRIES }
     {
-        self.starts[usize::from(place)] - u16::from(place)
+        self.starts[usize::from(place)] - place
     }
 }

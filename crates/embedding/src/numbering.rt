@@ -1,18 +1,15 @@
 //! Faces traced as orbits of `next` (Edmonds 1960), numbered in the order of their least darts, with their degrees.
 
-ghost use Rattle.std.specs.Prelude.{◌≡◌, ◌+◌, ◌*◌, ◌<◌, ◌≤◌, ◌++◌, ℕ, length, slice_index, IfOk, OnOk};
+ghost use Rattle.std.specs.Prelude.{◌≡◌, ◌+◌, ◌-◌, ◌*◌, ◌<◌, ◌≤◌, ℕ, length, take, drop, slice_index, IfOk};
 ghost use Rattle.embedding.specs.declared.graphs.TheConstants.{MAX_DARTS};
 ghost use Rattle.embedding.specs.Faces.{HasFaces, degree_in};
-ghost use Rattle.embedding.specs.Walk.{IsTraced, AreRotations, HasDegrees, HasFaceTable, at, next_in};
+ghost use Rattle.embedding.specs.Walk.{IsTraced, AreRotations, HasFaceTable, at, next_in};
 
 use crate::graphs::MAX_DARTS;
 use std::alloc::AllocError;
 
 /// Stands for the face of a dart that no walk has come to.
 pub(crate) const UNSET: u16 = u16::MAX;
-
-/// Graphs with no more darts are numbered in less room, since all of it is set before.
-pub(crate) const FEW_DARTS: usize = 128;
 
 /// Walks the face of `start` once round, and gives its darts the number `face`.
 fn walk_face(rotation: &[u16], faces: &mut [u16], start: u16, face: u16)
@@ -67,47 +64,49 @@ fn count_degrees(faces: &[u16], degrees: &mut [u16])
     }
 }
 
-/// Appends to the table the face of each dart, and then the degree of each face.
-fn add_table(table: &mut Vec<u16>, faces: &[u16], count: u16) -> Result<(), AllocError>
-    requires few { length faces.now ≤ MAX_DARTS }
-    requires named { (d : ℕ) → d < length faces.now → slice_index faces.now d < count }
-    ensures { OnOk result (HasDegrees (table.old.items ++ faces.now) (length faces.now) (at faces.now) count table.new.items) }
+/// Numbers the faces in the part of the table after the rotation of this many darts; returns how many there are.
+fn number_behind(table: &mut [u16], darts: usize) -> u16
+    requires tied { AreRotations darts (take (2 * darts) table.old) }
+    requires few { darts ≤ MAX_DARTS }
+    requires size { length table.old ≡ 3 * darts }
+    requires unset { (d : ℕ) → d < darts → slice_index table.old (2 * darts + d) ≡ UNSET }
+    ensures size { length table.new ≡ 3 * darts }
+    ensures rotation { take (2 * darts) table.new ≡ take (2 * darts) table.old }
+    ensures numbered { HasFaces darts (next_in (take (2 * darts) table.old)) (at (drop (2 * darts) table.new)) result }
+    ensures few { result ≤ darts }
 {
-    table.extend_from_slice(faces)?;
-    let behind = table.len();
-    table.resize(behind + usize::from(count), 0)?;
-    let degrees = &mut table[behind..];
-    count_degrees(faces, degrees);
-    Ok(())
+    let (rotation, faces) = table.split_at_mut(2 * darts);
+    number_faces(rotation, faces)
 }
 
-/// Appends the face of each dart and the degree of each face after the rotation; returns the number of faces. `faces`
-/// is scratch in which they are numbered.
-fn add_on(table: &mut Vec<u16>, faces: &mut [u16]) -> Result<u16, AllocError>
-    requires tied { AreRotations (length faces.old) table.old.items }
-    requires few { length faces.old ≤ MAX_DARTS }
-    requires unset { (d : ℕ) → d < length faces.old → slice_index faces.old d ≡ UNSET }
-    ensures { IfOk result (λ count. HasFaceTable (length faces.old) table.old.items count table.new.items) }
+/// Counts the degrees of the faces in the part of the table after the faces of this many darts.
+fn count_behind(table: &mut [u16], darts: usize)
+    requires few { darts ≤ MAX_DARTS }
+    requires size { 3 * darts ≤ length table.old }
+    requires named { (d : ℕ) → d < darts
+        → slice_index table.old (2 * darts + d) < length table.old - 3 * darts }
+    requires none { (k : ℕ) → 3 * darts + k < length table.old → slice_index table.old (3 * darts + k) ≡ 0 }
+    ensures size { length table.new ≡ length table.old }
+    ensures front { take (3 * darts) table.new ≡ take (3 * darts) table.old }
+    ensures degrees { (k : ℕ) → 3 * darts + k < length table.old
+        → slice_index table.new (3 * darts + k) ≡ degree_in darts (λ d. slice_index table.old (2 * darts + d)) k }
 {
-    let count = number_faces(table, faces);
-    add_table(table, faces, count)?;
-    Ok(count)
+    let (front, degrees) = table.split_at_mut(3 * darts);
+    count_degrees(&front[2 * darts..], degrees);
 }
 
-/// Does the same for this many darts.
+/// Appends the face of each dart and the degree of each face after the rotation of this many darts; returns the number
+/// of faces. They are numbered where they stand.
 pub(crate) fn add_faces(table: &mut Vec<u16>, darts: usize) -> Result<u16, AllocError>
     requires tied { AreRotations darts table.old.items }
     requires few { darts ≤ MAX_DARTS }
     ensures { IfOk result (λ count. HasFaceTable darts table.old.items count table.new.items) }
 {
-    if darts > FEW_DARTS {
-        let mut room = [UNSET; MAX_DARTS];
-        let faces = &mut room[..darts];
-        return add_on(table, faces);
-    }
-    let mut room = [UNSET; FEW_DARTS];
-    let faces = &mut room[..darts];
-    add_on(table, faces)
+    table.resize(3 * darts, UNSET)?;
+    let count = number_behind(table, darts);
+    table.resize(3 * darts + usize::from(count), 0)?;
+    count_behind(table, darts);
+    Ok(count)
 }
 
 /// The number of faces of a rotation of this many darts. It allocates nothing.

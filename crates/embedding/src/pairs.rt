@@ -18,7 +18,9 @@ impl Pairs {
     }
 
     /// Adds a pair.
-    pub(crate) fn insert(&mut self, first: u8, second: u8)
+    pub(crate) fn insert(&mut self, first: u16, second: u16)
+        requires first { first < 256 }
+        requires second { second < 256 }
         ensures same { HasPair self.new.words first second }
         ensures others { (a b : ℕ) → a < 256 → b < 256 → ¬ ((a ≡ first) × (b ≡ second))
             → (HasPair self.new.words a b ↔ HasPair self.old.words a b) }
@@ -28,7 +30,9 @@ impl Pairs {
     }
 
     /// Whether the pair was added.
-    pub(crate) fn contains(&self, first: u8, second: u8) -> bool
+    pub(crate) fn contains(&self, first: u16, second: u16) -> bool
+        requires first { first < 256 }
+        requires second { second < 256 }
         ensures { IsTrue result ↔ HasPair self.now.words first second }
     {
         let word = 4 * usize::from(first) + usize::from(second / 64);

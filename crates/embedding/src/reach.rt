@@ -1,24 +1,26 @@
 //! Breadth-first search (Moore 1959): which vertices are reached from the first one.
 
 ghost use Rattle.std.specs.Prelude.{◌≡◌, ℕ, ◌+◌, ◌<◌, ◌≤◌, ◌↔◌, ◌⊎◌, Bool, List, [], length, slice_index, slice_index_or, IsTrue, All, Contains};
+ghost use Rattle.embedding.specs.declared.lists.TheConstants.{NUMBERS};
 ghost use Rattle.embedding.specs.Lists.{list_of};
 ghost use Rattle.embedding.specs.Rules.{Breaks};
 ghost use Rattle.embedding.specs.Reached.{IsQueue, IsReached, Holds};
 
-use crate::lists::Lists;
+use crate::lists::{Lists, NUMBERS};
 use crate::rules::Rule;
 
 /// The vertices reached so far, as flags and in the order in which they were reached.
 #[derive(Drop)]
 struct ReachedVertices {
-    reached: [bool; 256],
-    queue: [u8; 256],
+    reached: [bool; NUMBERS],
+    queue: [u16; NUMBERS],
     found: usize,
 }
 
 /// Flags a vertex as reached.
-fn reach(vertices: &mut ReachedVertices, vertex: u8)
-    requires { IsQueue vertices.old.reached vertices.old.queue vertices.old.found }
+fn reach(vertices: &mut ReachedVertices, vertex: u16)
+    requires small { vertex < NUMBERS }
+    requires queue { IsQueue vertices.old.reached vertices.old.queue vertices.old.found }
     ensures queue { IsQueue vertices.new.reached vertices.new.queue vertices.new.found }
     ensures reached { Holds vertices.new.reached vertex }
     ensures others { (v : ℕ) → Holds vertices.new.reached v
@@ -36,8 +38,9 @@ fn reach(vertices: &mut ReachedVertices, vertex: u8)
 }
 
 /// Flags each entry of a list as reached.
-fn reach_all(vertices: &mut ReachedVertices, list: &[u8])
-    requires { IsQueue vertices.old.reached vertices.old.queue vertices.old.found }
+fn reach_all(vertices: &mut ReachedVertices, list: &[u16])
+    requires small { All (λ v. v < NUMBERS) list.now }
+    requires queue { IsQueue vertices.old.reached vertices.old.queue vertices.old.found }
     ensures queue { IsQueue vertices.new.reached vertices.new.queue vertices.new.found }
     ensures reached { All (Holds vertices.new.reached) list.now }
     ensures others { (v : ℕ) → Holds vertices.new.reached v
@@ -53,12 +56,13 @@ fn reach_all(vertices: &mut ReachedVertices, list: &[u8])
 }
 
 /// The vertices that are reached from vertex 1 along the lists, each list read once.
-fn reached_from_first(lists: &Lists<'_>) -> [bool; 256]
+fn reached_from_first(lists: &Lists<'_>) -> [bool; NUMBERS]
+    requires { ¬ Breaks lists.now Rule.Range }
     ensures { IsReached lists.now result }
 {
     let mut vertices = ReachedVertices {
-        reached: [false; 256],
-        queue: [0; 256],
+        reached: [false; NUMBERS],
+        queue: [0; NUMBERS],
         found: 0,
     };
     reach(&mut vertices, 1);
@@ -73,6 +77,7 @@ fn reached_from_first(lists: &Lists<'_>) -> [bool; 256]
 
 /// Whether some vertex is not reached from the first one.
 pub(crate) fn breaks_disconnected(lists: &Lists<'_>) -> bool
+    requires { ¬ Breaks lists.now Rule.Range }
     ensures { IsTrue result ↔ Breaks lists.now Rule.Disconnected }
 {
     let reached = reached_from_first(lists);

@@ -8,10 +8,10 @@ ghost use Rattle.embedding.specs.Rows.{HasBit, IsRow, IsRows, IsClosedUnderRows}
 use crate::lists::Lists;
 
 /// The maximum number of vertices of a small graph: a `u64` has a bit for each, and two more.
-const FEW: u8 = 62;
+const FEW: u16 = 62;
 
 /// Whether an entry may be that of another vertex, of n.
-fn is_other(entry: u8, vertex: u8, n: u8) -> bool
+fn is_other(entry: u16, vertex: u16, n: u16) -> bool
     ensures { IsTrue result → (entry ≤ n) × (entry ≢ vertex) }
 {
     (entry <= n) & (entry != vertex)
@@ -19,7 +19,7 @@ fn is_other(entry: u8, vertex: u8, n: u8) -> bool
 
 /// A bit set of the entries of a vertex's list; also adds the vertex's bit to the columns of these entries. `None` if
 /// the list is empty or has more than four entries, or an entry is no other vertex or occurs twice.
-fn row_of(list: &[u8], vertex: u8, n: u8, columns: &mut [u64; 64]) -> Option<u64>
+fn row_of(list: &[u16], vertex: u16, n: u16, columns: &mut [u64; 64]) -> Option<u64>
     requires vertex { vertex ≤ FEW }
     requires few { n ≤ FEW }
     ensures row { OnSome result (IsRow n vertex list.now) }
@@ -64,7 +64,7 @@ fn fill_rows(rows: &mut [u64; 64], columns: &mut [u64; 64], lists: &Lists<'_>) -
 }
 
 /// Whether the rows lead from vertex 1 to each of n vertices, each row read once.
-fn reaches_all(rows: &[u64; 64], n: u8) -> bool
+fn reaches_all(rows: &[u64; 64], n: u16) -> bool
     requires { n ≤ FEW }
     ensures { IsTrue result → (s : ℕ → Bool) → s 1 ≡ true → IsClosedUnderRows rows.now s
         → (v : ℕ) → 0 < v → v ≤ n → s v ≡ true }

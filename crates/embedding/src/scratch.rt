@@ -8,7 +8,7 @@ use std::alloc::Global;
 /// record with no more vertices and no more darts than one before it had; if one is not, the next graph allocates both.
 #[derive(Drop)]
 pub struct Scratch {
-    pub(crate) heads: Vec<u8>,
+    pub(crate) heads: Vec<u16>,
     pub(crate) table: Vec<u16>,
 }
 

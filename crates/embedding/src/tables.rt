@@ -1,6 +1,7 @@
 //! The fields of a graph, made from lists that keep rules 1 to 7. Each reuses an old buffer if it is large enough.
 
 ghost use Rattle.std.specs.Prelude.{◌≡◌, ℕ, ◌+◌, ◌*◌, ◌<◌, ◌≤◌, ◌++◌, List, drop, take, length, vec_capacity, IfOk, OnOk, Contains};
+ghost use Rattle.common.specs.declared.limits.TheConstants.{MAX_VERTICES};
 ghost use Rattle.embedding.specs.Lists.{list_of};
 ghost use Rattle.embedding.specs.Darts.{dart_count, first_dart, head_of, tail_of, reverse_of, after_of};
 ghost use Rattle.embedding.specs.Rules.{KeepsBefore};
@@ -12,7 +13,7 @@ use common::emptied;
 use std::alloc::AllocError;
 
 /// The reverse of the dart from `tail` to `head`, which is in the list of `tail`.
-fn reverse_between(lists: &Lists<'_>, tail: u8, head: u8) -> u16
+fn reverse_between(lists: &Lists<'_>, tail: u16, head: u16) -> u16
     requires rules { KeepsBefore lists.now 8 }
     requires listed { Contains (list_of lists.now tail) head }
     ensures { (d : ℕ) → d < dart_count lists.now
@@ -32,7 +33,7 @@ fn after_in(next: u16, first: u16, end: u16) -> u16
 }
 
 /// Adds the heads of the darts of the list at a place.
-fn add_heads(heads: &mut Vec<u8>, lists: &Lists<'_>, place: u8)
+fn add_heads(heads: &mut Vec<u16>, lists: &Lists<'_>, place: u16)
     requires within { place < length lists.now }
     requires heads { IsTable (first_dart lists.now place) (head_of lists.now) heads.old.items }
     requires room { dart_count lists.now ≤ vec_capacity heads.old }
@@ -47,7 +48,7 @@ fn add_heads(heads: &mut Vec<u8>, lists: &Lists<'_>, place: u8)
 
 /// Writes the rotation of the darts of the list at a place. Each list has at most four entries, so to search one for a
 /// reverse takes constant time.
-fn write_list_rotation(rotation: &mut [u16], lists: &Lists<'_>, place: u8)
+fn write_list_rotation(rotation: &mut [u16], lists: &Lists<'_>, place: u16)
     requires rules { KeepsBefore lists.now 8 }
     requires within { place < length lists.now }
     requires size { length rotation.old ≡ 2 * dart_count lists.now }
@@ -106,7 +107,7 @@ fn add_starts(table: &mut Vec<u16>, lists: &Lists<'_>) -> Result<(), AllocError>
 /// all darts, their faces, the degrees of the faces, and where each list begins.
 #[derive(Drop)]
 pub(crate) struct DartTables {
-    pub(crate) heads: Vec<u8>,
+    pub(crate) heads: Vec<u16>,
     pub(crate) table: Vec<u16>,
     pub(crate) faces: u16,
 }
@@ -114,12 +115,12 @@ pub(crate) struct DartTables {
 /// The fields of the graph of these lists, in old buffers if these are large enough. The room is just what a plane
 /// needs.
 pub(crate) fn darts_in(
-    old_heads: Vec<u8>,
+    old_heads: Vec<u16>,
     old_table: Vec<u16>,
     lists: &Lists<'_>,
 ) -> Result<DartTables, AllocError>
     requires rules { KeepsBefore lists.now 8 }
-    requires few { length lists.now < 256 }
+    requires few { length lists.now ≤ MAX_VERTICES }
     ensures kept { IfOk result (λ t. AreTables lists.now t.heads.items t.faces t.table.items) }
     ensures lists { IfOk result (λ t.
         slices_at (drop (3 * length t.heads.items + t.faces) t.table.items) t.heads.items ≡ lists.now) }

@@ -1,5 +1,6 @@
 -- The entries that were kept of a file are its book, and one book more goes with those in front of it.
 use Rattle.std.proofs.Common.{◌≡◌, ℕ, ◌+◌, List, [], ◌∷◌, ◌++◌, map, length, All, get_or, arith, refl, sym, ap, subst, ◌∙◌}
+use Rattle.planar_code.specs.Stream.{lists_of}
 use Rattle.streams.specs.declared.frames.Mark.{Mark}
 use Rattle.common.specs.declared.choice.Choice.{Choice}
 use Rattle.lanes.specs.Notes.{About, numbered, Item}
@@ -21,7 +22,7 @@ abouts-entries [] = refl
 abouts-entries (entry ∷ entries) = ap (λ l. about_of entry ∷ l) (abouts-entries entries)
 
 -- each entry keeps that its answer is one for its record
-pub all_answered : (entries : List Entry) → All (λ entry. ∥ Answers entry.choice entry.rec entry.answer ∥₁) entries
+pub all_answered : (entries : List Entry) → All (λ entry. ∥ Answers entry.choice (lists_of entry.rec) entry.answer ∥₁) entries
 all_answered entries = λ k d below. (get_or entries k d).answers
 
 pub whole_kept : (choice : Choice) (meaning : Meaning) (file : ℕ) (entries : List Entry) (count : ℕ) (mark : Mark)

@@ -1,6 +1,5 @@
--- The condition that an answer is right for a record.
+-- The condition that an answer is right for a graph, given by its neighbour lists.
 use Rattle.std.specs.Prelude.{◌≡◌, ℕ, List, Result, IfOk, ⊤}
-use Rattle.planar_code.specs.Stream.{lists_of}
 use Rattle.embedding.specs.Rules.{FirstBroken}
 use Rattle.common.specs.declared.choice.Choice.{Choice}
 use Rattle.faces.specs.Planes.{PlaneModel, IsPlane}
@@ -15,11 +14,11 @@ use Rattle.entries.specs.declared.answer.Answer.TheVariants.{Laid, Refused, NoMe
 use Rattle.entries.specs.Drawn.{IsDrawn}
 use Rattle.entries.specs.Lengths.{IsNoLonger, IsNear}
 
--- the plane of the record's bytes with the chosen outer face, a shape of it with the fewest bends, prices that prove so, and a drawing of the shape
+-- the plane of the lists with the chosen outer face, a shape of it with the fewest bends, prices that prove so, and a drawing of the shape
 -- or the cause in its place
-pub record IsLaid (choice : Choice) (bytes : List ℕ) (plane : PlaneModel) (shape : ShapeModel) (prices : PricesModel) (drawing : Result PointsModel Cause) : Type 0 where
-  -- the plane has the record's neighbour lists
-  pub lists : plane.lists ≡ lists_of bytes
+pub record IsLaid (choice : Choice) (g : List (List ℕ)) (plane : PlaneModel) (shape : ShapeModel) (prices : PricesModel) (drawing : Result PointsModel Cause) : Type 0 where
+  -- the plane has these neighbour lists
+  pub lists : plane.lists ≡ g
   -- no rule is broken, and the faces are those of the lists
   pub rules : IsPlane plane
   -- the outer face is the chosen one
@@ -36,10 +35,10 @@ pub record IsLaid (choice : Choice) (bytes : List ℕ) (plane : PlaneModel) (sha
   -- coordinates are less than three times the vertices, twice the bends, and five
   pub near : IfOk drawing (IsNear plane shape)
 
--- the answer is right for a record of these bytes under this choice
-abbrev pub Answers : Choice → List ℕ → Answer → Type 0
-Answers choice bytes (Laid plane shape prices drawing) = IsLaid choice bytes plane shape prices drawing
+-- the answer is right for a graph with these neighbour lists under this choice
+abbrev pub Answers : Choice → List (List ℕ) → Answer → Type 0
+Answers choice g (Laid plane shape prices drawing) = IsLaid choice g plane shape prices drawing
 -- the rule is broken, and none before it
-Answers choice bytes (Refused rule) = FirstBroken (lists_of bytes) rule
+Answers choice g (Refused rule) = FirstBroken g rule
 -- nothing more is said
-Answers choice bytes NoMemory = ⊤
+Answers choice g NoMemory = ⊤

@@ -1,5 +1,6 @@
 -- The result of a run: a book for each file.
 use Rattle.std.specs.Prelude.{ℕ, ◌+◌, List, [], ◌∷◌, All, ⊤}
+use Rattle.planar_code.specs.Stream.{lists_of}
 use Rattle.streams.specs.declared.frames.Mark.{Mark}
 use Rattle.common.specs.declared.choice.Choice.{Choice}
 use Rattle.lanes.specs.Opening.{Meaning}
@@ -18,7 +19,7 @@ pub record BookModel : Type 0 where
 -- answer is right for its record under its choice.
 pub record IsBook (choice : Choice) (meaning : Meaning) (file : ℕ) (book : BookModel) : Type 0 where
   pub whole : IsWhole about_of choice meaning file book.entries book.mark
-  pub answered : All (λ entry. ∥ Answers entry.choice entry.rec entry.answer ∥₁) book.entries
+  pub answered : All (λ entry. ∥ Answers entry.choice (lists_of entry.rec) entry.answer ∥₁) book.entries
 
 -- the books of consecutive files, the first of which has this number
 abbrev pub AreBooks : Choice → (ℕ → Meaning) → ℕ → List BookModel → Type 0

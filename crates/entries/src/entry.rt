@@ -1,5 +1,6 @@
 //! Records with their answers.
 
+ghost use Rattle.planar_code.specs.Stream.{lists_of};
 ghost use Rattle.entries.specs.Answers.{Answers};
 
 use crate::answer::Answer;
@@ -18,7 +19,7 @@ pub struct Entry {
     /// The rule by which the outer face of its plane is chosen.
     pub choice: Choice,
     pub answer: Answer,
-    pub ghost answers: { ∥ Answers choice rec answer ∥₁ },
+    pub ghost answers: { ∥ Answers choice (lists_of rec) answer ∥₁ },
 }
 
 impl Numbered for Entry {

@@ -1,6 +1,7 @@
 -- A plane by any value of its one numbering.
 use Rattle.std.proofs.Common.{◌≡◌, ℕ, zero, suc, ◌+◌, ◌-◌, ◌*◌, ◌<◌, ◌≤◌, List, length, subst, inl, inr, arith}
 use Rattle.std.proofs.lemmas.Bool.{cases_eq}
+use Rattle.common.specs.declared.limits.TheConstants.{MAX_VERTICES}
 use Rattle.embedding.specs.Darts.{dart_count, next_of}
 use Rattle.embedding.specs.Faces.{HasFaces}
 use Rattle.embedding.specs.Rules.{KeepsBefore}
@@ -13,7 +14,7 @@ use Rattle.faces.proofs.Outer.{plane_from, outer_from}
 abbrev IsPlaneBy : (g : List (List ℕ)) → ℕ → Numbering g → Type 0
 IsPlaneBy g outer x = IsPlane (model_of g x.0.0 x.0.1 outer)
 
-pub plane_by : (g : List (List ℕ)) (faces : List ℕ) (count outer : ℕ) → KeepsBefore g 8 → length g ≤ 255 → length faces ≡ dart_count g → HasFaces (dart_count g) (next_of g) (at faces) count
+pub plane_by : (g : List (List ℕ)) (faces : List ℕ) (count outer : ℕ) → KeepsBefore g 8 → length g ≤ MAX_VERTICES → length faces ≡ dart_count g → HasFaces (dart_count g) (next_of g) (at faces) count
     → 2 * (length g + count) ≡ dart_count g + 4 → outer < count → (y : Numbering g) → IsPlane (model_of g y.0.0 y.0.1 outer)
 plane_by g faces count outer rules order size numbered euler named y =
     let x : Numbering g = ((faces, count), ∣ (size, numbered) ∣₁) in

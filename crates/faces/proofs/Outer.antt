@@ -1,6 +1,7 @@
 -- What is known once the faces are numbered: they make a plane, and the first greatest face is the outer one.
 use Rattle.std.proofs.Common.{◌≡◌, ℕ, ◌+◌, ◌*◌, ◌<◌, ◌≤◌, List, length, inl, inr, ◌∙◌, arith}
 use Rattle.std.proofs.lemmas.Bool.{cases_order}
+use Rattle.common.specs.declared.limits.TheConstants.{MAX_VERTICES}
 use Rattle.embedding.specs.Darts.{dart_count, next_of}
 use Rattle.embedding.specs.Faces.{HasFaces}
 use Rattle.embedding.specs.Rules.{KeepsBefore}
@@ -13,7 +14,7 @@ use Rattle.faces.specs.Greatest.{IsFirstGreatest}
 pub all_rules : (g : List (List ℕ)) (face : ℕ → ℕ) (f : ℕ) → KeepsBefore g 8 → HasFaces (dart_count g) (next_of g) face f → 2 * (length g + f) ≡ dart_count g + 4 → KeepsBefore g 9
 all_rules g face f rules faces euler = eight_rules g rules (keeps_genus g face f faces euler)
 
-pub plane_from : (p : PlaneModel) → KeepsBefore p.lists 8 → vertices p ≤ 255 → length p.face ≡ darts p → HasFaces (darts p) (next p) (face_at p) p.faces → 2 * (vertices p + p.faces) ≡ darts p + 4 → p.outer < p.faces → IsPlane p
+pub plane_from : (p : PlaneModel) → KeepsBefore p.lists 8 → vertices p ≤ MAX_VERTICES → length p.face ≡ darts p → HasFaces (darts p) (next p) (face_at p) p.faces → 2 * (vertices p + p.faces) ≡ darts p + 4 → p.outer < p.faces → IsPlane p
 plane_from p rules order size faces euler outer = record {
   order = order;
   rules = all_rules p.lists (face_at p) p.faces rules faces euler;

@@ -1,5 +1,6 @@
 -- The model of a plane: the neighbour lists of its graph, the face of each dart, the outer face.
 use Rattle.std.specs.Prelude.{◌≡◌, ℕ, ◌+◌, ◌*◌, ◌<◌, ◌≤◌, ◌≢◌, List, length, slice_index}
+use Rattle.common.specs.declared.limits.TheConstants.{MAX_VERTICES}
 use Rattle.embedding.specs.declared.graphs.TheConstants.{MAX_DARTS}
 use Rattle.embedding.specs.Darts.{dart_count, head_of, tail_of, reverse_of, after_of, next_of, IsOneToOne}
 use Rattle.embedding.specs.Faces.{HasFaces}
@@ -58,7 +59,7 @@ degree p k = degree_in (darts p) (face_at p) k
 
 -- a plane: no rule is broken, the faces are those of its darts, and the outer face is one of them
 pub record IsPlane (p : PlaneModel) : Type 0 where
-  pub order : vertices p ≤ 255
+  pub order : vertices p ≤ MAX_VERTICES
   pub rules : KeepsBefore p.lists 9
   pub size : length p.face ≡ darts p
   pub faces : HasFaces (darts p) (next p) (face_at p) p.faces

@@ -9,13 +9,13 @@ ghost use Rattle.faces.specs.Numbering.{Numbering, Numbering-prop};
 ghost use Rattle.faces.specs.Greatest.{IsFirstGreatest};
 
 use crate::scratch::Scratch;
-use embedding::Graph;
+use embedding::{Graph, MAX_VERTICES};
 use std::alloc::Global;
 use std::marker::Model;
 use thiserror::Error;
 
-/// The maximum number of faces of a plane: 510 edges - 255 vertices + 2.
-pub const MAX_FACES: usize = 257;
+/// The maximum number of faces of a plane: 2,400 edges - 1,200 vertices + 2.
+pub const MAX_FACES: usize = MAX_VERTICES + 2;
 
 /// A connected graph of maximum degree at most 4 embedded on the sphere, with its faces, one of them the outer face.
 ///
@@ -106,7 +106,7 @@ impl Plane {
         ensures err { IfErr result (IsTraceFault graph) }
         ensures never { result ≢ Err (TraceFault.Memory graph) }
     {
-        if u16::from(graph.vertices()) + graph.face_count() != graph.edges() + 2 {
+        if graph.vertices() + graph.face_count() != graph.edges() + 2 {
             return Err(TraceFault::Genus(graph));
         }
         let outer = greatest_face(&graph);
@@ -161,7 +161,7 @@ impl Plane {
         unreachable!()
     }
 
-    /// The number of faces, 1 to 257.
+    /// The number of faces, 1 to 1,202.
     pub fn face_count(&self) -> u16
         ensures value { result ≡ self.now.faces }
         ensures some { 0 < result }

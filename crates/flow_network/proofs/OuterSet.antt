@@ -7,7 +7,7 @@ use Rattle.embedding.specs.declared.graphs.TheConstants.{MAX_DARTS}
 use Rattle.faces.specs.Planes.{PlaneModel, IsPlane, darts, vertices, face_at, degree, with_outer}
 use Rattle.faces.proofs.Ends.{plane_ends}
 use Rattle.faces.proofs.Degrees.{degree_few}
-use Rattle.networks.specs.Networks.{NetworkModel, supply_at, shifted, HasSuppliesInRange}
+use Rattle.networks.specs.Networks.{NetworkModel, supply_at, shifted, IsInSupplyRange, HasSuppliesInRange}
 use Rattle.networks.proofs.Moving.{delta, moved_at, length-moved}
 use Rattle.flow_network.specs.FaceNet.{IsKeepingNet, vertex_degree}
 use Rattle.flow_network.proofs.VertexDegrees.{arrivals_most}
@@ -49,10 +49,10 @@ net_set p net face outer inside is =
           (at (vertices p + f))));
     }
 
-vertex_fair : (z : ℤ) (k : ℕ) → z ≡ pos 4 -ℤ pos k → k ≤ 4 → (negsuc 2047 ≤ℤ z) × (z ≤ℤ pos 2048)
+vertex_fair : (z : ℤ) (k : ℕ) → z ≡ pos 4 -ℤ pos k → k ≤ 4 → IsInSupplyRange z
 vertex_fair z k is few = (omega (arith, ints), omega (arith, ints))
 
-face_fair : (b : Bool) (z : ℤ) (k : ℕ) → z ≡ (if b then negsuc 3 else pos 4) -ℤ pos k → k ≤ MAX_DARTS → (negsuc 2047 ≤ℤ z) × (z ≤ℤ pos 2048)
+face_fair : (b : Bool) (z : ℤ) (k : ℕ) → z ≡ (if b then negsuc 3 else pos 4) -ℤ pos k → k ≤ MAX_DARTS → IsInSupplyRange z
 face_fair true z k is few = (omega (arith, ints), omega (arith, ints))
 face_fair false z k is few = (omega (arith, ints), omega (arith, ints))
 

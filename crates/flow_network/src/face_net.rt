@@ -1,6 +1,7 @@
 //! The flow network of a plane for the fewest bends (Tamassia 1987).
 
 ghost use Rattle.std.specs.Prelude.{◌≡◌, [], ◌+◌, ◌-◌, ◌<◌, ◌≤◌, ℕ, IfOk, vec_len};
+ghost use Rattle.common.specs.declared.limits.TheConstants.{MAX_VERTICES};
 ghost use Rattle.embedding.specs.declared.graphs.TheConstants.{MAX_DARTS};
 ghost use Rattle.faces.specs.Planes.{darts, vertices, with_outer};
 ghost use Rattle.networks.specs.Networks.{shifted};
@@ -35,6 +36,7 @@ pub struct FaceNet {
 
 impl Model for FaceNet {
     ghost use Rattle.std.specs.Prelude.{◌≤◌};
+    ghost use Rattle.common.specs.declared.limits.TheConstants.{MAX_VERTICES};
     ghost use Rattle.embedding.specs.declared.graphs.TheConstants.{MAX_DARTS};
     ghost use Rattle.flow_network.specs.FaceNet.{FaceNetModel};
 
@@ -42,7 +44,7 @@ impl Model for FaceNet {
 
     ghost view = { λ n. record { network = n.network; vertices = n.vertices; darts = n.darts } };
 
-    ghost invariant = { λ n. (n.vertices ≤ 255) × (n.darts ≤ MAX_DARTS) };
+    ghost invariant = { λ n. (n.vertices ≤ MAX_VERTICES) × (n.darts ≤ MAX_DARTS) };
 }
 
 impl FaceNet {
@@ -157,7 +159,7 @@ impl FaceNet {
     }
 
     /// The node of a vertex; vertices are numbered from 1.
-    pub fn vertex_node(&self, vertex: u8) -> u32
+    pub fn vertex_node(&self, vertex: u16) -> u32
         requires { 1 ≤ vertex }
         ensures { result ≡ vertex - 1 }
     {

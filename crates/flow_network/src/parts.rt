@@ -14,7 +14,7 @@ use min_cost_flow::{Arc, Cap};
 use std::alloc::AllocError;
 
 /// How many darts arrive at a vertex, which counts from 1: its degree.
-fn degree_of(plane: &Plane, vertex: u8) -> u8
+fn degree_of(plane: &Plane, vertex: u16) -> u8
     requires some { 0 < vertex }
     requires within { vertex ≤ vertices plane.now }
     ensures { result ≡ vertex_degree plane.now vertex }

@@ -162,7 +162,7 @@ const COSTS: [(&[i32], &[(u32, u32, Cap, u32)], Result<u64, SolveFault>); 13] = 
         ],
         Ok(2),
     ),
-    (&[2048, -2048], &[(0, 1, Cap::Any, 1)], Ok(2048)),
+    (&[12_008, -12_008], &[(0, 1, Cap::Any, 1)], Ok(12_008)),
 ];
 
 /// The least costs of small networks are those found by hand, also with unusual arcs.
@@ -174,12 +174,66 @@ fn special_arcs_serve(rt: HostRuntime) {
     }
 }
 
+/// A chain of nodes, this many steps long, at most 3,000: these arcs, given as `(cap, cost)`, lead from each node to the
+/// next, and 12,008 units go from the first to the last.
+fn chain(
+    rt: &impl Abort,
+    alloc: Global,
+    steps: u32,
+    links: &[(Cap, u32)],
+) -> Result<Network, NetFault> {
+    let steps = steps.min(3000);
+    let mut supplies = vec![in alloc; 0i32; steps as usize + 1].expect(rt, "memory");
+    supplies[0] = 12_008;
+    supplies[steps as usize] = -12_008;
+    let mut arcs = Vec::new(alloc);
+    for start in 0..steps {
+        for (cap, cost) in links {
+            let pushed = arcs.push((start, start + 1, *cap, *cost));
+            pushed.expect(rt, "memory");
+        }
+    }
+    network(rt, alloc, &supplies, &arcs)
+}
+
+/// Four arcs for a quarter of the units each; two of them are free.
+const QUARTERS: [(Cap, u32); 4] = [
+    (Cap::AtMost(3002), 1),
+    (Cap::AtMost(3002), 0),
+    (Cap::AtMost(3002), 0),
+    (Cap::AtMost(3002), 1),
+];
+
+/// As many nodes, arcs and units as there may be have the least costs found by hand: 2,401 steps at 12,008 each, and
+/// 2,400 steps at 6,004 each.
+#[test]
+fn networks_of_the_maximum_size_serve(rt: HostRuntime) {
+    let wide = chain(&rt, rt.alloc(), 2401, &[(Cap::Any, 1)]).expect(&rt, "a network");
+    let found = (wide.node_count(), least_cost(rt.alloc(), &wide));
+    same!(&rt, found, (2402, Ok(28_831_208)));
+    let dense = chain(&rt, rt.alloc(), 2400, &QUARTERS).expect(&rt, "a network");
+    let found = (dense.arc_count(), least_cost(rt.alloc(), &dense));
+    same!(&rt, found, (9600, Ok(14_409_600)));
+}
+
+/// A network with one node or one arc more than there may be is refused.
+#[test]
+fn larger_networks_are_refused(rt: HostRuntime) {
+    let wide = chain(&rt, rt.alloc(), 2402, &[(Cap::Any, 1)]);
+    same!(&rt, wide.err(), Some(NetFault::TooLarge));
+    for (count, fault) in [(9600, None), (9601, Some(NetFault::TooLarge))] {
+        let loops = vec![in rt.alloc(); (0u32, 0u32, Cap::Any, 0u32); count];
+        let dense = network(&rt, rt.alloc(), &[0], &loops.expect(&rt, "memory"));
+        same!(&rt, dense.err(), fault);
+    }
+}
+
 /// Supplies and an arc, and the first fault that they have.
 const FAULTS: [(&[i32], (u32, u32, Cap, u32), NetFault); 4] = [
-    (&[0; 1025], (0, 2000, Cap::Any, 0), NetFault::TooLarge),
-    (&[2049, -2049], (0, 2, Cap::Any, 0), NetFault::BadEnd),
-    (&[2049, -2049], (0, 1, Cap::Any, 2), NetFault::BadSupply),
-    (&[2048, -2048], (0, 1, Cap::Any, 2), NetFault::BadCost),
+    (&[0; 2403], (0, 3000, Cap::Any, 0), NetFault::TooLarge),
+    (&[12_009, -12_009], (0, 2, Cap::Any, 0), NetFault::BadEnd),
+    (&[12_009, -12_009], (0, 1, Cap::Any, 2), NetFault::BadSupply),
+    (&[12_008, -12_008], (0, 1, Cap::Any, 2), NetFault::BadCost),
 ];
 
 /// A network with several faults is refused with the first one.

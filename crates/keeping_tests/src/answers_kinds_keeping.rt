@@ -17,7 +17,7 @@ fn distance(from: Point, to: Point) -> u32 {
 }
 
 /// The point of a vertex, or the origin if there is none.
-fn vertex_of(points: &Points, vertex: u8) -> Point {
+fn vertex_of(points: &Points, vertex: u16) -> Point {
     match points.vertices().get(usize::from(vertex).wrapping_sub(1)) {
         Some(point) => *point,
         None => Point { x: 0, y: 0 },
@@ -102,7 +102,7 @@ fn path(alloc: Global, count: u8) -> Result<Vec<u8>, AllocError> {
 }
 
 /// The darts of a path of this many vertices, from its first one on.
-fn along_path(alloc: Global, count: u8) -> Result<Vec<DartEnds>, AllocError> {
+fn along_path(alloc: Global, count: u16) -> Result<Vec<DartEnds>, AllocError> {
     let mut list = Vec::new(alloc);
     for from in 1..count {
         list.push(DartEnds {
@@ -144,7 +144,7 @@ fn kept_paths_are_short_or_quick(rt: HostRuntime) {
     let alloc = rt.alloc();
     for count in [5, 40, 255] {
         let bytes = path(alloc, count).expect(&rt, "memory");
-        let straight = along_path(alloc, count).expect(&rt, "memory");
+        let straight = along_path(alloc, u16::from(count)).expect(&rt, "memory");
         let short = length_keeping(&rt, alloc, &bytes, &straight, DrawingKind::Short);
         let quick = length_keeping(&rt, alloc, &bytes, &straight, DrawingKind::Quick);
         let short = short.expect(&rt, "a drawing");

@@ -4,7 +4,7 @@
 ghost use Rattle.std.specs.Prelude.{◌≡◌, ◌<◌, ◌≤◌, ℕ, length, true, IfOk};
 ghost use Rattle.least_length.specs.declared.segments.TheConstants.{MAX_WIRES};
 ghost use Rattle.least_length.specs.Weights.{HasEnds};
-ghost use Rattle.least_length.specs.Lengths.{coordinates_in, segment_at, total_length, wire_at, IsShortest};
+ghost use Rattle.least_length.specs.Lengths.{coordinates_in, segment_at, total_length, wire_at, IsShortest, KeepsOrder};
 
 use crate::certificate::{certify, have_ends, have_levels, measure};
 use crate::scratch::Scratch;
@@ -23,7 +23,7 @@ use std::alloc::AllocError;
 /// to segments that are pulled down: over segments that are next to each other, and if these lead no further, all
 /// segments reached move up together (the primal-dual method for least-cost flow: Ahuja, Magnanti and Orlin, Network
 /// Flows, 1993). True is returned only if [`certify_lengths`](crate::certify_lengths) accepts the result. It is false if
-/// more than 4,096 pairs are met, if more than 65,536 wires or 65,533 segments are given, or if the input is other than
+/// more than 16,384 pairs are met, if more than 65,536 wires or 65,533 segments are given, or if the input is other than
 /// said above; that it is never false otherwise is measured and not proved. It reuses the caller's scratch and list; if
 /// it is false, what the list holds does not matter.
 ///
@@ -39,7 +39,11 @@ pub fn find_shortest(
     ensures least { IfOk result (λ found. found ≡ true → IsShortest segments.now wires.now (coordinates_in coordinates.new.items)) }
     ensures count { IfOk result (λ found. found ≡ true → length coordinates.new.items ≡ length segments.now) }
 {
-    if wires.len() > MAX_WIRES || !balance(scratch, segments, wires)? {
+    if wires.len() > MAX_WIRES {
+        return Ok(false);
+    }
+    let mut looks = u64::MAX;
+    if !balance(scratch, segments, wires, &mut looks)? {
         return Ok(false);
     }
     write_certified(scratch, segments, wires, coordinates)
@@ -47,38 +51,87 @@ pub fn find_shortest(
 
 /// Looks for coordinates that shorten the wires; if it finds any, writes those of least total length and returns true.
 ///
-/// Exactly as [`find_shortest`], but also false if the wires are no shorter than with the segments' own coordinates.
+/// Exactly as [`find_shortest`], but also false if the wires are no shorter than with the segments' own coordinates, or if
+/// the search would go over more segments than there are `looks`. It takes one of them for each segment, each time, and all
+/// if they are too few.
 pub fn find_shorter(
     scratch: &mut Scratch,
     segments: &[Segment],
     wires: &[Wire],
+    looks: &mut u64,
     coordinates: &mut Vec<u16>,
 ) -> Result<bool, AllocError>
     ensures least { IfOk result (λ found. found ≡ true → IsShortest segments.now wires.now (coordinates_in coordinates.new.items)) }
     ensures count { IfOk result (λ found. found ≡ true → length coordinates.new.items ≡ length segments.now) }
     ensures shorter { IfOk result (λ found. found ≡ true → total_length wires.now (coordinates_in coordinates.new.items) < total_length wires.now (λ r. (segment_at segments.now r).coordinate)) }
+    ensures looks { looks.new ≤ looks.old }
 {
-    if wires.len() > MAX_WIRES || !balance(scratch, segments, wires)? {
+    if wires.len() > MAX_WIRES {
+        return Ok(false);
+    }
+    if !balance(scratch, segments, wires, looks)? {
         return Ok(false);
     }
     if !scratch.pulling.has_moved() || !write_certified(scratch, segments, wires, coordinates)? {
         return Ok(false);
     }
-    Ok(measure(wires, coordinates.as_slice()) < measure_own(segments, wires))
+    Ok(is_shorter(segments, wires, coordinates.as_slice()))
+}
+
+/// Writes the coordinates that the last search came to, if segments keep their order with them and the wires are shorter
+/// than with the segments' own coordinates; returns whether that is so.
+///
+/// If a search of [`find_shorter`] had too few looks, this makes use of what it found until then: the same scratch, segments
+/// and wires are to be given. The total length need not be least.
+///
+/// # Errors
+///
+/// `AllocError` if there is no memory for the coordinates.
+pub fn take_shorter(
+    scratch: &mut Scratch,
+    segments: &[Segment],
+    wires: &[Wire],
+    coordinates: &mut Vec<u16>,
+) -> Result<bool, AllocError>
+    ensures keeps { IfOk result (λ found. found ≡ true → KeepsOrder segments.now (coordinates_in coordinates.new.items)) }
+    ensures count { IfOk result (λ found. found ≡ true → length coordinates.new.items ≡ length segments.now) }
+    ensures shorter { IfOk result (λ found. found ≡ true → total_length wires.now (coordinates_in coordinates.new.items) < total_length wires.now (λ r. (segment_at segments.now r).coordinate)) }
+{
+    if wires.len() > MAX_WIRES || !have_ends(segments, wires) {
+        return Ok(false);
+    }
+    if !scratch.pulling.write(coordinates)? {
+        return Ok(false);
+    }
+    if coordinates.len() != segments.len() {
+        return Ok(false);
+    }
+    let sweep = &mut scratch.balance.sweep;
+    if !sweep.keep_order(segments, coordinates.as_slice())? {
+        return Ok(false);
+    }
+    Ok(is_shorter(segments, wires, coordinates.as_slice()))
 }
 
 /// Searches for coordinates, and for weights in balance; returns false if there are too many segments or pairs, if a
-/// wire has an end that is no segment or a level above all segments, or if the search fails. If true, the weights may
-/// still not be in balance, since the search stops after `MAX_PULLS` pulls on a segment; they are tested later.
-fn balance(scratch: &mut Scratch, segments: &[Segment], wires: &[Wire]) -> Result<bool, AllocError>
+/// wire has an end that is no segment or a level above all segments, or if the search fails or has no looks left. If true,
+/// the weights may still not be in balance, since the search stops after `MAX_PULLS` pulls on a segment; they are tested
+/// later.
+fn balance(
+    scratch: &mut Scratch,
+    segments: &[Segment],
+    wires: &[Wire],
+    looks: &mut u64,
+) -> Result<bool, AllocError>
     requires { length wires.now ≤ MAX_WIRES }
-    ensures { IfOk result (λ found. found ≡ true → ((i : ℕ) → i < length wires.now → HasEnds segments.now (wire_at wires.now i))) }
+    ensures looks { looks.new ≤ looks.old }
+    ensures ends { IfOk result (λ found. found ≡ true → ((i : ℕ) → i < length wires.now → HasEnds segments.now (wire_at wires.now i))) }
 {
     let top = highest(segments);
     if segments.len() > MAX_SEGMENTS || !have_ends(segments, wires) || !have_levels(wires, top) {
         return Ok(false);
     }
-    scratch.pulling.balance(segments, wires, top)
+    scratch.pulling.balance(segments, wires, top, looks)
 }
 
 /// Writes the coordinates that the pulls led to, and returns whether the weights of pairs certify them as least.
@@ -101,6 +154,16 @@ fn write_certified(
         return Ok(false);
     }
     certify(balance, segments, wires, coordinates.as_slice(), sights)
+}
+
+/// Whether the wires are shorter with these coordinates than with the segments' own.
+fn is_shorter(segments: &[Segment], wires: &[Wire], coordinates: &[u16]) -> bool
+    requires few { length wires.now ≤ MAX_WIRES }
+    requires ends { (i : ℕ) → i < length wires.now → HasEnds segments.now (wire_at wires.now i) }
+    requires count { length coordinates.now ≡ length segments.now }
+    ensures { result ≡ true → total_length wires.now (coordinates_in coordinates.now) < total_length wires.now (λ r. (segment_at segments.now r).coordinate) }
+{
+    measure(wires, coordinates) < measure_own(segments, wires)
 }
 
 /// The total length of the wires with the segments' own coordinates.

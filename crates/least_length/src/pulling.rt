@@ -1,7 +1,7 @@
 //! The primal-dual method (Ahuja, Magnanti and Orlin, Network Flows, 1993, section 9.8): wires pull segments until all
 //! are in balance.
 
-ghost use Rattle.std.specs.Prelude.{◌≡◌, ◌<◌, ◌≤◌, ◌+◌, ℕ, [], length, vec_len, slice_index, IfOk, IfSome, OnOk};
+ghost use Rattle.std.specs.Prelude.{◌≡◌, ◌<◌, ◌≤◌, ◌+◌, ℕ, [], length, true, false, vec_len, slice_index, IfOk, IfSome, OnOk};
 ghost use Rattle.least_length.specs.declared.segments.TheConstants.{MAX_SEGMENTS, MAX_SIGHTS, MAX_WIRES};
 ghost use Rattle.least_length.specs.Lengths.{segment_at, wire_at};
 ghost use Rattle.least_length.specs.Weights.{HasEnds};
@@ -38,7 +38,7 @@ pub(crate) struct Pulling {
     marks: Vec<u16>,
     /// The segments that the search has reached.
     reached: Vec<u16>,
-    /// The segments reached that the search has not looked at yet.
+    /// The segments reached that the search has still to look at, since pairs may lead on from them.
     unlooked: Vec<u16>,
     /// Whether some segments have moved and others have not.
     moved: bool,
@@ -67,20 +67,24 @@ impl Pulling {
     }
 
     /// Searches for weights in balance at each segment, and coordinates with which weighted pairs are adjacent; returns
-    /// false if there are too many pairs or units cannot be sent. Balance is not proved, and missed after `MAX_PULLS`.
+    /// false if there are too many pairs, units cannot be sent or no looks are left. Balance is not proved, and missed
+    /// after `MAX_PULLS`.
     ///
-    /// The segments are in the order of their coordinates, and no level is above `top`.
+    /// The segments are in the order of their coordinates, and no level is above `top`. Each segment that the search goes
+    /// over takes one of the looks, each time.
     pub(crate) fn balance(
         &mut self,
         segments: &[Segment],
         wires: &[Wire],
         top: u16,
+        looks: &mut u64,
     ) -> Result<bool, AllocError>
         requires few { length segments.now ≤ MAX_SEGMENTS }
         requires wires { length wires.now ≤ MAX_WIRES }
         requires ends { (i : ℕ) → i < length wires.now → HasEnds segments.now (wire_at wires.now i) }
         requires levels { (i : ℕ) → i < length wires.now → (wire_at wires.now i).level ≤ top }
         requires crossed { (r : ℕ) → (segment_at segments.now r).high ≤ top }
+        ensures looks { looks.new ≤ looks.old }
     {
         self.sight_lists.list(segments, wires, top)?;
         if self.sight_lists.sights.len() > MAX_SIGHTS {
@@ -95,7 +99,7 @@ impl Pulling {
         self.marks.resize(segments.len(), UNREACHED)?;
         self.reached.clear();
         for root in 0..segments.len() as u16 {
-            if !self.relieve(root)? {
+            if !self.relieve(root, looks)? {
                 return Ok(false);
             }
         }
@@ -137,18 +141,23 @@ impl Pulling {
     }
 
     /// Sends units that pull a segment up to others, until no more pull it up than down, or `MAX_PULLS` times.
-    /// Returns false if a send fails, and true otherwise: also if units are left after `MAX_PULLS` sends.
-    fn relieve(&mut self, root: u16) -> Result<bool, AllocError>
+    /// Returns false if a send fails or no looks are left, and true otherwise: also if units are left after `MAX_PULLS`
+    /// sends.
+    fn relieve(&mut self, root: u16, looks: &mut u64) -> Result<bool, AllocError>
         requires ready { IsReady self.old }
         requires root { root < vec_len self.old.coordinates }
         ensures ready { OnOk result (IsReady self.new) }
         ensures count { vec_len self.new.coordinates ≡ vec_len self.old.coordinates }
+        ensures looks { looks.new ≤ looks.old }
     {
         for _ in 0..MAX_PULLS {
             if self.up[usize::from(root)] <= self.down[usize::from(root)] {
                 return Ok(true);
             }
-            if !self.send(root)? {
+            if !self.send(root, looks)? {
+                return Ok(false);
+            }
+            if !spend(looks, self.reached.len()) {
                 return Ok(false);
             }
         }
@@ -156,33 +165,41 @@ impl Pulling {
     }
 
     /// Sends units that pull a segment up along pairs to one that is pulled down. If no pair leads on, those reached
-    /// move up together until one does. Returns false if none is reached, or a coordinate or a weight has no room.
-    fn send(&mut self, root: u16) -> Result<bool, AllocError>
+    /// move up together until one does. Returns false if none is reached, a coordinate or a weight has no room, or no
+    /// looks are left: each time that it goes over the segments reached, it takes one for each.
+    fn send(&mut self, root: u16, looks: &mut u64) -> Result<bool, AllocError>
         requires ready { IsReady self.old }
         requires root { root < vec_len self.old.coordinates }
         requires pulled { slice_index self.old.down.items root < slice_index self.old.up.items root }
         ensures ready { OnOk result (IsReady self.new) }
         ensures count { vec_len self.new.coordinates ≡ vec_len self.old.coordinates }
+        ensures looks { looks.new ≤ looks.old }
     {
         clear_marks(self.marks.as_mut_slice(), self.reached.as_slice());
         self.marks[usize::from(root)] = ROOT;
         self.reached.clear();
         self.reached.push(root)?;
+        self.unlooked.clear();
+        self.unlooked.push(root)?;
         for _ in 0..self.marks.len() {
             if let Some(target) = self.search_pairs()? {
                 return Ok(self.augment(root, target));
             }
-            if !self.move_up() {
+            if !spend(looks, self.reached.len()) {
+                return Ok(false);
+            }
+            if !self.move_up()? {
                 return Ok(false);
             }
         }
         Ok(false)
     }
 
-    /// Reaches all segments to which pairs lead, up to the first one that is pulled down, which it returns. It searches
-    /// depth first, which finds one after fewer segments than their order does.
+    /// Reaches all segments to which pairs lead from those still to be looked at, up to the first one that is pulled down,
+    /// which it returns. It searches depth first, which finds one after fewer segments than their order does.
     fn search_pairs(&mut self) -> Result<Option<u16>, AllocError>
         requires ready { IsReady self.old }
+        requires unlooked { AreSegments (vec_len self.old.coordinates) self.old.unlooked.items }
         ensures ready { OnOk result (IsReady self.new) }
         ensures count { vec_len self.new.coordinates ≡ vec_len self.old.coordinates }
         ensures up { self.new.up ≡ self.old.up }
@@ -190,8 +207,6 @@ impl Pulling {
         ensures target { IfOk result (λ found. IfSome found (λ target. target < vec_len self.new.coordinates)) }
         ensures pulled { IfOk result (λ found. IfSome found (λ target. slice_index self.new.up.items target < slice_index self.new.down.items target)) }
     {
-        self.unlooked.clear();
-        self.unlooked.extend_from_slice(self.reached.as_slice())?;
         for _ in 0..self.marks.len() {
             let Some(segment) = self.unlooked.pop() else {
                 break;
@@ -259,35 +274,46 @@ impl Pulling {
     }
 
     /// Moves all segments reached up until one of them is adjacent to one that is not reached; returns whether there is
-    /// one, and whether there is room.
-    fn move_up(&mut self) -> bool
+    /// one, and whether there is room. From such ones alone pairs lead on then.
+    fn move_up(&mut self) -> Result<bool, AllocError>
         requires ready { IsReady self.old }
-        ensures ready { IsReady self.new }
+        ensures ready { OnOk result (IsReady self.new) }
+        ensures unlooked { OnOk result (AreSegments (vec_len self.new.coordinates) self.new.unlooked.items) }
         ensures count { vec_len self.new.coordinates ≡ vec_len self.old.coordinates }
         ensures up { self.new.up ≡ self.old.up }
         ensures down { self.new.down ≡ self.old.down }
     {
-        let slack = self.least_slack();
+        let slack = self.least_slack()?;
         if slack == u32::MAX {
-            return false;
+            return Ok(false);
         }
         self.moved = true;
-        raise(
+        let is_room = raise(
             self.coordinates.as_mut_slice(),
             self.reached.as_slice(),
             slack,
-        )
+        );
+        Ok(is_room)
     }
 
-    /// How far all segments reached can move up together; `u32::MAX` if none is in their way.
-    fn least_slack(&self) -> u32
-        requires { IsReady self.now }
+    /// How far all segments reached can move up together; `u32::MAX` if none is in their way. Those that can move no
+    /// further are then still to be looked at.
+    fn least_slack(&mut self) -> Result<u32, AllocError>
+        requires { IsReady self.old }
+        ensures ready { OnOk result (IsReady self.new) }
+        ensures unlooked { OnOk result (AreSegments (vec_len self.new.coordinates) self.new.unlooked.items) }
+        ensures count { vec_len self.new.coordinates ≡ vec_len self.old.coordinates }
+        ensures up { self.new.up ≡ self.old.up }
+        ensures down { self.new.down ≡ self.old.down }
     {
         let mut least = u32::MAX;
-        for segment in self.reached.as_slice() {
-            least = least.min(self.slack_of(*segment));
+        self.unlooked.clear();
+        for place in 0..self.reached.len() {
+            let segment = self.reached[place];
+            let slack = self.slack_of(segment);
+            least = note_least(&mut self.unlooked, segment, slack, least)?;
         }
-        least
+        Ok(least)
     }
 
     /// How far this segment can move up towards segments that are not reached; `u32::MAX` if none is in its way.
@@ -377,6 +403,42 @@ impl Pulling {
         }
         Ok(true)
     }
+}
+
+/// Lists a segment that can move so far, if those listed can move no less: besides them, or in their place if they can move
+/// further. Returns how far those listed can move.
+fn note_least(
+    listed: &mut Vec<u16>,
+    segment: u16,
+    slack: u32,
+    least: u32,
+) -> Result<u32, AllocError>
+    ensures { OnOk result ((count : ℕ) → segment < count → AreSegments count listed.old.items → AreSegments count listed.new.items) }
+{
+    if slack > least {
+        return Ok(least);
+    }
+    if slack < least {
+        listed.clear();
+        listed.push(segment)?;
+        return Ok(slack);
+    }
+    listed.push(segment)?;
+    Ok(least)
+}
+
+/// Takes this many looks from those that are left; false if there are fewer, and then none is left.
+fn spend(looks: &mut u64, count: usize) -> bool
+    ensures left { result ≡ true → looks.old ≡ looks.new + count }
+    ensures none { result ≡ false → looks.new ≡ 0 }
+    ensures fewer { looks.new ≤ looks.old }
+{
+    let Some(left) = looks.checked_sub(count as u64) else {
+        *looks = 0;
+        return false;
+    };
+    *looks = left;
+    true
 }
 
 /// The least of these coordinates.

@@ -7,7 +7,7 @@ pub const MAX_WIRES: usize = 65_536;
 pub(crate) const MAX_SEGMENTS: usize = 65_533;
 
 /// The maximum number of pairs of segments with a weight, of a search or a certificate.
-pub const MAX_SIGHTS: usize = 4_096;
+pub const MAX_SIGHTS: usize = 16_384;
 
 /// A segment: its coordinate along the axis, and the levels that it crosses, from the lowest to the highest.
 #[derive(Clone, Copy, Debug, PartialEq, Eq)]

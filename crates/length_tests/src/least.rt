@@ -1,6 +1,6 @@
 //! Segments whose least length is known by hand.
 use crate::made::{Drawn, segments_of, wires_of};
-use least_length::{Scratch, Wire, find_shortest};
+use least_length::{Scratch, Wire, find_shorter, find_shortest, take_shorter};
 use std::alloc::{AllocError, Global};
 use test_tools::same;
 
@@ -150,6 +150,45 @@ pub(crate) fn length_of(wires: &[Wire], coordinates: &[u16]) -> u32 {
         total = total.saturating_add(u32::from(from.abs_diff(to)));
     }
     total
+}
+
+/// Three segments on a line. The search goes over the first one, which moves to the second; over these two, which move to
+/// the third; and over all three.
+const LINE: Drawn<'static> = Drawn {
+    segments: &[(0, 3, 3), (5, 3, 3), (9, 3, 3)],
+    wires: &[(0, 1), (1, 2)],
+};
+
+/// What a search with some looks finds: whether it ends, the total length with the coordinates that it came to, if that is
+/// less, and how many looks are left.
+type Found = (bool, Option<u32>, u64);
+
+/// What a search with this many looks finds.
+fn found_within(alloc: Global, drawn: Drawn<'_>, looks: u64) -> Result<Found, AllocError> {
+    let segments = segments_of(alloc, drawn.segments)?;
+    let wires = wires_of(alloc, &segments, drawn.wires)?;
+    let (mut scratch, mut coordinates) = (Scratch::empty(alloc), Vec::new(alloc));
+    let mut left = looks;
+    let ends = find_shorter(&mut scratch, &segments, &wires, &mut left, &mut coordinates)?;
+    if !ends && !take_shorter(&mut scratch, &segments, &wires, &mut coordinates)? {
+        return Ok((ends, None, left));
+    }
+    Ok((ends, Some(length_of(&wires, &coordinates)), left))
+}
+
+/// A search that takes six looks needs them all. If there are fewer, it takes those, and the segments that moved until then
+/// stay where they are.
+#[test]
+fn searches_take_their_looks(rt: HostRuntime) {
+    for (looks, wanted) in [
+        (0, (false, None, 0)),
+        (2, (false, Some(5), 0)),
+        (5, (false, Some(2), 0)),
+        (6, (true, Some(2), 0)),
+        (100, (true, Some(2), 94)),
+    ] {
+        same!(&rt, found_within(rt.alloc(), LINE, looks), Ok(wanted));
+    }
 }
 
 /// The least lengths are those found by hand.

@@ -1,7 +1,7 @@
 //! Random drawings, a thousand small ones and three large ones, whose least lengths LEMON found by its network simplex
 //! (`checks/drawings random`).
 use crate::least::length_of;
-use least_length::{Scratch, Segment, Wire, find_shortest};
+use least_length::{Scratch, Segment, Wire, find_shorter, find_shortest, take_shorter};
 use std::alloc::{AllocError, Global};
 use test_tools::{Random, same};
 
@@ -134,6 +134,35 @@ impl Lent {
             Ok(0)
         }
     }
+
+    /// The total length of the wires as a search with this many looks leaves them.
+    fn length_within(&mut self, looks: u64) -> Result<u32, AllocError> {
+        let segments = self.segments.as_slice();
+        let wires = self.wires.as_slice();
+        let mut left = looks;
+        if find_shorter(
+            &mut self.scratch,
+            segments,
+            wires,
+            &mut left,
+            &mut self.coordinates,
+        )? {
+            return Ok(length_of(wires, self.coordinates.as_slice()));
+        }
+        if take_shorter(&mut self.scratch, segments, wires, &mut self.coordinates)? {
+            return Ok(length_of(wires, self.coordinates.as_slice()));
+        }
+        self.own_length()
+    }
+
+    /// The total length of the wires of the drawing with the segments' own coordinates.
+    fn own_length(&mut self) -> Result<u32, AllocError> {
+        self.coordinates.clear();
+        for segment in self.segments.as_slice() {
+            self.coordinates.push(segment.coordinate)?;
+        }
+        Ok(length_of(self.wires.as_slice(), self.coordinates.as_slice()))
+    }
 }
 
 /// The sum of the least lengths of a hundred drawings.
@@ -171,5 +200,28 @@ fn large_drawings_are_as_short_as_by_lemon(rt: HostRuntime) {
     for (count, wanted) in LARGE_LEAST {
         let length = large(&mut lent, count).expect(&rt, "memory");
         same!(&rt, (count, length), (count, wanted));
+    }
+}
+
+/// Numbers of looks that are too few for each large drawing.
+const FEW_LOOKS: [u64; 3] = [0, 100, 1_000];
+
+/// Searches with few looks leave a drawing no longer than it was, and no shorter than LEMON found, as those with many do.
+#[test]
+fn searches_with_few_looks_end_between(rt: HostRuntime) {
+    let mut lent = Lent::empty(rt.alloc());
+    for (count, least) in LARGE_LEAST {
+        lent.make_large(count).expect(&rt, "memory");
+        let own = lent.own_length().expect(&rt, "memory");
+        for looks in FEW_LOOKS {
+            let length = lent.length_within(looks).expect(&rt, "memory");
+            same!(
+                &rt,
+                (count, least < length, length <= own),
+                (count, true, true)
+            );
+        }
+        let length = lent.length_within(u64::MAX).expect(&rt, "memory");
+        same!(&rt, (count, length), (count, least));
     }
 }

@@ -3,6 +3,7 @@ use Rattle.std.proofs.Common.{◌≡◌, ◌≢◌, ◌≤◌, ◌<◌, ℕ, suc
 use Rattle.std.specs.Prelude.{ℤ, pos, negsuc, ◌+ℤ◌, ◌-ℤ◌, ◌≤ℤ◌, ◌<ℤ◌}
 use Rattle.std.proofs.lemmas.Bool.{both_ways, cases_eq, cases_lt, eq-eqb, ne_eqb, cond-true, cond-false}
 use Rattle.std.proofs.lemmas.Int.{ints}
+use Rattle.networks.specs.declared.fault.TheConstants.{MAX_SUPPLY}
 use Rattle.networks.specs.declared.residual.TheConstants.{SATURATED}
 use Rattle.common.proofs.Sums.{sum_below-same, sum_below-changed}
 use Rattle.networks.specs.declared.arc.Cap.{Cap}
@@ -526,5 +527,5 @@ lesser_remaining a k z h x = omega (arith, ints)
 pub lesser_short : (a k : ℕ) (z : ℤ) → k ≤ a → (z +ℤ pos a) ≤ℤ pos 0 → (z +ℤ pos k) ≤ℤ pos 0
 lesser_short a k z h x = omega (arith, ints)
 
-pub few_remaining : (z : ℤ) (k : ℕ) → pos k ≤ℤ z → z ≤ℤ pos 2048 → k ≤ 2048
+pub few_remaining : (z : ℤ) (k : ℕ) → pos k ≤ℤ z → z ≤ℤ pos MAX_SUPPLY → k ≤ MAX_SUPPLY
 few_remaining z k h m = omega (arith, ints)

@@ -3,10 +3,13 @@ use Rattle.std.proofs.Common.{◌≡◌, ◌≢◌, ◌<◌, ◌≤◌, ℕ, ◌
 use Rattle.std.specs.Prelude.{ℤ, pos, negsuc, ◌+ℤ◌, ◌-ℤ◌, ◌≤ℤ◌, ◌<ℤ◌}
 use Rattle.std.proofs.lemmas.Bool.{cases_eq, ne_eqb, eqb-true, cond-false}
 use Rattle.std.proofs.lemmas.Int.{ints}
+use Rattle.networks.specs.declared.fault.TheConstants.{MAX_SUPPLY}
+use Rattle.networks.specs.declared.network.TheConstants.{MAX_NODES}
+use Rattle.min_cost_flow.specs.declared.resume.TheConstants.{MAX_CARRIED}
 use borrow.Author.Differences.{up}
 use Rattle.common.specs.Sums.{sum_below}
 use Rattle.common.proofs.Sums.{sum_below-changed, sum_below-none}
-use Rattle.networks.specs.Networks.{NetworkModel, node_count, arc_count, supply_at, moved, shifted, IsNetwork}
+use Rattle.networks.specs.Networks.{NetworkModel, node_count, arc_count, supply_at, moved, shifted, IsInSupplyRange, IsNetwork}
 use Rattle.networks.proofs.Moving.{delta, moved_at, length-moved}
 use Rattle.networks.specs.Flow.{SolvedModel, Flow, Solves, amounts, at_nodes, cost_of, net_outflow, start_of, end_of, unit_cost, HasPotentials}
 use Rattle.networks.specs.declared.residual.ResidualArc.{ResidualArc}
@@ -26,7 +29,7 @@ use Rattle.min_cost_flow.proofs.Rounds.{flow_at, flow_same, potentials_same}
 still_leaves : (b e e' s s' d : ℤ) → b +ℤ e ≡ s → e' ≡ e +ℤ d → s' ≡ s +ℤ d → b +ℤ e' ≡ s'
 still_leaves b e e' s s' d h k l = omega (arith, ints)
 
-fair_delta : (e e' : ℤ) (x y : ℕ) → e ≡ pos 0 → e' ≡ e +ℤ (pos x -ℤ pos y) → x ≤ 2048 → y ≤ 2048 → (negsuc 2047 ≤ℤ e') × (e' ≤ℤ pos 2048)
+fair_delta : (e e' : ℤ) (x y : ℕ) → e ≡ pos 0 → e' ≡ e +ℤ (pos x -ℤ pos y) → x ≤ MAX_SUPPLY → y ≤ MAX_SUPPLY → IsInSupplyRange e'
 fair_delta e e' x y z h a b = (omega (arith, ints), omega (arith, ints))
 
 some_less : (e e' : ℤ) (x y : ℕ) → e ≡ pos 0 → e' ≡ e +ℤ (pos x -ℤ pos y) → e' <ℤ pos 0 → 0 < y
@@ -83,10 +86,10 @@ wanting_is : (b : Bool) (k : ℕ) → 0 < cond {A = ℕ} b k 0 → b ≡ true
 wanting_is true k h = refl
 wanting_is false k h = absurd (omega arith)
 
-pub moved_round : (net : NetworkModel) (x : ℕ → ℕ) (p p' : ℕ → ℤ) (es : List ℤ) (f t k : ℕ) → IsNetwork net → IsRound net x p (at_nodes es) → length es ≡ node_count net → none_at es (node_count net) → f < node_count net → t < node_count net → k ≤ 2048
+pub moved_round : (net : NetworkModel) (x : ℕ → ℕ) (p p' : ℕ → ℤ) (es : List ℤ) (f t k : ℕ) → IsNetwork net → IsRound net x p (at_nodes es) → length es ≡ node_count net → none_at es (node_count net) → f < node_count net → t < node_count net → k ≤ MAX_SUPPLY
     → ((v : ℕ) → v < node_count net → p' v ≡ p v -ℤ p t)
     → ((v : ℕ) → v < node_count net → (pos 0 ≤ℤ (p' v +ℤ pos (2 * node_count net))) × (p' v ≤ℤ pos (2 * node_count net)))
-    → ((i : ℕ) → i < arc_count net → x i + k ≤ 2097152)
+    → ((i : ℕ) → i < arc_count net → x i + k ≤ MAX_CARRIED)
     → IsRound (shifted net f t k) x p' (at_nodes (moved es f t k))
 moved_round net x p p' es f t k nw r size none fb tb few base low capacity =
     let n = node_count net in
@@ -189,14 +192,14 @@ sized_moved net l l' f t k r in_range re pe ee he =
     }
 
 -- confined potentials can be lowered by one of them
-pub low_bounds : (n : ℕ) (z : ℤ) → n ≤ 1024 → (pos 0 ≤ℤ (z +ℤ pos (2 * n))) × (z ≤ℤ pos (2 * n)) → (negsuc 2047 ≤ℤ z) × (z ≤ℤ pos 2048)
+pub low_bounds : (n : ℕ) (z : ℤ) → n ≤ MAX_NODES → (pos 0 ≤ℤ (z +ℤ pos (2 * n))) × (z ≤ℤ pos (2 * n)) → ((pos 0 -ℤ pos (2 * MAX_NODES)) ≤ℤ z) × (z ≤ℤ pos (2 * MAX_NODES))
 low_bounds n z s (a, b) = (grind (arith, ints), grind (arith, ints))
 
 -- a flow that stands, after supplies have moved and potentials were lowered by one of them
-pub ready_moved : (net : NetworkModel) (l : Solver) (potential excess : List ℤ) (f t k : ℕ) → IsAllSent net l → HasSuppliesInRange (shifted net f t k) → f < node_count net → t < node_count net → k ≤ 2048
+pub ready_moved : (net : NetworkModel) (l : Solver) (potential excess : List ℤ) (f t k : ℕ) → IsAllSent net l → HasSuppliesInRange (shifted net f t k) → f < node_count net → t < node_count net → k ≤ MAX_SUPPLY
     → ((v : ℕ) → v < node_count net → at_nodes potential v ≡ at_nodes l.nodes.potential.items v -ℤ at_nodes l.nodes.potential.items t)
     → ((v : ℕ) → v < node_count net → (pos 0 ≤ℤ (at_nodes potential v +ℤ pos (2 * node_count net))) × (at_nodes potential v ≤ℤ pos (2 * node_count net)))
-    → ((i : ℕ) → i < arc_count net → flow_of l.residual i + k ≤ 2097152)
+    → ((i : ℕ) → i < arc_count net → flow_of l.residual i + k ≤ MAX_CARRIED)
     → length potential ≡ length l.nodes.potential.items → excess ≡ moved l.nodes.excess.items f t k
     → IsReadyIn (shifted net f t k) l.residual potential excess l.visits.items
 ready_moved net l potential excess f t k st in_range fb tb few base low capacity pe ee =

@@ -3,13 +3,16 @@ use Rattle.std.proofs.Common.{◌≡◌, ◌≢◌, ◌≤◌, ◌<◌, ◌⊎�
 use Rattle.std.specs.Prelude.{ℤ, pos, negsuc, ◌+ℤ◌, ◌-ℤ◌, ◌≤ℤ◌, ◌<ℤ◌}
 use Rattle.std.proofs.lemmas.Bool.{cases_eq, eq-eqb, cond-true}
 use Rattle.std.proofs.lemmas.Int.{ints}
+use Rattle.networks.specs.declared.fault.TheConstants.{MAX_SUPPLY}
 use Rattle.networks.specs.declared.network.TheConstants.{MAX_ARCS, MAX_NODES}
+use Rattle.networks.specs.declared.residual.TheConstants.{MAX_RESIDUAL_ARCS}
+use Rattle.min_cost_flow.specs.declared.resume.TheConstants.{MAX_CARRIED}
 use borrow.Author.Differences.{up}
 use Rattle.common.specs.Sums.{sum_below}
 use Rattle.common.proofs.Sums.{sum_below-same, sum_below-le, sum_below-changed, sum_below-constant, sum_below-none}
 use Rattle.networks.specs.declared.arc.Cap.{Cap}
 use Rattle.networks.specs.declared.arc.Cap.TheVariants.{AtMost, Any}
-use Rattle.networks.specs.Networks.{NetworkModel, node_count, arc_count, arc_at, supply_at, HasEnds, IsNetwork}
+use Rattle.networks.specs.Networks.{NetworkModel, node_count, arc_count, arc_at, supply_at, IsInSupplyRange, HasEnds, IsNetwork}
 use Rattle.networks.specs.Flow.{outflow, inflow, net_outflow, IsWithinCap, IsUnsaturated, Flow, HasNoFlow, IsResidual, HasPotentials, reduced_cost}
 use Rattle.min_cost_flow.specs.Excess.{IsWithinCaps, HasExcess}
 use Rattle.min_cost_flow.specs.Round.{remaining_units, supply_sum, carrying, IsRound, IsLess, IsWork, IsRoundDone}
@@ -100,21 +103,21 @@ was_wanting net x y e e' u k v s b w =
       | inr o ↦ let (l, h) = s.deficit v b o in still_wanting (e v) (e' v) l w
     ]
 
-fair_less : (e e' : ℤ) (k : ℕ) → e' ≡ e -ℤ pos k → pos 0 ≤ℤ e' → e ≤ℤ pos 2048 → (negsuc 2047 ≤ℤ e') × (e' ≤ℤ pos 2048)
+fair_less : (e e' : ℤ) (k : ℕ) → e' ≡ e -ℤ pos k → pos 0 ≤ℤ e' → e ≤ℤ pos MAX_SUPPLY → IsInSupplyRange e'
 fair_less e e' k h z m = (omega (arith, ints), omega (arith, ints))
 
-fair_more : (e e' : ℤ) → e ≤ℤ e' → e' ≤ℤ pos 0 → negsuc 2047 ≤ℤ e → (negsuc 2047 ≤ℤ e') × (e' ≤ℤ pos 2048)
+fair_more : (e e' : ℤ) → e ≤ℤ e' → e' ≤ℤ pos 0 → (pos 0 -ℤ pos MAX_SUPPLY) ≤ℤ e → IsInSupplyRange e'
 fair_more e e' h z m = (omega (arith, ints), omega (arith, ints))
 
-still_fair : (net : NetworkModel) (x y : ℕ → ℕ) (e e' : ℕ → ℤ) (u k v : ℕ) → IsSent net x y e e' u k → v < node_count net → (negsuc 2047 ≤ℤ e v) × (e v ≤ℤ pos 2048) → (negsuc 2047 ≤ℤ e' v) × (e' v ≤ℤ pos 2048)
+still_fair : (net : NetworkModel) (x y : ℕ → ℕ) (e e' : ℕ → ℤ) (u k v : ℕ) → IsSent net x y e e' u k → v < node_count net → IsInSupplyRange (e v) → IsInSupplyRange (e' v)
 still_fair net x y e e' u k v s b f =
     elim (over_or_not (e v)) [
       | inl o ↦ elim (cases_eq v u) [
         | inl q ↦
-            let P : ℕ → Type 0 = λ t. (negsuc 2047 ≤ℤ e' t) × (e' t ≤ℤ pos 2048) in
-            let Q : ℕ → Type 0 = λ t. e t ≤ℤ pos 2048 in
+            let P : ℕ → Type 0 = λ t. IsInSupplyRange (e' t) in
+            let Q : ℕ → Type 0 = λ t. e t ≤ℤ pos MAX_SUPPLY in
             subst P (sym q) (fair_less (e u) (e' u) k s.here s.remaining (subst Q q f.1))
-        | inr ne ↦ let P : ℤ → Type 0 = λ z. (negsuc 2047 ≤ℤ z) × (z ≤ℤ pos 2048) in subst P (sym (s.others v b ne o)) f
+        | inr ne ↦ subst IsInSupplyRange (sym (s.others v b ne o)) f
       ]
       | inr o ↦ let (l, h) = s.deficit v b o in fair_more (e v) (e' v) l h f.0
     ]
@@ -148,15 +151,15 @@ first_cost c s t a b = omega (arith, ints)
 first_low : (n : ℕ) (p : ℤ) → p ≡ pos 0 → (pos 0 ≤ℤ (p +ℤ pos (2 * n))) × (p ≤ℤ pos (2 * n))
 first_low n p h = (omega (arith, ints), omega (arith, ints))
 
-up_most : (e : ℤ) → e ≤ℤ pos 2048 → up e ≤ 2048
+up_most : (e : ℤ) → e ≤ℤ pos MAX_SUPPLY → up e ≤ MAX_SUPPLY
 up_most (pos n) h = omega (arith, ints)
 up_most (negsuc n) h = omega (arith, ints)
 
-first_remaining : (net : NetworkModel) (e : ℕ → ℤ) → node_count net ≤ MAX_NODES → ((v : ℕ) → v < node_count net → e v ≤ℤ pos 2048) → remaining_units net e ≤ 2097152
+first_remaining : (net : NetworkModel) (e : ℕ → ℤ) → node_count net ≤ MAX_NODES → ((v : ℕ) → v < node_count net → e v ≤ℤ pos MAX_SUPPLY) → remaining_units net e ≤ MAX_CARRIED
 first_remaining net e small in_range =
     let n = node_count net in
-    let le : remaining_units net e ≤ sum_below n (λ _. 2048) = sum_below-le n (λ v. up (e v)) (λ _. 2048) (λ v b. up_most (e v) (in_range v b)) in
-    omega (arith, sum_below-constant n 2048)
+    let le : remaining_units net e ≤ sum_below n (λ _. MAX_SUPPLY) = sum_below-le n (λ v. up (e v)) (λ _. MAX_SUPPLY) (λ v b. up_most (e v) (in_range v b)) in
+    omega (arith, sum_below-constant n MAX_SUPPLY)
 
 first_priced : (net : NetworkModel) (x : ℕ → ℕ) (p : ℕ → ℤ) (i : ℕ) (back : Bool) → x i ≡ 0 → ((v : ℕ) → p v ≡ pos 0) → IsResidual net x i back → pos 0 ≤ℤ reduced_cost net p i back
 first_priced net x p i false none flat r = first_cost (arc_at net i).cost (p (arc_at net i).from) (p (arc_at net i).to) (flat (arc_at net i).from) (flat (arc_at net i).to)
@@ -166,8 +169,8 @@ first_priced net x p i true none flat r = absurd (omega arith)
 pub first_round : (net : NetworkModel) (x : ℕ → ℕ) (p e : ℕ → ℤ) → IsNetwork net → ((i : ℕ) → i < arc_count net → x i ≡ 0) → ((v : ℕ) → p v ≡ pos 0) → ((v : ℕ) → e v ≡ supply_at net v) → IsRound net x p e
 first_round net x p e k none flat full =
     let m = arc_count net in
-    let in_range : (v : ℕ) → v < node_count net → (negsuc 2047 ≤ℤ e v) × (e v ≤ℤ pos 2048) = λ v b. let P : ℤ → Type 0 = λ z. (negsuc 2047 ≤ℤ z) × (z ≤ℤ pos 2048) in subst P (sym (full v)) (k.supplies v b) in
-    let few : remaining_units net e ≤ 2097152 = first_remaining net e k.small.0 (λ v b. (in_range v b).1) in
+    let in_range : (v : ℕ) → v < node_count net → IsInSupplyRange (e v) = λ v b. subst IsInSupplyRange (sym (full v)) (k.supplies v b) in
+    let few : remaining_units net e ≤ MAX_CARRIED = first_remaining net e k.small.0 (λ v b. (in_range v b).1) in
     record {
       leaves = record {
         at_node = λ v b. at_start (outflow net x v) (inflow net x v) (e v) (supply_at net v)
@@ -207,16 +210,16 @@ first_work net x e none full = record {
   begun = inr (λ v b. full v);
 }
 
-bounds_looks : (l s k m : ℕ) → l ≤ s * (2 * m) → s ≤ 2097152 → m ≤ MAX_ARCS → l ≤ 17179869184
-bounds_looks l s k m h a b = omega (arith, mul-le s (2 * m) 2097152 8192 a (omega arith))
+bounds_looks : (l s m : ℕ) → l ≤ s * (2 * m) → s ≤ MAX_CARRIED → m ≤ MAX_ARCS → l ≤ MAX_CARRIED * MAX_RESIDUAL_ARCS
+bounds_looks l s m h a b = omega (arith, mul-le s (2 * m) MAX_CARRIED MAX_RESIDUAL_ARCS a (omega arith))
 
-pub supply_most : (net : NetworkModel) → IsNetwork net → supply_sum net ≤ 2097152
+pub supply_most : (net : NetworkModel) → IsNetwork net → supply_sum net ≤ MAX_CARRIED
 supply_most net k = first_remaining net (λ v. supply_at net v) k.small.0 (λ v b. (k.supplies v b).1)
 
-pub looks_most : (net : NetworkModel) (x : ℕ → ℕ) (e : ℕ → ℤ) (s l : ℕ) → IsNetwork net → IsWork net x e s l → (s ≤ 2097152) × (l ≤ 17179869184)
+pub looks_most : (net : NetworkModel) (x : ℕ → ℕ) (e : ℕ → ℤ) (s l : ℕ) → IsNetwork net → IsWork net x e s l → (s ≤ MAX_CARRIED) × (l ≤ MAX_CARRIED * MAX_RESIDUAL_ARCS)
 looks_most net x e s l k w =
-    let few : s ≤ 2097152 = omega (arith, w.few, supply_most net k) in
-    (few, bounds_looks l s 0 (arc_count net) w.bounded few k.small.1)
+    let few : s ≤ MAX_CARRIED = omega (arith, w.few, supply_most net k) in
+    (few, bounds_looks l s (arc_count net) w.bounded few k.small.1)
 
 no_supply : (e s : ℤ) → e ≡ s → e ≤ℤ pos 0 → pos 0 ≤ℤ e → s ≡ pos 0
 no_supply e s h a b = omega (arith, ints)

@@ -16,6 +16,7 @@ use Rattle.networks.specs.declared.arc.Cap.TheVariants.{AtMost, Any}
 use Rattle.networks.specs.declared.residual.ResidualArc.{ResidualArc}
 use Rattle.networks.specs.Networks.{NetworkModel, node_count, arc_count, arc_at, HasUnitCosts, IsNetwork}
 use Rattle.networks.specs.Flow.{IsUnsaturated, IsResidual, HasPotentials, start_of, end_of, unit_cost, reduced_cost}
+use Rattle.min_cost_flow.specs.declared.resume.TheConstants.{MAX_CARRIED}
 use Rattle.min_cost_flow.specs.Round.{IsRound}
 use Rattle.networks.specs.declared.residual.Residual.{Residual}
 use Rattle.networks.specs.Flow.{at_nodes}
@@ -43,7 +44,7 @@ code_when : (r : ℕ) (c z : ℤ) → z ≡ cond (eqb r 0) (c +ℤ SATURATED) c 
 code_when zero c z h b = inl (refl, h)
 code_when (suc r) c z h b = inr (omega arith, h ∙ cond-false {A = ℤ} (eqb (suc r) 0) (c +ℤ SATURATED) c (ne_eqb (suc r) 0 (λ t. absurd (omega arith))))
 
-saturated_cost : (c z : ℤ) → z ≡ c +ℤ SATURATED → (negsuc 0 ≤ℤ c) × (c ≤ℤ pos 1) → (pos 15999 ≤ℤ z) × (z ≤ℤ pos 16001)
+saturated_cost : (c z : ℤ) → z ≡ c +ℤ SATURATED → (negsuc 0 ≤ℤ c) × (c ≤ℤ pos 1) → ((SATURATED -ℤ pos 1) ≤ℤ z) × (z ≤ℤ (SATURATED +ℤ pos 1))
 saturated_cost c z h (a, b) = (omega (arith, ints), omega (arith, ints))
 
 not_open : (c z : ℤ) → z ≡ c +ℤ SATURATED → (negsuc 0 ≤ℤ c) × (c ≤ℤ pos 1) → z ≤ℤ pos 1 → ⊥
@@ -53,7 +54,7 @@ not_open c z h (a, b) o = omega (arith, ints)
 pub code_cases : (net : NetworkModel) (capacity : ℕ → ℕ) (arcs : List ResidualArc) (i : ℕ) (back : Bool) → IsNetwork net → AreResidualArcs net capacity arcs → i < arc_count net → ((capacity (number_of i back) ≡ 0) × (cost_at arcs (number_of i back) ≡ unit_cost net i back +ℤ SATURATED)) ⊎ ((0 < capacity (number_of i back)) × (cost_at arcs (number_of i back) ≡ unit_cost net i back))
 code_cases net capacity arcs i back k f b = code_when (capacity (number_of i back)) (unit_cost net i back) (cost_at arcs (number_of i back)) (f.cost i back b) (unit_cost_low net i back k.costs b)
 
-unsaturated_capacity : (c : Cap) (r x : ℕ) → r + x ≡ units_of c → x ≤ 2097152 → IsUnsaturated c x → 0 < r
+unsaturated_capacity : (c : Cap) (r x : ℕ) → r + x ≡ units_of c → x ≤ MAX_CARRIED → IsUnsaturated c x → 0 < r
 unsaturated_capacity (AtMost k) r x h l o = omega arith
 unsaturated_capacity Any r x h l o = let big : units_of Any ≡ 1073741824 = refl in omega arith
 
@@ -61,7 +62,7 @@ capacity_unsaturated : (c : Cap) (r x : ℕ) → r + x ≡ units_of c → 0 < r 
 capacity_unsaturated (AtMost k) r x h o = omega arith
 capacity_unsaturated Any r x h o = tt
 
-pub has_residual : (net : NetworkModel) (capacity : ℕ → ℕ) (arcs : List ResidualArc) (i : ℕ) (back : Bool) → AreResidualArcs net capacity arcs → i < arc_count net → carried capacity i ≤ 2097152 → IsResidual net (carried capacity) i back → 0 < capacity (number_of i back)
+pub has_residual : (net : NetworkModel) (capacity : ℕ → ℕ) (arcs : List ResidualArc) (i : ℕ) (back : Bool) → AreResidualArcs net capacity arcs → i < arc_count net → carried capacity i ≤ MAX_CARRIED → IsResidual net (carried capacity) i back → 0 < capacity (number_of i back)
 has_residual net capacity arcs i false f b l r = unsaturated_capacity (arc_at net i).cap (capacity (number_of i false)) (carried capacity i) (f.fits i b) l r
 has_residual net capacity arcs i true f b l r = r
 
@@ -115,7 +116,7 @@ reduced_by_number net capacity arcs p n f h k b op =
     let at : pos 0 ≤ℤ (cost_at arcs j +ℤ p (start_at arcs j) -ℤ p (end_at arcs j)) = rw (unit_is, start_is net capacity arcs i back f inside, f.end i back inside) red in
     subst (λ (t : ℕ). pos 0 ≤ℤ (cost_at arcs t +ℤ p (start_at arcs t) -ℤ p (end_at arcs t))) e at
 
-pub potentials_by_arc : (net : NetworkModel) (capacity : ℕ → ℕ) (arcs : List ResidualArc) (p : ℕ → ℤ) → IsNetwork net → AreResidualArcs net capacity arcs → ((i : ℕ) → i < arc_count net → carried capacity i ≤ 2097152) → ((v k : ℕ) → v < node_count net → StartsAt arcs v k → HasResidualCapacity arcs k → pos 0 ≤ℤ (cost_at arcs k +ℤ p v -ℤ p (end_at arcs k))) → HasPotentials net (carried capacity) p
+pub potentials_by_arc : (net : NetworkModel) (capacity : ℕ → ℕ) (arcs : List ResidualArc) (p : ℕ → ℤ) → IsNetwork net → AreResidualArcs net capacity arcs → ((i : ℕ) → i < arc_count net → carried capacity i ≤ MAX_CARRIED) → ((v k : ℕ) → v < node_count net → StartsAt arcs v k → HasResidualCapacity arcs k → pos 0 ≤ℤ (cost_at arcs k +ℤ p v -ℤ p (end_at arcs k))) → HasPotentials net (carried capacity) p
 potentials_by_arc net capacity arcs p n f few h = record {
   residual = λ i back b r.
       let fits : 0 < capacity (number_of i back) = has_residual net capacity arcs i back f b (few i b) r in

@@ -1,7 +1,7 @@
 //! Going on from the flow that is there after supplies have moved: successive shortest paths (Ahuja, Magnanti and
 //! Orlin, Network Flows, 1993, section 9.7) from the node that supplies more, under the current potentials.
 //!
-//! A move is of at most 2,048 units. It takes as many searches as units at most, each of which looks at each residual
+//! A move is of at most 12,008 units. It takes as many searches as units at most, each of which looks at each residual
 //! arc once at most, and allocates nothing; if it solves from nothing, it takes as long as that.
 ghost use Rattle.std.specs.Prelude.{◌≡◌, ◌≢◌, ◌<◌, ◌≤◌, ◌+◌, ◌*◌, ℕ, length, pos, ◌≤ℤ◌, ◌+ℤ◌, ◌-ℤ◌, true};
 ghost use Rattle.networks.specs.declared.fault.TheConstants.{MAX_SUPPLY};
@@ -14,10 +14,10 @@ ghost use Rattle.min_cost_flow.specs.SolverState.{excess_at, IsReady, IsAllSent,
 
 use crate::solver::{carried_by, has_deficit};
 use crate::state::Solver;
-use networks::{Network, move_units};
+use networks::{MAX_NODES, MAX_SUPPLY, Network, move_units};
 
 /// How many units an arc carries at most: as many as all nodes of a network can supply.
-pub(crate) const MAX_CARRIED: u32 = 2_097_152;
+pub(crate) const MAX_CARRIED: u32 = MAX_NODES as u32 * MAX_SUPPLY;
 
 impl Solver {
     /// Lets node `from` supply this many units more, and node `to` as many less, and goes on from the current flow;

@@ -2,7 +2,7 @@
 //! long as a node has an excess, search for a shortest path by reduced costs, update the potentials, and augment along
 //! the path.
 //!
-//! Networks have at most 1,024 nodes and 4,096 arcs of cost 0 or 1, and nodes supply or want at most 2,048 units. Each
+//! Networks have at most 2,402 nodes and 9,600 arcs of cost 0 or 1, and nodes supply or want at most 12,008 units. Each
 //! search looks at each residual arc once at most and sends at least one unit, so the number of searches is at most the
 //! number of units supplied. A search also goes over the nodes that wait, for each distance. It sends as many units as
 //! fit along the path, but no more than the excess where it starts or the deficit where it ends. Potentials stay then:

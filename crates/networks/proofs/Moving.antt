@@ -1,11 +1,12 @@
 -- What is left at each node once one has some units more, and another as many fewer.
-use Rattle.std.proofs.Common.{◌≡◌, ◌<◌, ◌≤◌, Bool, true, false, ℕ, length, List, cond, eqb, sym, ◌∙◌, subst, inl, inr, get_or, arith}
+use Rattle.std.proofs.Common.{◌≡◌, ◌<◌, ◌≤◌, ◌*◌, Bool, true, false, ℕ, length, List, cond, eqb, sym, ◌∙◌, subst, inl, inr, get_or, arith}
 use mir.Syntax.{w32}
 use mir.Val.{of_z, to_z}
-use Rattle.std.specs.Prelude.{ℤ, pos, negsuc, ◌+ℤ◌, ◌-ℤ◌, ◌≤ℤ◌}
+use Rattle.std.specs.Prelude.{ℤ, pos, ◌+ℤ◌, ◌-ℤ◌, ◌≤ℤ◌}
 use Rattle.std.proofs.lemmas.Bool.{cases_eq, eq-eqb, ne_eqb, cond-true, cond-false}
 use Rattle.std.proofs.lemmas.Int.{ints}
 use Rattle.std.proofs.lemmas.List.{get_or-set_same, get_or-set_other, length-set}
+use Rattle.networks.specs.declared.fault.TheConstants.{MAX_SUPPLY}
 use Rattle.networks.specs.declared.network.TheConstants.{MAX_NODES}
 use Rattle.networks.specs.Networks.{NetworkModel, arc_at, raised, lowered, moved, shifted, HasSuppliesInRange, IsNetwork}
 
@@ -62,27 +63,27 @@ moved_at units f t k v fb tb =
     (raised_at units f k v fb)
     (lowered_at (raised units f k) t k v (subst (λ (n : ℕ). t < n) (sym (length-set units f (at units f +ℤ pos k))) tb))
 
-no_lower : (a b : ℤ) (x : ℕ) → b ≡ a +ℤ pos x → negsuc 2047 ≤ℤ a → negsuc 2047 ≤ℤ b
+no_lower : (a b : ℤ) (x : ℕ) → b ≡ a +ℤ pos x → (pos 0 -ℤ pos MAX_SUPPLY) ≤ℤ a → (pos 0 -ℤ pos MAX_SUPPLY) ≤ℤ b
 no_lower a b x h l = omega (arith, ints)
 
-pub raised_low : (units : List ℤ) (f k v : ℕ) → f < length units → negsuc 2047 ≤ℤ at units v → negsuc 2047 ≤ℤ at (raised units f k) v
+pub raised_low : (units : List ℤ) (f k v : ℕ) → f < length units → (pos 0 -ℤ pos MAX_SUPPLY) ≤ℤ at units v → (pos 0 -ℤ pos MAX_SUPPLY) ≤ℤ at (raised units f k) v
 raised_low units f k v b l = no_lower (at units v) (at (raised units f k) v) (cond {A = ℕ} (eqb v f) k 0) (raised_at units f k v b) l
 
-no_higher : (a b : ℤ) (x k : ℕ) → b ≡ a +ℤ pos x → x ≤ k → k ≤ 2048 → a ≤ℤ pos 2048 → b ≤ℤ pos 4096
+no_higher : (a b : ℤ) (x k : ℕ) → b ≡ a +ℤ pos x → x ≤ k → k ≤ MAX_SUPPLY → a ≤ℤ pos MAX_SUPPLY → b ≤ℤ pos (2 * MAX_SUPPLY)
 no_higher a b x k h l m n = omega (arith, ints)
 
 chosen_most : (b : Bool) (k : ℕ) → cond {A = ℕ} b k 0 ≤ k
 chosen_most true k = omega arith
 chosen_most false k = omega arith
 
-pub raised_high : (units : List ℤ) (f k v : ℕ) → f < length units → k ≤ 2048 → at units v ≤ℤ pos 2048 → at (raised units f k) v ≤ℤ pos 4096
+pub raised_high : (units : List ℤ) (f k v : ℕ) → f < length units → k ≤ MAX_SUPPLY → at units v ≤ℤ pos MAX_SUPPLY → at (raised units f k) v ≤ℤ pos (2 * MAX_SUPPLY)
 raised_high units f k v b few l = no_higher (at units v) (at (raised units f k) v) (cond {A = ℕ} (eqb v f) k 0) k (raised_at units f k v b) (chosen_most (eqb v f) k) few l
 
 -- sums and differences as they are computed
-pub sum_is : (x : ℤ) (k : ℕ) → negsuc 2047 ≤ℤ x → x ≤ℤ pos 2048 → k ≤ 2048 → to_z w32 (of_z w32 (to_z w32 (of_z w32 x) +ℤ to_z w32 k)) ≡ x +ℤ pos k
+pub sum_is : (x : ℤ) (k : ℕ) → (pos 0 -ℤ pos MAX_SUPPLY) ≤ℤ x → x ≤ℤ pos MAX_SUPPLY → k ≤ MAX_SUPPLY → to_z w32 (of_z w32 (to_z w32 (of_z w32 x) +ℤ to_z w32 k)) ≡ x +ℤ pos k
 sum_is x k l h m = omega (arith, ints)
 
-pub difference_is : (x : ℤ) (k : ℕ) → negsuc 2047 ≤ℤ x → x ≤ℤ pos 4096 → k ≤ 2048 → to_z w32 (of_z w32 (to_z w32 (of_z w32 x) -ℤ to_z w32 k)) ≡ x -ℤ pos k
+pub difference_is : (x : ℤ) (k : ℕ) → (pos 0 -ℤ pos MAX_SUPPLY) ≤ℤ x → x ≤ℤ pos (2 * MAX_SUPPLY) → k ≤ MAX_SUPPLY → to_z w32 (of_z w32 (to_z w32 (of_z w32 x) -ℤ to_z w32 k)) ≡ x -ℤ pos k
 difference_is x k l h m = omega (arith, ints)
 
 -- a network keeps being one while its supplies are fair

@@ -4,6 +4,7 @@ use Rattle.std.specs.Prelude.{ℤ, pos, negsuc, ◌+ℤ◌, ◌-ℤ◌, ◌≤�
 use Rattle.std.proofs.lemmas.Bool.{cases_eq, cases_lt}
 use Rattle.std.proofs.lemmas.Int.{ints}
 use Rattle.networks.specs.declared.network.TheConstants.{MAX_NODES}
+use Rattle.networks.specs.declared.residual.TheConstants.{SATURATED}
 use Rattle.networks.specs.declared.residual.ResidualArc.{ResidualArc}
 use Rattle.networks.proofs.Distinct.{AreDistinct, counted_once, room_for}
 use Rattle.networks.specs.ResidualArcs.{start_at, end_at, cost_at, started, out_degree, StartsAt}
@@ -545,7 +546,7 @@ offer_below n arcs p e s q predecessor order place scanned ordered reached radiu
 
 -- ---- what a residual arc of the node that is scanned offers
 
-closed_far : (x qu qe c ps : ℤ) (n h : ℕ) → n ≤ MAX_NODES → h ≤ n → IsNear ps h qu → (pos 0 ≤ℤ (ps +ℤ pos (2 * n))) × (ps ≤ℤ pos (2 * n)) → x ≡ qu +ℤ c → x <ℤ qe → qe ≤ℤ far → pos 15999 ≤ℤ c → ⊥
+closed_far : (x qu qe c ps : ℤ) (n h : ℕ) → n ≤ MAX_NODES → h ≤ n → IsNear ps h qu → (pos 0 ≤ℤ (ps +ℤ pos (2 * n))) × (ps ≤ℤ pos (2 * n)) → x ≡ qu +ℤ c → x <ℤ qe → qe ≤ℤ far → (SATURATED -ℤ pos 1) ≤ℤ c → ⊥
 closed_far x qu qe c ps n h small le (a, b) (d, e) s l m g = omega (arith, ints)
 
 near_step : (ps qu c x : ℤ) (h : ℕ) → IsNear ps h qu → negsuc 0 ≤ℤ c → c ≤ℤ pos 1 → x ≡ qu +ℤ c → IsNear ps (h + 1) x

@@ -1,7 +1,7 @@
 //! The search for the nearest node with a deficit: Dijkstra's algorithm (1959) by reduced costs, which are
 //! at least 0 (Ahuja, Magnanti and Orlin, Network Flows, 1993, section 9.7), from one root, by growing distance.
 //!
-//! Networks have at most 1,024 nodes and 8,192 residual arcs of cost -1 to 1, so distances are small integers.
+//! Networks have at most 2,402 nodes and 19,200 residual arcs of cost -1 to 1, so distances are small integers.
 //! Each residual arc is looked at once at most. Beside that the nodes that wait are gone over for each radius.
 ghost use Rattle.std.specs.Prelude.{◌≡◌, ◌⊎◌, ◌<◌, ◌≤◌, ◌+◌, ◌^◌, ℕ, length, pos, ◌≤ℤ◌, ◌<ℤ◌, ◌+ℤ◌, ◌-ℤ◌, true, false};
 ghost use Rattle.networks.specs.ResidualArcs.{end_at, cost_at, next_at, out_degree, StartsAt};

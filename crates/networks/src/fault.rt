@@ -4,22 +4,23 @@ ghost use Rattle.networks.specs.Fault.{HasFault};
 ghost use Rattle.networks.specs.Networks.{net_of, HasEnds, HasSuppliesInRange, HasUnitCosts};
 
 use crate::arc::Arc;
+use common::MAX_VERTICES;
 use thiserror::Error;
 
 /// The maximum number of units that a node supplies or demands.
-pub const MAX_SUPPLY: u32 = 2_048;
+pub const MAX_SUPPLY: u32 = 10 * MAX_VERTICES as u32 + 8;
 
 /// The reason why the given supplies and arcs are not a network.
 #[derive(Clone, Copy, Debug, PartialEq, Eq, Error)]
 pub enum NetFault {
-    /// There are more than 1,024 supplies or 4,096 arcs.
-    #[error("more than 1024 nodes or 4096 arcs")]
+    /// There are more than 2,402 supplies or 9,600 arcs.
+    #[error("more than 2402 nodes or 9600 arcs")]
     TooLarge,
     /// An endpoint of an arc is out of range: no node has its number.
     #[error("arc endpoint out of range")]
     BadEnd,
-    /// A supply is above 2,048 in absolute value.
-    #[error("a supply is above 2048 in absolute value")]
+    /// A supply is above 12,008 in absolute value.
+    #[error("a supply is above 12008 in absolute value")]
     BadSupply,
     /// An arc costs neither 0 nor 1.
     #[error("the cost of an arc is neither 0 nor 1")]

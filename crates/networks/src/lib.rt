@@ -13,8 +13,8 @@ mod state;
 mod units;
 
 pub use arc::{Arc, Cap};
-pub use fault::NetFault;
-pub use network::Network;
+pub use fault::{MAX_SUPPLY, NetFault};
+pub use network::{MAX_ARCS, MAX_NODES, Network};
 pub use residual::{NONE, Residual, ResidualArc, SATURATED, reverse};
 pub use state::{FAR, Search, SearchInput, Visit};
 pub use units::move_units;

@@ -7,14 +7,15 @@ ghost use Rattle.networks.specs.Networks.{NetworkModel, net_of, node_count, arc_
 use crate::arc::Arc;
 use crate::fault::{NetFault, has_bad_cost, has_bad_end, has_bad_supply};
 use crate::units::move_units;
+use common::MAX_VERTICES;
 use std::alloc::{AllocError, Global};
 use std::marker::Model;
 
 /// The maximum number of nodes of a network.
-pub const MAX_NODES: usize = 1_024;
+pub const MAX_NODES: usize = 2 * MAX_VERTICES + 2;
 
 /// The maximum number of arcs of a network.
-pub const MAX_ARCS: usize = 4_096;
+pub const MAX_ARCS: usize = 8 * MAX_VERTICES;
 
 /// A flow network: nodes with supplies, joined by arcs. A supply below 0 is a demand.
 /// Nodes and arcs are numbered from 0.

@@ -1,7 +1,7 @@
 //! Taking up the nodes that a search reaches: the step of Dijkstra's algorithm (1959) that lowers a label, and a list
 //! of nodes in order of their distance in the place of its queue (Ahuja, Magnanti and Orlin, Network Flows, 1993).
 //!
-//! Labels are within 8,000 of 0. Each call takes constant time, and no memory.
+//! Labels are within `FAR` of 0. Each call takes constant time, and no memory.
 ghost use Rattle.std.specs.Prelude.{◌≡◌, ◌⊎◌, ◌<◌, ◌+◌, length, pos, ◌≤ℤ◌, ◌<ℤ◌, ◌-ℤ◌};
 ghost use Rattle.networks.specs.Search.{far, potential_of, excess_of, labels, predecessors, orders, places, HasEnd, CanAdvance, CanPut, HasCandidate, IsRelaxed, IsLabelled, SameBesideBound, SameBesideOrder, SameOrder, SameProgress, IsPut, IsSwapped, IsWithinFar};
 

@@ -4,7 +4,8 @@ ghost use Rattle.std.specs.Prelude.{◌≡◌, ◌<◌, ◌≤◌, ◌+◌, ◌-
 ghost use Rattle.networks.specs.ResidualArcs.{reverse_of, start_at, capacity_at, IsRated, IsCosted};
 ghost use Rattle.networks.specs.Residuals.{HasNumber, IsSetTo};
 
-use crate::network::MAX_ARCS;
+use crate::network::{MAX_ARCS, MAX_NODES};
+use crate::state::FAR;
 
 /// The maximum number of residual arcs of a network: two for each arc.
 pub const MAX_RESIDUAL_ARCS: usize = 2 * MAX_ARCS;
@@ -12,8 +13,9 @@ pub const MAX_RESIDUAL_ARCS: usize = 2 * MAX_ARCS;
 /// Stands for the number of a residual arc where there is none.
 pub const NONE: u32 = u32::MAX;
 
-/// The amount that is added to the cost of a residual arc while it is saturated.
-pub const SATURATED: i16 = 16_000;
+/// The amount that is added to the cost of a residual arc while it is saturated: no label that such an arc offers is
+/// below `FAR`, since labels are at least -3 * MAX_NODES and costs at least -1.
+pub const SATURATED: i16 = FAR + 3 * MAX_NODES as i16 + 1;
 
 /// A residual arc, as a search reads it; `SATURATED` is added to the cost if it is saturated.
 #[derive(Clone, Copy, Debug, Default, PartialEq, Eq)]

@@ -1,8 +1,10 @@
 //! What a search reads, and what it keeps.
+use crate::network::MAX_NODES;
 use crate::residual::ResidualArc;
 
-/// The label of a node that was not reached; it exceeds the label of each node that was.
-pub const FAR: i16 = 8_000;
+/// The label of a node that was not reached. It exceeds each label and each distance: labels are at most 3 * MAX_NODES,
+/// potentials at least -2 * MAX_NODES, and costs at most 1.
+pub const FAR: i16 = 5 * MAX_NODES as i16 + 2;
 
 /// The input of a search: residual arcs, the state of each node, and the node where the search begins.
 #[derive(Clone, Copy)]

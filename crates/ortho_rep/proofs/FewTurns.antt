@@ -7,7 +7,9 @@ use Rattle.std.proofs.lemmas.Int.{ints, by_lt_z}
 use lib.Signed.{lt_z}
 use Rattle.common.specs.Sums.{sum_below}
 use Rattle.common.proofs.Sums.{sum_below-same, sum_below-add, sum_below-le, sum_below-constant, exchanged}
+use Rattle.common.specs.declared.limits.TheConstants.{MAX_VERTICES}
 use Rattle.ortho_rep.specs.declared.turn.Turn.{Turn}
+use Rattle.ortho_rep.specs.declared.turn.TheConstants.{MAX_REPEATS}
 use Rattle.faces.specs.Planes.{PlaneModel, HasEnds, darts, vertices, head, reverse_dart, face_at}
 use Rattle.flow_network.specs.Straight.{is_straight}
 use Rattle.ortho_rep.specs.Turns.{lefts, rights}
@@ -165,7 +167,7 @@ few_lefts p marks a s v q ends rep prove e b =
     )
 
 -- so its string is short
-pub few_turns_keeping : (p : PlaneModel) (marks : List Bool) (a : ℕ → ℕ) (s : ℕ → List Turn) (v q : ℕ → ℤ) → HasEnds p → vertices p ≤ 255 → Rep p a s → ProveKeeping p marks a s v q → (d : ℕ) → d < darts p → length (s d) ≤ 6144
+pub few_turns_keeping : (p : PlaneModel) (marks : List Bool) (a : ℕ → ℕ) (s : ℕ → List Turn) (v q : ℕ → ℤ) → HasEnds p → vertices p ≤ MAX_VERTICES → Rep p a s → ProveKeeping p marks a s v q → (d : ℕ) → d < darts p → length (s d) ≤ MAX_REPEATS
 few_turns_keeping p marks a s v q ends order rep prove d b =
     omega (
       arith,
@@ -177,5 +179,5 @@ few_turns_keeping p marks a s v q ends order rep prove d b =
       few_lefts p marks a s v q ends rep prove (reverse_dart p d) (ends.reverse_dart_in_range d b),
     )
 
-pub few_turns : (p : PlaneModel) (a : ℕ → ℕ) (s : ℕ → List Turn) (v q : ℕ → ℤ) → HasEnds p → vertices p ≤ 255 → Rep p a s → Prove p a s v q → (d : ℕ) → d < darts p → length (s d) ≤ 6144
+pub few_turns : (p : PlaneModel) (a : ℕ → ℕ) (s : ℕ → List Turn) (v q : ℕ → ℤ) → HasEnds p → vertices p ≤ MAX_VERTICES → Rep p a s → Prove p a s v q → (d : ℕ) → d < darts p → length (s d) ≤ MAX_REPEATS
 few_turns p a s v q ends order rep prove = few_turns_keeping p [] a s v q ends order rep prove

@@ -6,12 +6,14 @@ use Rattle.std.proofs.lemmas.Bool.{cases_eq, eq-eqb, ne_eqb, or_cases, or_left, 
 use Rattle.std.proofs.lemmas.Int.{ints}
 use Rattle.std.proofs.lemmas.List.{map-append, reverse-append, replicate-append-replicate, length-replicate}
 use Rattle.common.specs.Sums.{sum_below}
+use Rattle.common.specs.declared.limits.TheConstants.{MAX_VERTICES}
 use Rattle.common.proofs.Sums.{sum_below-same, sum_below-add, sum_below-none, sum_below-split, sum_below-turned}
 use Rattle.faces.specs.Planes.{PlaneModel, HasEnds, darts, vertices, head, reverse_dart, face_at, degree}
 use Rattle.networks.specs.declared.arc.Arc.{Arc}
 use Rattle.networks.specs.Networks.{NetworkModel, arc_count, arc_at}
 use Rattle.networks.specs.Flow.{Flow, HasPotentials, IsWithinCap, IsUnsaturated, outflow, inflow, net_outflow}
 use Rattle.ortho_rep.specs.declared.turn.Turn.{Turn}
+use Rattle.ortho_rep.specs.declared.turn.TheConstants.{MAX_REPEATS}
 use Rattle.ortho_rep.specs.declared.turn.Turn.TheVariants.{Left, Right}
 use Rattle.flow_network.specs.Straight.{is_marked, is_straight}
 use Rattle.flow_network.specs.FaceNet.{IsKeepingNet, vertex_degree, crossing_cap}
@@ -270,7 +272,7 @@ one_sided_of_flow {marks} p net x q ends is flow fit d b left =
     ]
 
 -- the strings of a least-cost flow are short
-pub short_of_flow : {marks : List Bool} (p : PlaneModel) (net : NetworkModel) (x : ℕ → ℕ) (q : ℕ → ℤ) → HasEnds p → vertices p ≤ 255 → IsKeepingNet p marks net → Flow net x → HasPotentials net x q → (d : ℕ) → d < darts p → x (darts p + d) + x (darts p + reverse_dart p d) ≤ 6144
+pub short_of_flow : {marks : List Bool} (p : PlaneModel) (net : NetworkModel) (x : ℕ → ℕ) (q : ℕ → ℤ) → HasEnds p → vertices p ≤ MAX_VERTICES → IsKeepingNet p marks net → Flow net x → HasPotentials net x q → (d : ℕ) → d < darts p → x (darts p + d) + x (darts p + reverse_dart p d) ≤ MAX_REPEATS
 short_of_flow {marks} p net x q ends order is flow fit d b =
     omega (
       arith,

@@ -16,3 +16,4 @@ pub mod PushedLists
 pub mod SameAtDarts
 pub mod Tries
 pub mod Choosing
+pub mod FarFaces

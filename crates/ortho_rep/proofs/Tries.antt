@@ -1,6 +1,7 @@
 -- The best of the faces that were tried.
-use Rattle.std.proofs.Common.{◌≡◌, ◌≤◌, ◌<◌, ◌+◌, ◌-◌, ◌*◌, ℕ, ◌⊎◌, inl, inr, List, [], replicate, sym, ap, ◌∙◌, subst, below_more, arith}
-use Rattle.std.proofs.lemmas.List.{get_or-replicate}
+use Rattle.std.proofs.Common.{◌≡◌, ◌≤◌, ◌<◌, ◌+◌, ◌-◌, ◌*◌, ℕ, ◌⊎◌, inl, inr, List, [], length, get_or, set, replicate, sym, ap, ◌∙◌, subst, below_more, arith}
+use Rattle.std.proofs.lemmas.Bool.{cases_eq}
+use Rattle.std.proofs.lemmas.List.{get_or-replicate, get_or-set_same, get_or-set_other}
 use Rattle.std.specs.Prelude.{ℤ, pos, ◌+ℤ◌, ◌-ℤ◌, ◌*ℤ◌}
 use borrow.Author.Differences.{up, down}
 use Rattle.std.proofs.lemmas.Int.{ints}
@@ -146,6 +147,18 @@ bound_of_potentials p net bends ps face bound own other ends outer inside is sho
 pub no_bounds : (p : PlaneModel) (n : ℕ) → p.faces ≤ n → AreBounds p (replicate n 0)
 no_bounds p n few = record {
   each = λ f b a s rep. omega (arith, get_or-replicate {A = ℕ} n f 0 0 (omega arith));
+}
+
+-- a bound may rise to what is proved of its face
+pub raised : (p : PlaneModel) (bounds : List ℕ) (place face bound : ℕ) → AreBounds p bounds → place < length bounds → place ≡ face → NeedsBends (with_outer p face) bound → AreBounds p (set bounds place bound)
+raised p bounds place face bound are within here needs = record {
+  each = λ f b.
+      elim (cases_eq f place) [
+        | inl e ↦
+            let written : get_or (set bounds place bound) f 0 ≡ bound = ap (λ (z : ℕ). get_or (set bounds place bound) z 0) e ∙ get_or-set_same bounds place bound 0 within in
+            subst (λ (n : ℕ). NeedsBends (with_outer p f) n) (sym written) (subst (λ (g : ℕ). NeedsBends (with_outer p g) bound) (sym here ∙ sym e) needs)
+        | inr ne ↦ subst (λ (n : ℕ). NeedsBends (with_outer p f) n) (sym (get_or-set_other bounds place f bound 0 ne)) (are.each f b)
+      ];
 }
 
 -- a plane with another outer face is one

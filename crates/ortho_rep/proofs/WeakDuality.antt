@@ -87,7 +87,7 @@ arranged_more : (x k a b : ℕ) → b ≤ a → x * a + (x + k) * b ≤ (x + k) 
 arranged_more x k a b h = omega (arith, mul-le-mul_left k h)
 
 -- to take what one has more of where it costs less is no dearer
-arranged : (x y a b : ℕ) → (x < y → b ≤ a) → (y < x → a ≤ b) → x * a + y * b ≤ y * a + x * b
+pub arranged : (x y a b : ℕ) → (x < y → b ≤ a) → (y < x → a ≤ b) → x * a + y * b ≤ y * a + x * b
 arranged x y a b more less =
     elim (cases_order x y) [
       | inl e ↦ omega (arith, ap (λ (z : ℕ). z * a) e, ap (λ (z : ℕ). z * b) e)

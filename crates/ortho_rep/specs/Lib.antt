@@ -13,5 +13,6 @@ pub mod FlatPoints
 pub mod PointStores
 pub mod Edges
 pub mod Best
+pub mod Distances
 pub mod Tries
 pub mod BestKeeping

@@ -14,7 +14,7 @@ turns_in dart = replicate dart.count dart.turn
 abbrev pub shape_in : List DartShape → ShapeModel
 shape_in darts = record { angles = map (λ dart. dart.angle) darts; strings = map turns_in darts }
 
--- at most 1,020 darts, each with at most 6,144 turns
+-- at most 4,800 darts, each with at most 28,824 turns
 pub record AreRepeats (darts : List DartShape) : Type 0 where
   pub few : length darts ≤ MAX_DARTS
   pub short : All (λ dart. dart.count ≤ MAX_REPEATS) darts

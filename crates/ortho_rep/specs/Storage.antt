@@ -25,7 +25,7 @@ pub record AreStarts {A : Type 0} (starts : List ℕ) (items : List A) : Type 0 
   pub ordered : (k : ℕ) → k + 1 < length starts → slice_index starts k ≤ slice_index starts (k + 1)
   pub inside : (k : ℕ) → k < length starts → slice_index starts k ≤ length items
 
--- a string for each of at most 1,020 darts, of at most 1,000,000 turns
+-- a string for each of at most 4,800 darts, of at most 1,000,000 turns
 pub record HasFewTurns (strings : List (Vec Turn Global)) : Type 0 where
   pub few : length strings ≤ MAX_DARTS
   pub short : All (λ string. vec_len string ≤ MAX_TURNS) strings

@@ -1,9 +1,10 @@
 -- What is known of the faces of a plane that were tried as outer faces.
-use Rattle.std.specs.Prelude.{◌≡◌, ℕ, ◌<◌, ◌≤◌, List, slice_index}
-use Rattle.faces.specs.Planes.{PlaneModel, with_outer}
+use Rattle.std.specs.Prelude.{◌≡◌, ℕ, ◌<◌, ◌≤◌, List, length, slice_index}
+use Rattle.faces.specs.Planes.{PlaneModel, darts, with_outer}
 use Rattle.flow_network.specs.FaceNet.{IsFaceNetOf}
 use Rattle.ortho_rep.specs.declared.best.Incumbent.{Incumbent}
 use Rattle.ortho_rep.specs.declared.best.Moving.{Moving}
+use Rattle.ortho_rep.specs.declared.best.Walk.{Walk}
 use Rattle.ortho_rep.specs.Best.{HasRep, NeedsBends}
 
 -- the flow that moves stands at the outer face of p
@@ -31,3 +32,8 @@ pub record IsNoBetter (p : PlaneModel) (bends face f : ℕ) : Type 0 where
 -- with each face as the outer one at least as many bends are needed as the list has at its place
 pub record AreBounds (p : PlaneModel) (bounds : List ℕ) : Type 0 where
   pub each : (f : ℕ) → f < p.faces → NeedsBends (with_outer p f) (slice_index bounds f)
+
+-- a tour has room for each face and each dart
+pub record HasRoom (p : PlaneModel) (walk : Walk) : Type 0 where
+  pub faces : p.faces ≤ length walk.seen.items
+  pub darts : darts p ≤ length walk.tree_darts.items

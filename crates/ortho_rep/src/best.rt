@@ -7,17 +7,21 @@ ghost use Rattle.min_cost_flow.specs.SolverState.{IsShown};
 ghost use Rattle.ortho_rep.specs.Representation.{IsShape, IsLeast};
 ghost use Rattle.ortho_rep.specs.Prices.{IsProof};
 ghost use Rattle.ortho_rep.specs.Best.{HasRep, NeedsBends, IsBest};
-ghost use Rattle.ortho_rep.specs.Tries.{IsMoving, IsIncumbent, IsNoWorse, IsNoBetter, AreBounds};
+ghost use Rattle.ortho_rep.specs.Tries.{IsMoving, IsIncumbent, IsNoWorse, IsNoBetter, AreBounds, HasRoom};
 
+use crate::distances::raise_bounds;
 use crate::least::shape_in;
 use crate::prices::Prices;
 use crate::scratch::ShapeLists;
 use crate::shape::Shape;
-use embedding::MAX_DARTS;
-use faces::{MAX_FACES, Plane};
+use common::filled;
+use faces::Plane;
 use flow_network::FaceNet;
 use min_cost_flow::{SolveFault, WarmStart};
 use std::alloc::{AllocError, Global};
+
+/// In a plane with no more faces, it is quicker to try a face than to measure distances from it.
+const FEW_FACES: u16 = 64;
 
 /// The best face so far, and how many bends are needed with it as the outer one.
 #[derive(Clone, Copy)]
@@ -41,11 +45,12 @@ impl Incumbent {
 /// Makes the best face the outer face; returns a least shape, with prices that prove it.
 ///
 /// The best face minimises bends, and has the least number among equals. Each face is tried, except those for which the
-/// potentials of an earlier one prove that they are no better.
+/// potentials of an earlier one, or in a large plane the distances from it, prove that they are no better.
 ///
 /// # Errors
 ///
-/// `AllocError` if there is no memory for a network, its flow, the shape or the prices. The plane is then unchanged.
+/// `AllocError` if there is no memory for a network, its flow, the bounds of faces, the shape or the prices. The plane is
+/// then unchanged.
 pub fn best_shape(alloc: Global, plane: &mut Plane) -> Result<(Shape, Prices), AllocError>
     ensures outer_moved { OnOk result (plane.new ≡ with_outer plane.old plane.new.outer) }
     ensures best { OnOk result (IsBest plane.new) }
@@ -73,7 +78,7 @@ fn best_found(alloc: Global, plane: &mut Plane) -> Result<(Shape, Prices), Alloc
     ensures proof { IfOk result (λ found. IsProof plane.new found.0 found.1) }
 {
     let moving = begin(alloc, plane)?;
-    let (moving, incumbent) = best_incumbent(plane, moving);
+    let (moving, incumbent) = best_incumbent(alloc, plane, moving)?;
     let moving = outer_moved(moving, plane, incumbent.face);
     plane.set_outer(incumbent.face);
     let solved = moving.warm_start.solved(alloc)?;
@@ -123,23 +128,71 @@ fn outer_moved(moving: Moving, plane: &Plane, face: u16) -> Moving
 }
 
 /// The best face. The outer face is left as it was set last.
-fn best_incumbent(plane: &mut Plane, moving: Moving) -> (Moving, Incumbent)
+fn best_incumbent(
+    alloc: Global,
+    plane: &mut Plane,
+    moving: Moving,
+) -> Result<(Moving, Incumbent), AllocError>
     requires moving { IsMoving plane.old moving }
     ensures outer_moved { plane.new ≡ with_outer plane.old plane.new.outer }
-    ensures moving { IsMoving plane.new result.0 }
-    ensures named { result.1.face < plane.old.faces }
-    ensures best { IsBest (with_outer plane.old result.1.face) }
+    ensures moving { IfOk result (λ found. IsMoving plane.new found.0) }
+    ensures named { IfOk result (λ found. found.1.face < plane.old.faces) }
+    ensures best { IfOk result (λ found. IsBest (with_outer plane.old found.1.face)) }
 {
-    let faces = plane.face_count();
-    let mut bounds = [0; MAX_FACES];
-    let bends = bends_and_bounds(plane, &moving, &mut bounds);
+    let faces = usize::from(plane.face_count());
+    let mut bounds = filled(Vec::new(alloc), faces, 0)?;
+    try_faces(alloc, plane, moving, &mut bounds)
+}
+
+/// The same, in a list of bounds, which rise.
+fn try_faces(
+    alloc: Global,
+    plane: &mut Plane,
+    moving: Moving,
+    bounds: &mut [u64],
+) -> Result<(Moving, Incumbent), AllocError>
+    requires moving { IsMoving plane.old moving }
+    requires room { plane.old.faces ≤ length bounds.old }
+    requires bounds { AreBounds plane.old bounds.old }
+    ensures outer_moved { plane.new ≡ with_outer plane.old plane.new.outer }
+    ensures moving { IfOk result (λ found. IsMoving plane.new found.0) }
+    ensures named { IfOk result (λ found. found.1.face < plane.old.faces) }
+    ensures best { IfOk result (λ found. IsBest (with_outer plane.old found.1.face)) }
+{
+    let mut walk = Walk::new(alloc, plane)?;
+    let bends = bends_and_bounds(plane, &moving, bounds);
     let face = plane.outer();
     let mut incumbent = Incumbent { face, bends };
-    let mut moving = tour(plane, moving, &mut incumbent, &mut bounds);
-    for face in 0..faces {
-        moving = visit(plane, moving, &mut incumbent, &mut bounds, face);
+    let faces = plane.face_count();
+    if faces > FEW_FACES {
+        raise_bounds(alloc, plane, bounds)?;
     }
-    (moving, incumbent)
+    let mut moving = tour(plane, moving, &mut incumbent, bounds, &mut walk);
+    for face in 0..faces {
+        moving = visit(plane, moving, &mut incumbent, bounds, face);
+    }
+    Ok((moving, incumbent))
+}
+
+/// Where a tour has been.
+#[derive(Drop)]
+struct Walk {
+    // by face: whether it has come to it
+    seen: Vec<bool>,
+    // by dart: whether it crossed its edge to a face that it had not seen
+    tree_darts: Vec<bool>,
+}
+
+impl Walk {
+    /// That of a tour that begins at the outer face.
+    fn new(alloc: Global, plane: &Plane) -> Result<Walk, AllocError>
+        ensures { IfOk result (HasRoom plane.now) }
+    {
+        let mut seen = filled(Vec::new(alloc), usize::from(plane.face_count()), false)?;
+        seen[usize::from(plane.outer())] = true;
+        let tree_darts = filled(Vec::new(alloc), usize::from(plane.graph().darts()), false)?;
+        Ok(Walk { seen, tree_darts })
+    }
 }
 
 /// Tries faces in depth-first order over shared edges, so that each move is short. Which faces it
@@ -147,25 +200,28 @@ fn best_incumbent(plane: &mut Plane, moving: Moving) -> (Moving, Incumbent)
 ///
 /// It walks round the outer face, and crosses each edge to a face that it has not visited yet. It walks round
 /// each face that it enters this way, and goes back across the edge by which it came.
-fn tour(plane: &mut Plane, moving: Moving, incumbent: &mut Incumbent, bounds: &mut [u64]) -> Moving
+fn tour(
+    plane: &mut Plane,
+    moving: Moving,
+    incumbent: &mut Incumbent,
+    bounds: &mut [u64],
+    walk: &mut Walk,
+) -> Moving
     requires moving { IsMoving plane.old moving }
     requires incumbent { IsIncumbent plane.old incumbent.old }
     requires room { plane.old.faces ≤ length bounds.old }
     requires bounds { AreBounds plane.old bounds.old }
+    requires walk { HasRoom plane.old walk.old }
     ensures outer_moved { plane.new ≡ with_outer plane.old plane.new.outer }
     ensures moving { IsMoving plane.new result }
     ensures incumbent { IsIncumbent plane.new incumbent.new }
     ensures bounds { AreBounds plane.new bounds.new }
 {
     let darts = plane.graph().darts();
-    let mut seen = [false; MAX_FACES];
-    let mut tree_darts = [false; MAX_DARTS];
-    let outer = plane.outer();
-    seen[usize::from(outer)] = true;
-    let mut dart = plane.least_dart(outer);
+    let mut dart = plane.least_dart(plane.outer());
     let mut moving = moving;
     for _step in 0..darts {
-        let (next, face) = next_of_tour(plane, dart, &mut seen, &mut tree_darts);
+        let (next, face) = next_of_tour(plane, dart, walk);
         dart = next;
         if let Some(face) = face {
             moving = visit(plane, moving, incumbent, bounds, face);
@@ -176,28 +232,23 @@ fn tour(plane: &mut Plane, moving: Moving, incumbent: &mut Incumbent, bounds: &m
 
 /// The dart to look at after one, and the face across if it has not been seen yet. Then the edge
 /// becomes a door: both of its darts lead on to what comes after their reverse.
-fn next_of_tour(
-    plane: &Plane,
-    dart: u16,
-    seen: &mut [bool],
-    tree_darts: &mut [bool],
-) -> (u16, Option<u16>)
+fn next_of_tour(plane: &Plane, dart: u16, walk: &mut Walk) -> (u16, Option<u16>)
     requires dart { dart < darts plane.now }
-    requires seen { plane.now.faces ≤ length seen.old }
-    requires tree_darts { darts plane.now ≤ length tree_darts.old }
+    requires walk { HasRoom plane.now walk.old }
+    ensures walk { HasRoom plane.now walk.new }
     ensures next { result.0 < darts plane.now }
     ensures face { IfSome result.1 (λ face. face < plane.now.faces) }
 {
     let across = plane.graph().reverse(dart);
     let face = plane.face_of(across);
     let mut found = None;
-    if !seen[usize::from(face)] {
-        seen[usize::from(face)] = true;
-        tree_darts[usize::from(dart)] = true;
-        tree_darts[usize::from(across)] = true;
+    if !walk.seen[usize::from(face)] {
+        walk.seen[usize::from(face)] = true;
+        walk.tree_darts[usize::from(dart)] = true;
+        walk.tree_darts[usize::from(across)] = true;
         found = Some(face);
     }
-    let from = if tree_darts[usize::from(dart)] {
+    let from = if walk.tree_darts[usize::from(dart)] {
         across
     } else {
         dart

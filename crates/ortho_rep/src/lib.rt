@@ -5,6 +5,7 @@
 mod best;
 mod best_keeping;
 mod certificate;
+mod distances;
 mod flat_points;
 mod least;
 mod lists;

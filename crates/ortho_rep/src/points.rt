@@ -124,7 +124,7 @@ impl Points {
     }
 
     /// The point of a vertex, numbered from 1.
-    pub fn vertex(&self, vertex: u8) -> Point
+    pub fn vertex(&self, vertex: u16) -> Point
         requires some { 0 < vertex }
         requires within { vertex ≤ length self.now.vertices }
         ensures { result ≡ vertex_point self.now vertex }

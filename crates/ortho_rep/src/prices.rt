@@ -92,7 +92,7 @@ impl Prices {
     }
 
     /// The price of a vertex, numbered from 1.
-    pub fn vertex(&self, vertex: u8) -> i32
+    pub fn vertex(&self, vertex: u16) -> i32
         requires some { 0 < vertex }
         requires within { vertex ≤ length self.now.vertices }
         ensures { result ≡ vertex_price self.now vertex }

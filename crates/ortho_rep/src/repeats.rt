@@ -21,7 +21,7 @@ pub struct DartShape {
 // It takes four bytes.
 const _: () = prove!(size_of::<DartShape>() == 4);
 
-/// The shapes of at most 1,020 darts, in one list. In contracts it is the list of the angles and the list of the
+/// The shapes of at most 4,800 darts, in one list. In contracts it is the list of the angles and the list of the
 /// strings.
 #[derive(Debug, Drop)]
 pub(crate) struct Repeats {
@@ -83,13 +83,13 @@ impl Repeats {
     }
 
     /// How many turns all darts have. Linear in the darts.
-    pub(crate) fn turn_count(&self) -> u32
+    pub(crate) fn turn_count(&self) -> u64
         ensures count { result ≡ sum_below (length self.now.strings) (λ d. length (turns_at self.now d)) }
         ensures few { result ≤ length self.now.strings * MAX_TURNS }
     {
         let mut turns = 0;
         for i in 0..self.darts.len() {
-            turns += u32::from(self.darts[i].count);
+            turns += u64::from(self.darts[i].count);
         }
         turns
     }

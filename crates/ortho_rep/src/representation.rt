@@ -1,6 +1,6 @@
 //! Whether a shape is an orthogonal representation of a plane, by the conditions of Tamassia (1987).
 
-ghost use Rattle.std.specs.Prelude.{◌≡◌, ◌≤◌, ◌<◌, ◌+◌, ◌↔◌, ℕ, IsTrue, length, replicate, slice_index, pos, negsuc, ◌-ℤ◌, if◌then◌else◌};
+ghost use Rattle.std.specs.Prelude.{◌≡◌, ◌≤◌, ◌<◌, ◌+◌, ◌^◌, ◌↔◌, ℕ, IsTrue, length, replicate, slice_index, pos, negsuc, ◌-ℤ◌, if◌then◌else◌};
 ghost use Rattle.faces.specs.Planes.{darts, vertices, reverse_dart};
 ghost use Rattle.ortho_rep.specs.Shapes.{angle_at, turns_at};
 ghost use Rattle.ortho_rep.specs.Turns.{mirrored};
@@ -9,6 +9,13 @@ ghost use Rattle.ortho_rep.specs.Representation.{HasDarts, IsShape, angles_aroun
 use crate::shape::Shape;
 use crate::turn::{count_lefts, mirrors};
 use faces::{MAX_FACES, Plane};
+
+// A sum for each vertex and one more, or for each face. All of them are set before, so small planes get few.
+const FEW_SUMS: usize = 64;
+
+const MORE_SUMS: usize = 257;
+
+const MOST_SUMS: usize = MAX_FACES;
 
 /// Whether the shape is an orthogonal representation of the plane with its outer face.
 ///
@@ -68,8 +75,27 @@ fn angles_sum_to_four(plane: &Plane, shape: &Shape) -> bool
     ensures { IsTrue result ↔ ((v : ℕ) → 1 ≤ v → v ≤ vertices plane.now
         → angles_around plane.now (angle_at shape.now) v ≡ 4) }
 {
+    let sums = usize::from(plane.graph().vertices()) + 1;
+    if sums <= FEW_SUMS {
+        angles_sum_to_four_in::<FEW_SUMS>(plane, shape)
+    } else if sums <= MORE_SUMS {
+        angles_sum_to_four_in::<MORE_SUMS>(plane, shape)
+    } else {
+        angles_sum_to_four_in::<MOST_SUMS>(plane, shape)
+    }
+}
+
+/// The same, by N sums.
+#[inline(never)]
+fn angles_sum_to_four_in<const N: usize>(plane: &Plane, shape: &Shape) -> bool
+    requires darts { HasDarts plane.now shape.now }
+    requires room { vertices plane.now < N }
+    requires few { N < 2 ^ 16 }
+    ensures { IsTrue result ↔ ((v : ℕ) → 1 ≤ v → v ≤ vertices plane.now
+        → angles_around plane.now (angle_at shape.now) v ≡ 4) }
+{
     let vertices = plane.graph().vertices();
-    let mut sums = [0; 256];
+    let mut sums = [0; N];
     add_angles(plane, shape, &mut sums);
     for place in 0..vertices {
         if sums[usize::from(place) + 1] != 4 {
@@ -100,9 +126,29 @@ fn turns_faces(plane: &Plane, shape: &Shape) -> bool
         → turning_around plane.now (angle_at shape.now) (turns_at shape.now) f
         ≡ whole_turn plane.now f) }
 {
+    let sums = usize::from(plane.face_count());
+    if sums <= FEW_SUMS {
+        turns_faces_in::<FEW_SUMS>(plane, shape)
+    } else if sums <= MORE_SUMS {
+        turns_faces_in::<MORE_SUMS>(plane, shape)
+    } else {
+        turns_faces_in::<MOST_SUMS>(plane, shape)
+    }
+}
+
+/// The same, by N sums of left turns, and as many of right turns.
+#[inline(never)]
+fn turns_faces_in<const N: usize>(plane: &Plane, shape: &Shape) -> bool
+    requires darts { HasDarts plane.now shape.now }
+    requires room { plane.now.faces ≤ N }
+    requires few { N < 2 ^ 16 }
+    ensures { IsTrue result ↔ ((f : ℕ) → f < plane.now.faces
+        → turning_around plane.now (angle_at shape.now) (turns_at shape.now) f
+        ≡ whole_turn plane.now f) }
+{
     let faces = plane.face_count();
-    let mut left_sums = [0; MAX_FACES];
-    let mut right_sums = [0; MAX_FACES];
+    let mut left_sums = [0; N];
+    let mut right_sums = [0; N];
     add_turns(plane, shape, &mut left_sums, &mut right_sums);
     for face in 0..faces {
         let place = usize::from(face);

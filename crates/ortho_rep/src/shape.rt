@@ -46,7 +46,7 @@ impl Model for Shape {
 }
 
 impl Shape {
-    /// Whether there are at most 1,020 strings of at most 1,000,000 turns, as `new` requires.
+    /// Whether there are at most 4,800 strings of at most 1,000,000 turns, as `new` requires.
     pub fn have_few_turns(strings: &[Vec<Turn>]) -> bool
         ensures { IsTrue result ↔ ((length strings.now ≤ MAX_DARTS)
             × All (λ string. vec_len string ≤ MAX_TURNS) strings.now) }
@@ -102,7 +102,7 @@ impl Shape {
         }
     }
 
-    /// The number of strings, at most 1,020.
+    /// The number of strings, at most 4,800.
     pub fn string_count(&self) -> usize
         ensures count { result ≡ length self.now.strings }
         ensures few { result ≤ MAX_DARTS }
@@ -138,7 +138,7 @@ impl Shape {
     }
 
     /// The total number of turns of all strings. Linear in the strings.
-    pub fn turn_count(&self) -> u32
+    pub fn turn_count(&self) -> u64
         ensures count { result ≡ sum_below (length self.now.strings) (λ d. length (turns_at self.now d)) }
         ensures few { result ≤ length self.now.strings * MAX_TURNS }
     {
@@ -154,6 +154,8 @@ impl Shape {
     pub fn bends(&self) -> u32
         ensures { result ≡ bends_of (length self.now.strings) (turns_at self.now) }
     {
-        self.turn_count() / 2
+        // Only the proof needs this: `string_count` says that there are few.
+        let _strings = self.string_count();
+        (self.turn_count() / 2) as u32
     }
 }

@@ -12,7 +12,7 @@ use std::marker::Model;
 /// The maximum number of turns of a string.
 pub const MAX_TURNS: usize = 1_000_000;
 
-/// The string of turns of each dart: at most 1,020 strings of at most 1,000,000 turns. In contracts it
+/// The string of turns of each dart: at most 4,800 strings of at most 1,000,000 turns. In contracts it
 /// is the list of the strings.
 #[derive(Debug, Drop)]
 pub(crate) struct Strings {
@@ -59,13 +59,13 @@ impl Strings {
     }
 
     /// How many turns all strings have. Linear in the strings.
-    pub(crate) fn turn_count(&self) -> u32
+    pub(crate) fn turn_count(&self) -> u64
         ensures count { result ≡ sum_below (length self.now) (λ i. length (slice_index_or self.now i [])) }
         ensures few { result ≤ length self.now * MAX_TURNS }
     {
         let mut turns = 0;
         for i in 0..self.len() {
-            turns += self.get(i).len() as u32;
+            turns += self.get(i).len() as u64;
         }
         turns
     }

@@ -4,6 +4,8 @@ ghost use Rattle.std.specs.Prelude.{◌≡◌, ◌≤◌, ◌↔◌, IsTrue, len
 ghost use Rattle.ortho_rep.specs.declared.turn.TheConstants.{MAX_REPEATS};
 ghost use Rattle.ortho_rep.specs.Turns.{lefts, mirrored};
 
+use embedding::MAX_VERTICES;
+
 /// A quarter turn of an edge, as seen when walking along a dart.
 #[derive(Clone, Copy, Debug, PartialEq, Eq)]
 pub enum Turn {
@@ -15,7 +17,7 @@ pub enum Turn {
 const _: () = prove!(size_of::<Turn>() == 1);
 
 /// The maximum number of turns of a `DartShape`. No string of a least shape is longer.
-pub const MAX_REPEATS: usize = 6_144;
+pub const MAX_REPEATS: usize = 24 * MAX_VERTICES + 24;
 
 static LEFTS: [Turn; MAX_REPEATS] = [Turn::Left; MAX_REPEATS];
 

@@ -12,3 +12,4 @@ pub mod Walking
 pub mod Plains
 pub mod Oversize
 pub mod Parsing
+pub mod WideRecords

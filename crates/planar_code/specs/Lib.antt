@@ -7,3 +7,4 @@ pub mod Framer
 pub mod Step
 pub mod Plain
 pub mod Parse
+pub mod Wide

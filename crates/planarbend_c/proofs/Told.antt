@@ -1,26 +1,25 @@
 -- From what is told of a finding to what comes of a call.
 use Rattle.std.proofs.Common.{◌≡◌, ◌∙◌, ℕ, List, Bool, false, Option, Some, None, ap, is_some, sym}
-use Rattle.planar_code.specs.Stream.{IsRecord}
 use Rattle.common.specs.declared.choice.Choice.{Choice}
 use Rattle.common.specs.declared.drawing_kind.DrawingKind.{DrawingKind}
-use Rattle.conditions.specs.declared.conditions.Conditions.{Conditions}
 use Rattle.planarbend_c.specs.declared.counts.Counts.{Counts}
 use Rattle.planarbend_c.specs.declared.outcome.Outcome.{Outcome}
-use Rattle.planarbend_c.specs.declared.outcome.Outcome.TheVariants.{Laid, Refused, NotARecord, Memory, Room, Argument, NoShape, NoEdge, NoOuter, Wide}
+use Rattle.planarbend_c.specs.declared.outcome.Outcome.TheVariants.{Laid, Refused, NotARecord, Memory, Room, Argument, NoShape, NoEdge, NoOuter, Wide, Large}
 use Rattle.planarbend_c.specs.declared.request.Request.{Request}
 use Rattle.planarbend_c.specs.Cuts.{CutModel}
-use Rattle.planarbend_c.specs.Faults.{IsFault, IsKeepingFault}
+use Rattle.planarbend_c.specs.Sources.{Input, IsOneRecord, input_lists, input_of}
+use Rattle.planarbend_c.specs.Faults.{IsFault, IsFaultOf, IsKeepingFaultOf, IsUnparsed}
 use Rattle.planarbend_c.specs.Requests.{choice_in, drawing_in}
 use Rattle.planarbend_c.specs.Held.{ListsModel}
 use Rattle.planarbend_c.specs.Found.{Finding, IsAsAsked}
 use Rattle.planarbend_c.specs.Outcomes.{IsAnswerOf, IsOutcome, IsOutcomeKeeping, IsOutcomeOf, IsTold}
 
 -- what is found is an answer
-pub answer_of : (Is : Choice → List ℕ → Finding → Type 0) (bytes : List ℕ) (outer drawing : ℕ) (choice : Choice) (kind : Option DrawingKind) (found : Finding)
-    → choice_in outer ≡ Some choice → drawing_in drawing ≡ Some kind → IsRecord bytes → Is choice bytes found
+pub answer_of : (Is : Choice → List (List ℕ) → Finding → Type 0) (input : Input) (outer drawing : ℕ) (choice : Choice) (kind : Option DrawingKind) (found : Finding)
+    → choice_in outer ≡ Some choice → drawing_in drawing ≡ Some kind → IsOneRecord input → Is choice (input_lists input) found
     → IsAsAsked kind found
-    → IsAnswerOf Is bytes outer drawing found
-answer_of Is bytes outer drawing choice kind found choice_asked kind_asked is_record is_found asked =
+    → IsAnswerOf Is input outer drawing found
+answer_of Is input outer drawing choice kind found choice_asked kind_asked is_record is_found asked =
     record {
       choice = choice;
       choice_asked = choice_asked;
@@ -32,63 +31,81 @@ answer_of Is bytes outer drawing choice kind found choice_asked kind_asked is_re
     }
 
 -- what is told of an answer is what comes of the call
-pub told : (Is : Choice → List ℕ → Finding → Type 0) (Unkept : Outcome → Type 0) (bytes : List ℕ) (outer drawing : ℕ) (found : Finding) (counts : Counts) (lists : ListsModel) (outcome : Outcome)
-    → IsAnswerOf Is bytes outer drawing found → IsTold found counts lists outcome → IsOutcomeOf Is Unkept bytes outer drawing counts lists outcome
-told Is Unkept bytes outer drawing found counts lists Laid answer is =
+pub told : (Is : Choice → List (List ℕ) → Finding → Type 0) (Unkept : Outcome → Type 0) (input : Input) (outer drawing : ℕ) (found : Finding) (counts : Counts) (lists : ListsModel) (outcome : Outcome)
+    → IsAnswerOf Is input outer drawing found → IsTold found counts lists outcome → IsOutcomeOf Is Unkept input outer drawing counts lists outcome
+told Is Unkept input outer drawing found counts lists Laid answer is =
     record { found = found; answer = answer; counted = is.0; held = is.1 }
-told Is Unkept bytes outer drawing found counts lists Room answer is =
+told Is Unkept input outer drawing found counts lists Room answer is =
     record { found = found; answer = answer; counted = is.0; short = is.1 }
-told Is Unkept bytes outer drawing found counts lists Memory answer is = tt
-told Is Unkept bytes outer drawing found counts lists (Refused rule) answer is = absurd is
-told Is Unkept bytes outer drawing found counts lists NotARecord answer is = absurd is
-told Is Unkept bytes outer drawing found counts lists Argument answer is = absurd is
-told Is Unkept bytes outer drawing found counts lists NoShape answer is = absurd is
-told Is Unkept bytes outer drawing found counts lists NoEdge answer is = absurd is
-told Is Unkept bytes outer drawing found counts lists NoOuter answer is = absurd is
-told Is Unkept bytes outer drawing found counts lists Wide answer is = absurd is
+told Is Unkept input outer drawing found counts lists Memory answer is = tt
+told Is Unkept input outer drawing found counts lists (Refused rule) answer is = absurd is
+told Is Unkept input outer drawing found counts lists NotARecord answer is = absurd is
+told Is Unkept input outer drawing found counts lists Argument answer is = absurd is
+told Is Unkept input outer drawing found counts lists NoShape answer is = absurd is
+told Is Unkept input outer drawing found counts lists NoEdge answer is = absurd is
+told Is Unkept input outer drawing found counts lists NoOuter answer is = absurd is
+told Is Unkept input outer drawing found counts lists Wide answer is = absurd is
+told Is Unkept input outer drawing found counts lists Large answer is = absurd is
+
+-- what is shown of the lists of a record is shown of the input
+pub of_record : (Shows : List (List ℕ) → Outcome → Type 0) (input : Input) (it : Outcome) → IsOneRecord input → (Shows (input_lists input) NotARecord → ⊥) → (Shows (input_lists input) Large → ⊥)
+    → Shows (input_lists input) it → IsFaultOf Shows input it
+of_record Shows input (Refused rule) is_record never never_large shown = (is_record, shown)
+of_record Shows input NotARecord is_record never never_large shown = absurd (never shown)
+of_record Shows input Memory is_record never never_large shown = tt
+of_record Shows input Laid is_record never never_large shown = (is_record, shown)
+of_record Shows input Room is_record never never_large shown = (is_record, shown)
+of_record Shows input Argument is_record never never_large shown = (is_record, shown)
+of_record Shows input NoShape is_record never never_large shown = (is_record, shown)
+of_record Shows input NoEdge is_record never never_large shown = (is_record, shown)
+of_record Shows input NoOuter is_record never never_large shown = (is_record, shown)
+of_record Shows input Wide is_record never never_large shown = (is_record, shown)
+of_record Shows input Large is_record never never_large shown = absurd (never_large shown)
 
 -- a refusal is what comes of the call
-pub refused_told : (bytes : List ℕ) (outer drawing : ℕ) (counts : Counts) (lists : ListsModel) (it : Outcome)
-    → IsFault bytes it → IsOutcome bytes outer drawing counts lists it
-refused_told bytes outer drawing counts lists (Refused rule) shown = shown
-refused_told bytes outer drawing counts lists NotARecord shown = shown
-refused_told bytes outer drawing counts lists Memory shown = tt
-refused_told bytes outer drawing counts lists Laid shown = absurd shown
-refused_told bytes outer drawing counts lists Room shown = absurd shown
-refused_told bytes outer drawing counts lists Argument shown = absurd shown
-refused_told bytes outer drawing counts lists NoShape shown = absurd shown
-refused_told bytes outer drawing counts lists NoEdge shown = absurd shown
-refused_told bytes outer drawing counts lists NoOuter shown = absurd shown
-refused_told bytes outer drawing counts lists Wide shown = absurd shown
+pub refused_told : (input : Input) (outer drawing : ℕ) (counts : Counts) (lists : ListsModel) (it : Outcome)
+    → IsFaultOf IsFault input it → IsOutcome input outer drawing counts lists it
+refused_told input outer drawing counts lists (Refused rule) shown = shown
+refused_told input outer drawing counts lists NotARecord shown = shown
+refused_told input outer drawing counts lists Memory shown = tt
+refused_told input outer drawing counts lists Laid shown = absurd shown.1
+refused_told input outer drawing counts lists Room shown = absurd shown.1
+refused_told input outer drawing counts lists Argument shown = absurd shown.1
+refused_told input outer drawing counts lists NoShape shown = absurd shown.1
+refused_told input outer drawing counts lists NoEdge shown = absurd shown.1
+refused_told input outer drawing counts lists NoOuter shown = absurd shown.1
+refused_told input outer drawing counts lists Wide shown = absurd shown.1
+refused_told input outer drawing counts lists Large shown = shown
 
 -- the same where conditions are to be kept
-pub unlaid_told : (request : Request) (choice : Choice) (bytes : List ℕ) (counts : Counts) (lists : ListsModel) (cut : CutModel) (it : Outcome)
-    → choice_in request.outer ≡ Some choice → IsKeepingFault request.conditions choice bytes cut it
-    → IsOutcomeKeeping request bytes counts lists cut it
-unlaid_told request choice bytes counts lists cut (Refused rule) asked shown = shown
-unlaid_told request choice bytes counts lists cut NotARecord asked shown = shown
-unlaid_told request choice bytes counts lists cut Memory asked shown = tt
-unlaid_told request choice bytes counts lists cut NoShape asked shown = record { choice = choice; choice_asked = asked; shown = shown }
-unlaid_told request choice bytes counts lists cut NoEdge asked shown = record { choice = choice; choice_asked = asked; shown = shown }
-unlaid_told request choice bytes counts lists cut NoOuter asked shown = record { choice = choice; choice_asked = asked; shown = shown }
-unlaid_told request choice bytes counts lists cut Wide asked shown = record { choice = choice; choice_asked = asked; shown = shown }
-unlaid_told request choice bytes counts lists cut Laid asked shown = absurd shown
-unlaid_told request choice bytes counts lists cut Room asked shown = absurd shown
-unlaid_told request choice bytes counts lists cut Argument asked shown = absurd shown
+pub unlaid_told : (request : Request) (choice : Choice) (counts : Counts) (lists : ListsModel) (cut : CutModel) (it : Outcome)
+    → choice_in request.outer ≡ Some choice → IsKeepingFaultOf request.conditions choice (input_of request.source) cut it
+    → IsOutcomeKeeping request counts lists cut it
+unlaid_told request choice counts lists cut (Refused rule) asked shown = shown
+unlaid_told request choice counts lists cut NotARecord asked shown = shown
+unlaid_told request choice counts lists cut Memory asked shown = tt
+unlaid_told request choice counts lists cut NoShape asked shown = record { choice = choice; choice_asked = asked; is_record = shown.0; shown = shown.1 }
+unlaid_told request choice counts lists cut NoEdge asked shown = record { choice = choice; choice_asked = asked; is_record = shown.0; shown = shown.1 }
+unlaid_told request choice counts lists cut NoOuter asked shown = record { choice = choice; choice_asked = asked; is_record = shown.0; shown = shown.1 }
+unlaid_told request choice counts lists cut Wide asked shown = record { choice = choice; choice_asked = asked; is_record = shown.0; shown = shown.1 }
+unlaid_told request choice counts lists cut Large asked shown = shown
+unlaid_told request choice counts lists cut Laid asked shown = absurd shown.1
+unlaid_told request choice counts lists cut Room asked shown = absurd shown.1
+unlaid_told request choice counts lists cut Argument asked shown = absurd shown.1
 
--- bytes that are not laid out without conditions are not laid out with any
-pub unlaid_anyhow : (conditions : Conditions) (choice : Choice) (bytes : List ℕ) (cut : CutModel) (it : Outcome)
-    → IsFault bytes it → IsKeepingFault conditions choice bytes cut it
-unlaid_anyhow conditions choice bytes cut (Refused rule) shown = shown
-unlaid_anyhow conditions choice bytes cut NotARecord shown = shown
-unlaid_anyhow conditions choice bytes cut Memory shown = tt
-unlaid_anyhow conditions choice bytes cut Laid shown = absurd shown
-unlaid_anyhow conditions choice bytes cut Room shown = absurd shown
-unlaid_anyhow conditions choice bytes cut Argument shown = absurd shown
-unlaid_anyhow conditions choice bytes cut NoShape shown = absurd shown
-unlaid_anyhow conditions choice bytes cut NoEdge shown = absurd shown
-unlaid_anyhow conditions choice bytes cut NoOuter shown = absurd shown
-unlaid_anyhow conditions choice bytes cut Wide shown = absurd shown
+-- an input that is not parsed is not laid out
+pub unparsed_anyhow : (Shows : List (List ℕ) → Outcome → Type 0) (input : Input) (it : Outcome) → IsUnparsed input it → IsFaultOf Shows input it
+unparsed_anyhow Shows input NotARecord shown = shown
+unparsed_anyhow Shows input Memory shown = tt
+unparsed_anyhow Shows input (Refused rule) shown = absurd shown.1
+unparsed_anyhow Shows input Laid shown = absurd shown.1
+unparsed_anyhow Shows input Room shown = absurd shown.1
+unparsed_anyhow Shows input Argument shown = absurd shown.1
+unparsed_anyhow Shows input NoShape shown = absurd shown.1
+unparsed_anyhow Shows input NoEdge shown = absurd shown.1
+unparsed_anyhow Shows input NoOuter shown = absurd shown.1
+unparsed_anyhow Shows input Wide shown = absurd shown.1
+unparsed_anyhow Shows input Large shown = shown
 
 -- whether a kind of drawing is asked for
 abbrev is_drawn_in : Option (Option DrawingKind) → Bool

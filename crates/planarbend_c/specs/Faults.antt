@@ -1,6 +1,5 @@
--- Why bytes are not laid out.
+-- Why a graph, given by its neighbour lists, is not laid out, and why what a caller gives is not.
 use Rattle.std.specs.Prelude.{◌≡◌, ℕ, List, ⊤}
-use Rattle.planar_code.specs.Stream.{IsRecord, lists_of}
 use Rattle.embedding.specs.Rules.{FirstBroken}
 use Rattle.common.specs.declared.choice.Choice.{Choice}
 use Rattle.faces.specs.Planes.{PlaneModel, IsPlane}
@@ -14,40 +13,55 @@ use Rattle.conditions.specs.declared.fault.Unkept.{Unkept}
 use Rattle.conditions.specs.Chosen.{IsKept}
 use Rattle.answers.specs.Kept.{IsUnkept}
 use Rattle.planarbend_c.specs.Cuts.{CutModel, HoldsCut}
+use Rattle.planarbend_c.specs.Sources.{Input, IsOneRecord, IsTooLarge, input_lists}
 use Rattle.planarbend_c.specs.declared.outcome.Outcome.{Outcome}
-use Rattle.planarbend_c.specs.declared.outcome.Outcome.TheVariants.{Refused, NotARecord, Memory, NoShape, NoEdge, NoOuter, Wide}
+use Rattle.planarbend_c.specs.declared.outcome.Outcome.TheVariants.{Refused, NotARecord, Memory, NoShape, NoEdge, NoOuter, Wide, Large}
 
--- what an outcome shows of bytes that are not laid out
-abbrev pub IsFault : List ℕ → Outcome → Type 0
+-- what an outcome shows of neighbour lists that are not laid out
+abbrev pub IsFault : List (List ℕ) → Outcome → Type 0
 -- the rule is broken, and none before it
-IsFault bytes (Refused rule) = IsRecord bytes × FirstBroken (lists_of bytes) rule
-IsFault bytes NotARecord = ¬ IsRecord bytes
+IsFault g (Refused rule) = FirstBroken g rule
 -- nothing is said
-IsFault bytes Memory = ⊤
+IsFault g Memory = ⊤
 -- no other comes of it
-IsFault bytes _ = ⊥
+IsFault g _ = ⊥
 
 -- a shape that keeps the conditions has boxes, and no coordinates in their order are in the grid
-pub record IsTooWide (conditions : Conditions) (choice : Choice) (bytes : List ℕ) : Type 0 where
+pub record IsTooWide (conditions : Conditions) (choice : Choice) (g : List (List ℕ)) : Type 0 where
   pub plane : PlaneModel
   pub shape : ShapeModel
   pub prices : PricesModel
-  pub lists : plane.lists ≡ lists_of bytes
+  pub lists : plane.lists ≡ g
   pub rules : IsPlane plane
   pub kept : IsKept conditions choice plane shape prices
   pub shown : IsCause plane shape cause.Wide
 
 -- no shape keeps the edges straight, and the vertices and faces that show it stand in the lists of the cut
-pub record HasCut (conditions : Conditions) (choice : Choice) (bytes : List ℕ) (cut : CutModel) : Type 0 where
+pub record HasCut (conditions : Conditions) (choice : Choice) (g : List (List ℕ)) (cut : CutModel) : Type 0 where
   pub why : Unkept
-  pub is_record : IsRecord bytes
-  pub shown : IsUnkept conditions choice bytes (keep.NoShape why)
+  pub shown : IsUnkept conditions choice g (keep.NoShape why)
   pub held : HoldsCut why cut
 
--- what an outcome shows where conditions are to be kept
-abbrev pub IsKeepingFault : Conditions → Choice → List ℕ → CutModel → Outcome → Type 0
-IsKeepingFault conditions choice bytes cut NoShape = HasCut conditions choice bytes cut
-IsKeepingFault conditions choice bytes cut NoEdge = IsRecord bytes × IsUnkept conditions choice bytes keep.NoEdge
-IsKeepingFault conditions choice bytes cut NoOuter = IsRecord bytes × IsUnkept conditions choice bytes keep.NoOuter
-IsKeepingFault conditions choice bytes cut Wide = IsRecord bytes × IsTooWide conditions choice bytes
-IsKeepingFault conditions choice bytes cut outcome = IsFault bytes outcome
+-- what an outcome shows of them where conditions are to be kept
+abbrev pub IsKeepingFault : Conditions → Choice → List (List ℕ) → CutModel → Outcome → Type 0
+IsKeepingFault conditions choice g cut NoShape = HasCut conditions choice g cut
+IsKeepingFault conditions choice g cut NoEdge = IsUnkept conditions choice g keep.NoEdge
+IsKeepingFault conditions choice g cut NoOuter = IsUnkept conditions choice g keep.NoOuter
+IsKeepingFault conditions choice g cut Wide = IsTooWide conditions choice g
+IsKeepingFault conditions choice g cut outcome = IsFault g outcome
+
+-- what an outcome shows of an input that is not laid out, where `Shows` says what it shows of the lists of a record
+abbrev pub IsFaultOf : (List (List ℕ) → Outcome → Type 0) → Input → Outcome → Type 0
+IsFaultOf Shows input NotARecord = (¬ IsOneRecord input) × (¬ IsTooLarge input)
+IsFaultOf Shows input Large = IsTooLarge input
+-- nothing is said
+IsFaultOf Shows input Memory = ⊤
+IsFaultOf Shows input outcome = IsOneRecord input × Shows (input_lists input) outcome
+
+-- what it shows of an input that is not parsed as a record
+abbrev pub IsUnparsed : Input → Outcome → Type 0
+IsUnparsed input outcome = IsFaultOf (λ g shown. ⊥) input outcome
+
+-- what it shows of an input where conditions are to be kept
+abbrev pub IsKeepingFaultOf : Conditions → Choice → Input → CutModel → Outcome → Type 0
+IsKeepingFaultOf conditions choice input cut outcome = IsFaultOf (λ g shown. IsKeepingFault conditions choice g cut shown) input outcome

@@ -1,7 +1,6 @@
--- What a call finds of a record, and how it is told to C.
+-- What a call finds of a graph, given by its neighbour lists, and how it is told to C.
 use Rattle.std.specs.Prelude.{◌≡◌, ℕ, ◌+◌, ◌*◌, ◌<◌, ◌≤◌, List, length, map, take, slice_index, Bool, true, Option, Some, None, is_some, ⊤}
 use Rattle.std.specs.List.{flat_map}
-use Rattle.planar_code.specs.Stream.{lists_of}
 use Rattle.common.specs.declared.choice.Choice.{Choice}
 use Rattle.common.specs.declared.drawing_kind.DrawingKind.{DrawingKind}
 use Rattle.common.specs.declared.drawing_kind.DrawingKind.TheVariants.{Quick}
@@ -38,7 +37,7 @@ abbrev pub IsQuickIfAsked : PlaneModel → ShapeModel → Option PointsModel →
 IsQuickIfAsked plane shape None = ⊤
 IsQuickIfAsked plane shape (Some points) = IsQuick plane shape points
 
--- what is found of a record: its plane, a shape of it, prices, the kind of drawing that the shape is for, and points
+-- what is found of a graph: its plane, a shape of it, prices, the kind of drawing that the shape is for, and points
 -- where a drawing is asked for
 pub record Finding : Type 0 where
   pub plane : PlaneModel
@@ -59,10 +58,10 @@ pub record IsAsAsked (kind : Option DrawingKind) (found : Finding) : Type 0 wher
   pub points : is_some found.points ≡ is_some kind
   pub shape : found.kind ≡ shape_kind kind
 
--- it is of a record of these bytes under a choice of the outer face
-pub record IsFound (choice : Choice) (bytes : List ℕ) (found : Finding) : Type 0 where
-  -- the plane has the record's neighbour lists
-  pub lists : found.plane.lists ≡ lists_of bytes
+-- it is of a graph with these neighbour lists under a choice of the outer face
+pub record IsFound (choice : Choice) (g : List (List ℕ)) (found : Finding) : Type 0 where
+  -- the plane has these neighbour lists
+  pub lists : found.plane.lists ≡ g
   -- no rule is broken, and the faces are those of the lists
   pub rules : IsPlane found.plane
   -- the outer face is the chosen one
@@ -88,9 +87,9 @@ abbrev pub AreKeptStraightIfAsked : Conditions → PlaneModel → Option PointsM
 AreKeptStraightIfAsked conditions plane None = ⊤
 AreKeptStraightIfAsked conditions plane (Some points) = AreKeptStraight conditions plane points
 
--- it is of a record of these bytes under a choice of the outer face and conditions
-pub record IsFoundKeeping (conditions : Conditions) (choice : Choice) (bytes : List ℕ) (found : Finding) : Type 0 where
-  pub lists : found.plane.lists ≡ lists_of bytes
+-- it is of a graph with these neighbour lists under a choice of the outer face and conditions
+pub record IsFoundKeeping (conditions : Conditions) (choice : Choice) (g : List (List ℕ)) (found : Finding) : Type 0 where
+  pub lists : found.plane.lists ≡ g
   pub rules : IsPlane found.plane
   -- the outer face is the chosen one of those that may be outside, and the shape has the fewest bends of all that keep
   -- the edges straight, as the prices prove

@@ -1,4 +1,5 @@
 pub mod Codes
+pub mod Sources
 pub mod Requests
 pub mod Held
 pub mod Found

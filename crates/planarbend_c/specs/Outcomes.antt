@@ -1,42 +1,42 @@
 -- What comes of a call, by its number, and what it shows.
 use Rattle.std.specs.Prelude.{◌≡◌, ◌⊎◌, ℕ, List, Option, Some, None, is_some, ⊤}
-use Rattle.planar_code.specs.Stream.{IsRecord, lists_of}
 use Rattle.embedding.specs.Rules.{FirstBroken}
 use Rattle.common.specs.declared.choice.Choice.{Choice}
 use Rattle.common.specs.declared.drawing_kind.DrawingKind.{DrawingKind}
 use Rattle.planarbend_c.specs.declared.request.Request.{Request}
 use Rattle.planarbend_c.specs.Cuts.{CutModel}
+use Rattle.planarbend_c.specs.Sources.{Input, IsOneRecord, IsTooLarge, input_lists, input_of}
 use Rattle.planarbend_c.specs.Faults.{IsKeepingFault}
 use Rattle.planarbend_c.specs.declared.counts.Counts.{Counts}
 use Rattle.planarbend_c.specs.declared.outcome.Outcome.{Outcome}
-use Rattle.planarbend_c.specs.declared.outcome.Outcome.TheVariants.{Laid, Refused, NotARecord, Memory, Room, Argument, NoShape, NoEdge, NoOuter, Wide}
+use Rattle.planarbend_c.specs.declared.outcome.Outcome.TheVariants.{Laid, Refused, NotARecord, Memory, Room, Argument, NoShape, NoEdge, NoOuter, Wide, Large}
 use Rattle.planarbend_c.specs.Requests.{choice_in, drawing_in}
 use Rattle.planarbend_c.specs.Held.{ListsModel}
 use Rattle.planarbend_c.specs.Found.{Finding, IsAsAsked, IsFound, IsFoundKeeping, AreCounts, HoldFinding, HaveRoom}
 
--- the bytes are a record, of which something is found under what the numbers of an outer face and of a drawing ask for:
+-- the input is one record, of which something is found under what the numbers of an outer face and of a drawing ask for:
 -- `Is` says what
-pub record IsAnswerOf (Is : Choice → List ℕ → Finding → Type 0) (bytes : List ℕ) (outer drawing : ℕ) (found : Finding) : Type 0 where
+pub record IsAnswerOf (Is : Choice → List (List ℕ) → Finding → Type 0) (input : Input) (outer drawing : ℕ) (found : Finding) : Type 0 where
   pub choice : Choice
   pub choice_asked : choice_in outer ≡ Some choice
   pub kind : Option DrawingKind
   pub kind_asked : drawing_in drawing ≡ Some kind
   -- it is what this kind of drawing asks for
   pub as_asked : IsAsAsked kind found
-  pub is_record : IsRecord bytes
-  pub is_found : Is choice bytes found
+  pub is_record : IsOneRecord input
+  pub is_found : Is choice (input_lists input) found
 
 -- what is found of the record stands in the counts and in the lists
-pub record IsLaidOut (Is : Choice → List ℕ → Finding → Type 0) (bytes : List ℕ) (outer drawing : ℕ) (counts : Counts) (lists : ListsModel) : Type 0 where
+pub record IsLaidOut (Is : Choice → List (List ℕ) → Finding → Type 0) (input : Input) (outer drawing : ℕ) (counts : Counts) (lists : ListsModel) : Type 0 where
   pub found : Finding
-  pub answer : IsAnswerOf Is bytes outer drawing found
+  pub answer : IsAnswerOf Is input outer drawing found
   pub counted : AreCounts found counts
   pub held : HoldFinding found lists
 
 -- what is found stands in the counts, and some list has room for less
-pub record LacksRoom (Is : Choice → List ℕ → Finding → Type 0) (bytes : List ℕ) (outer drawing : ℕ) (counts : Counts) (lists : ListsModel) : Type 0 where
+pub record LacksRoom (Is : Choice → List (List ℕ) → Finding → Type 0) (input : Input) (outer drawing : ℕ) (counts : Counts) (lists : ListsModel) : Type 0 where
   pub found : Finding
-  pub answer : IsAnswerOf Is bytes outer drawing found
+  pub answer : IsAnswerOf Is input outer drawing found
   pub counted : AreCounts found counts
   pub short : ¬ HaveRoom (is_some found.points) counts lists
 
@@ -45,34 +45,37 @@ abbrev pub AsksNothing : ℕ → ℕ → Type 0
 AsksNothing outer drawing = (choice_in outer ≡ None) ⊎ (drawing_in drawing ≡ None)
 
 -- what an outcome shows, where `Unkept` says what is shown where conditions are not kept
-abbrev pub IsOutcomeOf : (Choice → List ℕ → Finding → Type 0) → (Outcome → Type 0) → List ℕ → ℕ → ℕ → Counts → ListsModel → Outcome → Type 0
-IsOutcomeOf Is Unkept bytes outer drawing counts lists Laid = IsLaidOut Is bytes outer drawing counts lists
+abbrev pub IsOutcomeOf : (Choice → List (List ℕ) → Finding → Type 0) → (Outcome → Type 0) → Input → ℕ → ℕ → Counts → ListsModel → Outcome → Type 0
+IsOutcomeOf Is Unkept input outer drawing counts lists Laid = IsLaidOut Is input outer drawing counts lists
 -- the rule is broken, and none before it
-IsOutcomeOf Is Unkept bytes outer drawing counts lists (Refused rule) = IsRecord bytes × FirstBroken (lists_of bytes) rule
-IsOutcomeOf Is Unkept bytes outer drawing counts lists NotARecord = ¬ IsRecord bytes
+IsOutcomeOf Is Unkept input outer drawing counts lists (Refused rule) = IsOneRecord input × FirstBroken (input_lists input) rule
+IsOutcomeOf Is Unkept input outer drawing counts lists NotARecord = (¬ IsOneRecord input) × (¬ IsTooLarge input)
 -- nothing is said
-IsOutcomeOf Is Unkept bytes outer drawing counts lists Memory = ⊤
-IsOutcomeOf Is Unkept bytes outer drawing counts lists Room = LacksRoom Is bytes outer drawing counts lists
-IsOutcomeOf Is Unkept bytes outer drawing counts lists Argument = AsksNothing outer drawing
-IsOutcomeOf Is Unkept bytes outer drawing counts lists NoShape = Unkept NoShape
-IsOutcomeOf Is Unkept bytes outer drawing counts lists NoEdge = Unkept NoEdge
-IsOutcomeOf Is Unkept bytes outer drawing counts lists NoOuter = Unkept NoOuter
-IsOutcomeOf Is Unkept bytes outer drawing counts lists Wide = Unkept Wide
+IsOutcomeOf Is Unkept input outer drawing counts lists Memory = ⊤
+IsOutcomeOf Is Unkept input outer drawing counts lists Room = LacksRoom Is input outer drawing counts lists
+IsOutcomeOf Is Unkept input outer drawing counts lists Argument = AsksNothing outer drawing
+IsOutcomeOf Is Unkept input outer drawing counts lists NoShape = Unkept NoShape
+IsOutcomeOf Is Unkept input outer drawing counts lists NoEdge = Unkept NoEdge
+IsOutcomeOf Is Unkept input outer drawing counts lists NoOuter = Unkept NoOuter
+IsOutcomeOf Is Unkept input outer drawing counts lists Wide = Unkept Wide
+-- the number of vertices is above the maximum
+IsOutcomeOf Is Unkept input outer drawing counts lists Large = IsTooLarge input
 
--- without conditions the last four do not come
-abbrev pub IsOutcome : List ℕ → ℕ → ℕ → Counts → ListsModel → Outcome → Type 0
-IsOutcome bytes outer drawing counts lists outcome = IsOutcomeOf IsFound (λ _. ⊥) bytes outer drawing counts lists outcome
+-- without conditions these four do not come
+abbrev pub IsOutcome : Input → ℕ → ℕ → Counts → ListsModel → Outcome → Type 0
+IsOutcome input outer drawing counts lists outcome = IsOutcomeOf IsFound (λ _. ⊥) input outer drawing counts lists outcome
 
--- a choice that is asked for, and what is shown under it
-pub record IsUnlaid (request : Request) (bytes : List ℕ) (cut : CutModel) (outcome : Outcome) : Type 0 where
+-- a choice that is asked for, and what is shown of the record under it
+pub record IsUnlaid (request : Request) (cut : CutModel) (outcome : Outcome) : Type 0 where
   pub choice : Choice
   pub choice_asked : choice_in request.outer ≡ Some choice
-  pub shown : IsKeepingFault request.conditions choice bytes cut outcome
+  pub is_record : IsOneRecord (input_of request.source)
+  pub shown : IsKeepingFault request.conditions choice (input_lists (input_of request.source)) cut outcome
 
 -- with conditions
-abbrev pub IsOutcomeKeeping : Request → List ℕ → Counts → ListsModel → CutModel → Outcome → Type 0
-IsOutcomeKeeping request bytes counts lists cut outcome =
-    IsOutcomeOf (IsFoundKeeping request.conditions) (IsUnlaid request bytes cut) bytes request.outer request.drawing counts lists outcome
+abbrev pub IsOutcomeKeeping : Request → Counts → ListsModel → CutModel → Outcome → Type 0
+IsOutcomeKeeping request counts lists cut outcome =
+    IsOutcomeOf (IsFoundKeeping request.conditions) (IsUnlaid request cut) (input_of request.source) request.outer request.drawing counts lists outcome
 
 -- what an outcome shows of a finding that is told to C
 abbrev pub IsTold : Finding → Counts → ListsModel → Outcome → Type 0

@@ -7,6 +7,7 @@ ghost use Rattle.planarbend_c.specs.Held.{contents};
 ghost use Rattle.planarbend_c.specs.Cuts.{cut_contents};
 ghost use Rattle.planarbend_c.specs.Found.{AreCounts, HaveRoom, HoldFinding, IsDrawnIfAsked, finding_of};
 ghost use Rattle.planarbend_c.specs.Requests.{drawing_in};
+ghost use Rattle.planarbend_c.specs.Sources.{input_of};
 ghost use Rattle.planarbend_c.specs.Left.{AreAsLong, AreSameAfter, HaveSamePoints};
 ghost use Rattle.planarbend_c.specs.Outcomes.{IsOutcome, IsOutcomeKeeping, IsTold};
 
@@ -20,46 +21,46 @@ use crate::outcome::Outcome;
 use crate::points::{put_corner_starts, put_corners, put_points};
 use crate::request::{Request, choice_of, drawing_of};
 use crate::shapes::{put_angles, put_face_prices, put_turns, put_vertex_prices};
+use crate::source::Source;
 use std::alloc::Global;
 
-/// Lays out the record in `bytes`, and returns the code of the outcome.
+/// Lays out the record that the source is, and returns the code of the outcome.
 ///
 /// `outer` and `drawing` are the numbers of an outer face and of a kind of drawing; `planarbend.h` says what each
 /// number means. The counts are written if the record is laid out, and the lists too if each has room.
 #[unsafe(no_mangle)]
 pub extern "C" fn planarbend_c_layout(
     alloc: Global,
-    bytes: &[u8],
+    source: &Source<'_>,
     outer: u32,
     drawing: u32,
     counts: &mut Counts,
     lists: &mut Lists<'_>,
 ) -> u32
     ensures outcome { (outcome : Outcome) × (result ≡ code_of outcome)
-        × IsOutcome bytes.now outer drawing counts.new (contents lists.new) outcome }
+        × IsOutcome (input_of source.now) outer drawing counts.new (contents lists.new) outcome }
     ensures refused { ¬ (result ≡ code_of Outcome.Laid) → contents lists.new ≡ contents lists.old }
     ensures rest { AreSameAfter counts.new (contents lists.old) (contents lists.new) }
     ensures undrawn { drawing_in drawing ≡ Some None → HaveSamePoints (contents lists.old) (contents lists.new) }
     ensures uncounted { ¬ (result ≡ code_of Outcome.Laid) → ¬ (result ≡ code_of Outcome.Room) → counts.new ≡ counts.old }
 {
-    answer(alloc, bytes, outer, drawing, counts, lists).code()
+    answer(alloc, source, outer, drawing, counts, lists).code()
 }
 
-/// Lays out the record in `bytes` under the conditions of a request; returns the code of the outcome.
+/// Lays out the record of a request under its conditions; returns the code of the outcome.
 ///
 /// What is written is as for [`planarbend_c_layout`]; the shape has the fewest bends of all that keep the conditions.
 /// If no shape keeps the edges straight, the cut is written instead.
 #[unsafe(no_mangle)]
 pub extern "C" fn planarbend_c_layout_keeping(
     alloc: Global,
-    bytes: &[u8],
     request: &Request<'_>,
     counts: &mut Counts,
     lists: &mut Lists<'_>,
     cut: &mut CutLists<'_>,
 ) -> u32
     ensures outcome { (outcome : Outcome) × (result ≡ code_of outcome)
-        × IsOutcomeKeeping request.now bytes.now counts.new (contents lists.new) (cut_contents cut.new) outcome }
+        × IsOutcomeKeeping request.now counts.new (contents lists.new) (cut_contents cut.new) outcome }
     ensures refused { ¬ (result ≡ code_of Outcome.Laid) → contents lists.new ≡ contents lists.old }
     ensures rest { AreSameAfter counts.new (contents lists.old) (contents lists.new) }
     ensures undrawn { drawing_in request.now.drawing ≡ Some None → HaveSamePoints (contents lists.old) (contents lists.new) }
@@ -67,19 +68,18 @@ pub extern "C" fn planarbend_c_layout_keeping(
     ensures uncut { ¬ (result ≡ code_of Outcome.NoShape) → cut_contents cut.new ≡ cut_contents cut.old }
     ensures cut_room { AreAsLong (cut_contents cut.old) (cut_contents cut.new) }
 {
-    answer_keeping(alloc, bytes, request, counts, lists, cut).code()
+    answer_keeping(alloc, request, counts, lists, cut).code()
 }
 
 /// Lays out the record as requested; returns the outcome.
 fn answer_keeping(
     alloc: Global,
-    bytes: &[u8],
     request: &Request<'_>,
     counts: &mut Counts,
     lists: &mut Lists<'_>,
     cut: &mut CutLists<'_>,
 ) -> Outcome
-    ensures outcome { IsOutcomeKeeping request.now bytes.now counts.new (contents lists.new) (cut_contents cut.new) result }
+    ensures outcome { IsOutcomeKeeping request.now counts.new (contents lists.new) (cut_contents cut.new) result }
     ensures refused { ¬ (result ≡ Outcome.Laid) → contents lists.new ≡ contents lists.old }
     ensures rest { AreSameAfter counts.new (contents lists.old) (contents lists.new) }
     ensures undrawn { drawing_in request.now.drawing ≡ Some None → HaveSamePoints (contents lists.old) (contents lists.new) }
@@ -93,7 +93,14 @@ fn answer_keeping(
     let Some(kind) = drawing_of(request.drawing) else {
         return Outcome::Argument;
     };
-    match lay_out_keeping(alloc, bytes, choice, kind, &request.conditions, cut) {
+    match lay_out_keeping(
+        alloc,
+        &request.source,
+        choice,
+        kind,
+        &request.conditions,
+        cut,
+    ) {
         Ok(layout) => tell(&layout, counts, lists),
         Err(outcome) => outcome,
     }
@@ -102,13 +109,13 @@ fn answer_keeping(
 /// Lays out the record; returns the outcome.
 fn answer(
     alloc: Global,
-    bytes: &[u8],
+    source: &Source<'_>,
     outer: u32,
     drawing: u32,
     counts: &mut Counts,
     lists: &mut Lists<'_>,
 ) -> Outcome
-    ensures outcome { IsOutcome bytes.now outer drawing counts.new (contents lists.new) result }
+    ensures outcome { IsOutcome (input_of source.now) outer drawing counts.new (contents lists.new) result }
     ensures refused { ¬ (result ≡ Outcome.Laid) → contents lists.new ≡ contents lists.old }
     ensures rest { AreSameAfter counts.new (contents lists.old) (contents lists.new) }
     ensures undrawn { drawing_in drawing ≡ Some None → HaveSamePoints (contents lists.old) (contents lists.new) }
@@ -120,7 +127,7 @@ fn answer(
     let Some(kind) = drawing_of(drawing) else {
         return Outcome::Argument;
     };
-    match lay_out(alloc, bytes, choice, kind) {
+    match lay_out(alloc, source, choice, kind) {
         Ok(layout) => tell(&layout, counts, lists),
         Err(outcome) => outcome,
     }

@@ -1,7 +1,6 @@
 //! What is found of a record whose layout keeps conditions.
 
 ghost use Rattle.std.specs.Prelude.{◌≡◌, ℕ, List, OnOk, IfOk, IfErr, is_some};
-ghost use Rattle.planar_code.specs.Stream.{IsRecord};
 ghost use Rattle.common.specs.declared.choice.Choice.{Choice};
 ghost use Rattle.conditions.specs.declared.conditions.Conditions.{Conditions};
 ghost use Rattle.conditions.specs.Chosen.{IsKept};
@@ -13,67 +12,66 @@ ghost use Rattle.planarbend_c.specs.declared.outcome.Outcome.{Outcome};
 ghost use Rattle.planarbend_c.specs.Cuts.{cut_contents};
 ghost use Rattle.planarbend_c.specs.Left.{AreAsLong};
 ghost use Rattle.planarbend_c.specs.Found.{AreKeptStraightIfAsked, AreStraightIfAsked, IsAsAsked, IsDrawnIfAsked, IsFoundKeeping, IsQuickIfAsked, finding, finding_of};
-ghost use Rattle.planarbend_c.specs.Faults.{IsKeepingFault};
+ghost use Rattle.planarbend_c.specs.Faults.{IsKeepingFault, IsKeepingFaultOf};
+ghost use Rattle.planarbend_c.specs.Sources.{IsOneRecord, input_lists, input_of, parsed_lists};
 
 use crate::cut::{CutLists, put_cut};
 use crate::laid::Layout;
-use crate::layout::parsed;
 use crate::outcome::Outcome;
+use crate::parsed::{Parsed, parse};
 use crate::request::shape_kind;
+use crate::source::Source;
 use answers::{KeptPlane, RecordScratch};
 use common::{Choice, DrawingKind};
 use compact::CompactFault;
 use conditions::{Conditions, KeepFault};
 use embedding::ReadFault;
 use ortho_rep::Points;
-use planar_code::Record;
 use std::alloc::Global;
 
-/// The layout that keeps conditions of the record that the bytes are, with this drawing or none.
+/// The layout that keeps conditions of the record that the source is, with this drawing or none.
 ///
 /// If no shape keeps the edges straight, the cut is written.
 pub(crate) fn lay_out_keeping(
     alloc: Global,
-    bytes: &[u8],
+    source: &Source<'_>,
     choice: Choice,
     kind: Option<DrawingKind>,
     conditions: &Conditions<'_>,
     cut: &mut CutLists<'_>,
 ) -> Result<Layout, Outcome>
-    ensures found { IfOk result (λ layout. IsFoundKeeping conditions.now choice bytes.now (finding_of layout)) }
+    ensures found { IfOk result (λ layout. IsFoundKeeping conditions.now choice (input_lists (input_of source.now)) (finding_of layout)) }
     ensures asked { IfOk result (λ layout. IsAsAsked kind (finding_of layout)) }
-    ensures is_record { IfOk result (λ _. IsRecord bytes.now) }
-    ensures fault { IfErr result (IsKeepingFault conditions.now choice bytes.now (cut_contents cut.new)) }
+    ensures is_record { IfOk result (λ _. IsOneRecord (input_of source.now)) }
+    ensures fault { IfErr result (IsKeepingFaultOf conditions.now choice (input_of source.now) (cut_contents cut.new)) }
     ensures laid { OnOk result (cut_contents cut.new ≡ cut_contents cut.old) }
     ensures uncut { IfErr result (λ fault. ¬ (fault ≡ Outcome.NoShape) → cut_contents cut.new ≡ cut_contents cut.old) }
     ensures long { AreAsLong (cut_contents cut.old) (cut_contents cut.new) }
 {
-    let rec = match parsed(alloc, bytes) {
-        Ok(rec) => rec,
-        Err(outcome) => return Err(outcome),
-    };
-    laid_keeping(alloc, &rec, choice, kind, conditions, cut)
+    match parse(alloc, source) {
+        Ok(rec) => laid_keeping(alloc, &rec, choice, kind, conditions, cut),
+        Err(outcome) => Err(outcome),
+    }
 }
 
 /// The layout that keeps conditions of a record, with this drawing or none.
 fn laid_keeping(
     alloc: Global,
-    rec: &Record,
+    rec: &Parsed,
     choice: Choice,
     kind: Option<DrawingKind>,
     conditions: &Conditions<'_>,
     cut: &mut CutLists<'_>,
 ) -> Result<Layout, Outcome>
-    requires { IsRecord rec.now }
-    ensures found { IfOk result (λ layout. IsFoundKeeping conditions.now choice rec.now (finding_of layout)) }
+    ensures found { IfOk result (λ layout. IsFoundKeeping conditions.now choice (parsed_lists rec.now) (finding_of layout)) }
     ensures asked { IfOk result (λ layout. IsAsAsked kind (finding_of layout)) }
-    ensures fault { IfErr result (IsKeepingFault conditions.now choice rec.now (cut_contents cut.new)) }
+    ensures fault { IfErr result (IsKeepingFault conditions.now choice (parsed_lists rec.now) (cut_contents cut.new)) }
     ensures laid { OnOk result (cut_contents cut.new ≡ cut_contents cut.old) }
     ensures uncut { IfErr result (λ fault. ¬ (fault ≡ Outcome.NoShape) → cut_contents cut.new ≡ cut_contents cut.old) }
     ensures long { AreAsLong (cut_contents cut.old) (cut_contents cut.new) }
 {
     let mut scratch = RecordScratch::empty(alloc);
-    let kept = match scratch.shape_keeping(alloc, rec, conditions, choice, shape_kind(kind)) {
+    let kept = match rec.shape_keeping(alloc, &mut scratch, conditions, choice, shape_kind(kind)) {
         Ok(Ok(kept)) => kept,
         Ok(Err(fault)) => return Err(unkept(fault, cut)),
         Err(ReadFault::Rule(rule)) => return Err(Outcome::Refused(rule)),
@@ -110,8 +108,8 @@ fn laid_kept(kept: KeptPlane, drawing: Option<Points>) -> Layout
 /// The outcome of a call if the plane of a record has no shape that keeps the conditions for this reason. If none keeps
 /// the edges straight, the cut is written.
 fn unkept(fault: KeepFault, cut: &mut CutLists<'_>) -> Outcome
-    ensures told { (conditions : Conditions) (choice : Choice) (bytes : List ℕ) → IsRecord bytes
-        → IsUnkept conditions choice bytes fault → IsKeepingFault conditions choice bytes (cut_contents cut.new) result }
+    ensures told { (conditions : Conditions) (choice : Choice) (g : List (List ℕ))
+        → IsUnkept conditions choice g fault → IsKeepingFault conditions choice g (cut_contents cut.new) result }
     ensures uncut { ¬ (result ≡ Outcome.NoShape) → cut_contents cut.new ≡ cut_contents cut.old }
     ensures long { AreAsLong (cut_contents cut.old) (cut_contents cut.new) }
 {

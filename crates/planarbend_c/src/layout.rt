@@ -2,34 +2,35 @@
 
 ghost use Rattle.std.specs.Prelude.{◌≡◌, IfOk, IfErr, is_some};
 ghost use Rattle.answers.specs.Steps.{IsPlaneOf};
-ghost use Rattle.planar_code.specs.Stream.{IsRecord};
 ghost use Rattle.planarbend_c.specs.Requests.{shape_kind};
+ghost use Rattle.planarbend_c.specs.Sources.{IsOneRecord, input_lists, input_of, parsed_lists};
 ghost use Rattle.planarbend_c.specs.Found.{IsAsAsked, IsDrawnIfAsked, IsFound, IsQuickIfAsked, finding, finding_of};
-ghost use Rattle.planarbend_c.specs.Faults.{IsFault};
+ghost use Rattle.planarbend_c.specs.Faults.{IsFault, IsFaultOf};
 
 use crate::laid::Layout;
 use crate::outcome::Outcome;
+use crate::parsed::{Parsed, parse};
 use crate::request::shape_kind;
+use crate::source::Source;
 use answers::{RecordScratch, ShapedPlane};
 use common::{Choice, DrawingKind};
 use embedding::ReadFault;
 use ortho_rep::Points;
-use planar_code::{ParseFault, Record};
 use std::alloc::{AllocError, Global};
 
-/// The layout of the record that the bytes are, with this drawing or none.
+/// The layout of the record that the source is, with this drawing or none.
 pub(crate) fn lay_out(
     alloc: Global,
-    bytes: &[u8],
+    source: &Source<'_>,
     choice: Choice,
     kind: Option<DrawingKind>,
 ) -> Result<Layout, Outcome>
-    ensures found { IfOk result (λ layout. IsFound choice bytes.now (finding_of layout)) }
+    ensures found { IfOk result (λ layout. IsFound choice (input_lists (input_of source.now)) (finding_of layout)) }
     ensures asked { IfOk result (λ layout. IsAsAsked kind (finding_of layout)) }
-    ensures is_record { IfOk result (λ _. IsRecord bytes.now) }
-    ensures fault { IfErr result (IsFault bytes.now) }
+    ensures is_record { IfOk result (λ _. IsOneRecord (input_of source.now)) }
+    ensures fault { IfErr result (IsFaultOf IsFault (input_of source.now)) }
 {
-    let rec = parsed(alloc, bytes)?;
+    let rec = parse(alloc, source)?;
     let mut scratch = RecordScratch::empty(alloc);
     laid_record(alloc, &mut scratch, &rec, choice, kind)
 }
@@ -38,13 +39,13 @@ pub(crate) fn lay_out(
 fn laid_record(
     alloc: Global,
     scratch: &mut RecordScratch,
-    rec: &Record,
+    rec: &Parsed,
     choice: Choice,
     kind: Option<DrawingKind>,
 ) -> Result<Layout, Outcome>
-    ensures found { IfOk result (λ layout. IsFound choice rec.now (finding_of layout)) }
+    ensures found { IfOk result (λ layout. IsFound choice (parsed_lists rec.now) (finding_of layout)) }
     ensures asked { IfOk result (λ layout. IsAsAsked kind (finding_of layout)) }
-    ensures fault { IfErr result (IsFault rec.now) }
+    ensures fault { IfErr result (IsFault (parsed_lists rec.now)) }
 {
     let shaped_plane = shaped(alloc, scratch, rec, choice, kind)?;
     let drawing = drawn(alloc, scratch, &shaped_plane, kind)?;
@@ -71,34 +72,19 @@ fn laid_shape(shaped_plane: ShapedPlane, drawing: Option<Points>) -> Layout
     }
 }
 
-/// The record that the bytes are.
-pub(crate) fn parsed(alloc: Global, bytes: &[u8]) -> Result<Record, Outcome>
-    ensures same { IfOk result (λ rec. rec ≡ bytes.now) }
-    ensures is_record { IfOk result (λ _. IsRecord bytes.now) }
-    ensures fault { IfErr result (IsFault bytes.now) }
-{
-    match Record::parse(alloc, bytes) {
-        Ok(rec) => Ok(rec),
-        Err(ParseFault::Memory) => Err(Outcome::Memory),
-        Err(_) => Err(Outcome::NotARecord),
-    }
-}
-
 /// The plane of the record with prices and a least shape for this drawing, or for a quick one.
 fn shaped(
     alloc: Global,
     scratch: &mut RecordScratch,
-    rec: &Record,
+    rec: &Parsed,
     choice: Choice,
     kind: Option<DrawingKind>,
 ) -> Result<ShapedPlane, Outcome>
-    ensures plane { IfOk result (λ shaped_plane. IsPlaneOf choice rec.now shaped_plane.plane) }
+    ensures plane { IfOk result (λ shaped_plane. IsPlaneOf choice (parsed_lists rec.now) shaped_plane.plane) }
     ensures kind { IfOk result (λ shaped_plane. shaped_plane.drawing_kind ≡ shape_kind kind) }
-    ensures fault { IfErr result (IsFault rec.now) }
+    ensures fault { IfErr result (IsFault (parsed_lists rec.now)) }
 {
-    // Only the proof needs this: `bytes` says that the record is one.
-    let _bytes = rec.bytes();
-    match scratch.shape(alloc, rec, choice, shape_kind(kind)) {
+    match rec.shape(alloc, scratch, choice, shape_kind(kind)) {
         Ok(shaped_plane) => Ok(shaped_plane),
         Err(ReadFault::Rule(rule)) => Err(Outcome::Refused(rule)),
         Err(ReadFault::Memory) => Err(Outcome::Memory),

@@ -10,12 +10,15 @@ mod laid;
 mod layout;
 mod lists;
 mod outcome;
+mod parsed;
 mod points;
 mod request;
 mod shapes;
+mod source;
 
 pub use counts::Counts;
 pub use cut::CutLists;
 pub use export::{planarbend_c_layout, planarbend_c_layout_keeping};
 pub use lists::{DartTurns, GridPoint, Lists};
 pub use request::Request;
+pub use source::Source;

@@ -13,9 +13,9 @@ pub(crate) enum Outcome {
     Laid,
     /// This is the first rule that the record breaks.
     Refused(Rule),
-    /// The bytes are not one record.
+    /// The bytes or entries are not one record.
     NotARecord,
-    /// Memory ran out, which says nothing of the bytes.
+    /// Memory ran out, which says nothing of the record.
     Memory,
     /// The record is laid out, but some list has room for less than there is. The counts are written.
     Room,
@@ -29,6 +29,8 @@ pub(crate) enum Outcome {
     NoOuter,
     /// No drawing of the shape in the order of its boxes is in the grid.
     Wide,
+    /// The entries begin with a number of vertices above the maximum.
+    Large,
 }
 
 impl Outcome {
@@ -47,6 +49,7 @@ impl Outcome {
             Outcome::NoEdge => 14,
             Outcome::NoOuter => 15,
             Outcome::Wide => 16,
+            Outcome::Large => 17,
         }
     }
 }

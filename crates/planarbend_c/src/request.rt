@@ -3,13 +3,15 @@
 ghost use Rattle.std.specs.Prelude.{◌≡◌};
 ghost use Rattle.planarbend_c.specs.Requests.{choice_in, drawing_in, shape_kind};
 
+use crate::source::Source;
 use common::{Choice, DrawingKind};
 use conditions::Conditions;
 
-/// The options of a call: numbers of an outer face and of a kind of drawing, and the conditions to keep.
+/// What a call is asked for: a record, the numbers of an outer face and of a kind of drawing, and the conditions to keep.
 #[repr(C)]
 #[derive(Clone, Copy)]
 pub struct Request<'a> {
+    pub source: Source<'a>,
     pub outer: u32,
     pub drawing: u32,
     pub conditions: Conditions<'a>,

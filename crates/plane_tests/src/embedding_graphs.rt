@@ -63,7 +63,7 @@ fn broken_rules_take_no_memory(rt: HostRuntime) {
 }
 
 /// Each dart of the triangle: its tail, its head, its reverse and the one after it.
-const DARTS: [(u8, u8, u16, u16); 6] = [
+const DARTS: [(u16, u16, u16, u16); 6] = [
     (1, 2, 3, 1),
     (1, 3, 4, 0),
     (2, 3, 5, 3),

@@ -26,7 +26,7 @@ fn broken(alloc: Global, bytes: &[u8]) -> Result<Option<Rule>, AllocError> {
 }
 
 /// Records, and the rule that each breaks first, if any.
-const RECORDS: [(&[u8], Option<Rule>); 16] = [
+pub(crate) const RECORDS: [(&[u8], Option<Rule>); 16] = [
     (EDGE, None),
     (TETRAHEDRON, None),
     (&[2, 3, 0, 1, 0], Some(Rule::Range)),
@@ -122,6 +122,30 @@ fn a_large_torus_breaks_the_last_rule(rt: HostRuntime) {
     let record = record_of(rt.alloc(), &bytes).expect(&rt, "a record");
     same!(&rt, broken_rule(&record), Some(Rule::Genus));
     same!(&rt, broken(rt.alloc(), &bytes), Ok(Some(Rule::Genus)));
+}
+
+/// The record of the complete graph on 255 vertices, which is the longest record.
+fn complete(alloc: Global) -> Result<Vec<u8>, AllocError> {
+    let mut bytes = Vec::new(alloc);
+    bytes.push(255)?;
+    for vertex in 1..=255u8 {
+        for other in 1..=255u8 {
+            if other != vertex {
+                bytes.push(other)?;
+            }
+        }
+        bytes.push(0)?;
+    }
+    Ok(bytes)
+}
+
+/// The longest record has lists that are too long.
+#[test]
+fn the_longest_record_breaks_the_sixth_rule(rt: HostRuntime) {
+    let bytes = complete(rt.alloc()).expect(&rt, "memory");
+    let record = record_of(rt.alloc(), &bytes).expect(&rt, "a record");
+    same!(&rt, broken_rule(&record), Some(Rule::Degree));
+    same!(&rt, broken(rt.alloc(), &bytes), Ok(Some(Rule::Degree)));
 }
 
 /// Each rule has its word.

@@ -11,7 +11,7 @@ use test_tools::records::{
 use test_tools::same;
 
 /// The numbers of vertices, edges and faces, the outer face, and its degree.
-fn counts(plane: &Plane) -> (u8, u16, u16, u16, u16) {
+fn counts(plane: &Plane) -> (u16, u16, u16, u16, u16) {
     (
         plane.graph().vertices(),
         plane.graph().edges(),
@@ -22,7 +22,7 @@ fn counts(plane: &Plane) -> (u8, u16, u16, u16, u16) {
 }
 
 /// The counts of the plane of a record; `None` if memory runs out or the graph is not planar as embedded.
-fn counts_of(alloc: Global, bytes: &[u8]) -> Option<(u8, u16, u16, u16, u16)> {
+fn counts_of(alloc: Global, bytes: &[u8]) -> Option<(u16, u16, u16, u16, u16)> {
     let plane = plane_in(alloc, bytes)?;
     Some(counts(&plane))
 }

@@ -11,6 +11,8 @@ mod embedding_graphs;
 #[cfg(test)]
 mod embedding_rules;
 #[cfg(test)]
+mod embedding_wide;
+#[cfg(test)]
 mod faces_planes;
 #[cfg(test)]
 mod geometry_rectangles;
@@ -20,6 +22,8 @@ mod planar_code_cuts;
 mod planar_code_framing;
 #[cfg(test)]
 mod planar_code_parsing;
+#[cfg(test)]
+mod planar_code_wide;
 #[cfg(test)]
 mod region_laws_regions;
 #[cfg(test)]

@@ -1,6 +1,7 @@
 //! Records with their output lines.
 ghost use Rattle.std.specs.Prelude.{◌≡◌};
 ghost use Rattle.std.proofs.Props.{props};
+ghost use Rattle.planar_code.specs.Stream.{lists_of};
 ghost use Rattle.entries.specs.Answers.{Answers};
 ghost use Rattle.answers.specs.Steps.{answer_in};
 ghost use Rattle.entries.specs.declared.entry.Entry.{Entry};
@@ -44,7 +45,7 @@ pub struct Printed<J: Meant> {
     /// What was found for the record. It exists only in proofs.
     pub found: Snapshot<PointsFound>,
     pub meant: PhantomData<J>,
-    pub ghost answers: { ∥ Answers choice rec.value (answer_in found.value) ∥₁ },
+    pub ghost answers: { ∥ Answers choice (lists_of rec.value) (answer_in found.value) ∥₁ },
     pub ghost rec_is: { IsSpelt rec.value } by { Prim.hlevel props },
     pub ghost line_is: { IsLineOf form (entry_of file ordinal rec.value choice (answer_in found.value) answers) line } by { Prim.hlevel props },
     pub ghost placed: { ∥ IsPlacedAt (J.meaning file) ordinal rec.value ∥₁ } by { Prim.hlevel props },

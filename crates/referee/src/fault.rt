@@ -24,7 +24,7 @@ pub enum Fault {
     Long { edge: u16 },
     /// A coordinate of a vertex is above 65,535.
     #[error("vertex {vertex} has a coordinate above 65535")]
-    VertexOutOfGrid { vertex: u8 },
+    VertexOutOfGrid { vertex: u16 },
     /// A coordinate of a corner is above 65,535. Corners are numbered from 0.
     #[error("corner {corner} of edge {edge} has a coordinate above 65535")]
     CornerOutOfGrid { edge: u16, corner: usize },
@@ -36,7 +36,7 @@ pub enum Fault {
     NoTurn { edge: u16, corner: usize },
     /// The edges at this vertex do not leave it in the clockwise order of the record.
     #[error("the edges at vertex {vertex} are not in the clockwise order of the record")]
-    Embedding { vertex: u8 },
+    Embedding { vertex: u16 },
     /// No face can be the outer one: with each choice, some face does not turn as it must.
     #[error("no face can be the outer face")]
     Outer,

@@ -50,9 +50,16 @@ pub fn judge_in(
     check_counts(plane, &points)?;
     check_grid(plane, &points)?;
     check_axes(plane, &points)?;
-    let shape = shape_of(alloc, plane, &points)?;
-    check_embedding(plane, &shape)?;
-    let outer = find_outer(plane, &shape)?;
+    let shape = shape_of(alloc, &mut scratch.directions, plane, &points)?;
+    let sums = &mut scratch.sums;
+    sums.begin(plane)?;
+    check_embedding(plane, &shape, sums.vertices.as_mut_slice())?;
+    let outer = find_outer(
+        plane,
+        &shape,
+        sums.lefts.as_mut_slice(),
+        sums.rights.as_mut_slice(),
+    )?;
     plane.set_outer(outer);
     if !is_shape(plane, &shape) {
         return Err(Fault::Outer);

@@ -5,21 +5,26 @@ ghost use Rattle.ortho_rep.specs.Shapes.{angle_at, turns_at};
 ghost use Rattle.ortho_rep.specs.Representation.{HasDarts, turning_around};
 
 use crate::fault::Fault;
-use faces::{MAX_FACES, Plane};
+use faces::Plane;
 use ortho_rep::{Shape, count_lefts};
 
-/// The first face that turns once to the right.
-pub(crate) fn find_outer(plane: &Plane, shape: &Shape) -> Result<u16, Fault>
-    requires { HasDarts plane.now shape.now }
+/// The first face that turns once to the right, by adding turns up in two lists of zeros.
+pub(crate) fn find_outer(
+    plane: &Plane,
+    shape: &Shape,
+    left_sums: &mut [u64],
+    right_sums: &mut [u64],
+) -> Result<u16, Fault>
+    requires darts { HasDarts plane.now shape.now }
+    requires clear_left_sums { left_sums.old ≡ replicate plane.now.faces 0 }
+    requires clear_right_sums { right_sums.old ≡ replicate plane.now.faces 0 }
     ensures named { IfOk result (λ outer. outer < plane.now.faces) }
     ensures turns { IfOk result (λ outer. turning_around plane.now (angle_at shape.now) (turns_at shape.now) outer ≡ negsuc 3) }
     ensures kind { IfErr result (λ fault. fault ≡ Fault.Outer) }
     ensures none { OnErr result ((f : ℕ) → f < plane.now.faces → turning_around plane.now (angle_at shape.now) (turns_at shape.now) f ≢ negsuc 3) }
 {
     let faces = plane.face_count();
-    let mut left_sums = [0; MAX_FACES];
-    let mut right_sums = [0; MAX_FACES];
-    add_turns(plane, shape, &mut left_sums, &mut right_sums);
+    add_turns(plane, shape, left_sums, right_sums);
     for face in 0..faces {
         let place = usize::from(face);
         if turns_right(left_sums[place], right_sums[place]) {

@@ -13,15 +13,39 @@ ghost use Rattle.referee.specs.Faults.{AreOnGridLines, IsFirstFailure};
 use crate::directions::list_directions;
 use crate::fault::Fault;
 use crate::turns::{add, list_turns};
-use embedding::MAX_DARTS;
 use faces::Plane;
 use geometry::Direction;
 use ortho_rep::{Points, Shape};
 use std::alloc::{AllocError, Global};
 
-/// The shape of these points, if each path turns at each of its corners.
-pub(crate) fn shape_of(alloc: Global, plane: &Plane, points: &Points) -> Result<Shape, Fault>
+/// The shape of these points, if each path turns at each of its corners; reuses the list for directions.
+pub(crate) fn shape_of(
+    alloc: Global,
+    directions: &mut Vec<Direction>,
+    plane: &Plane,
+    points: &Points,
+) -> Result<Shape, Fault>
     requires { HasBoundedPoints plane.now points.now }
+    ensures taken { IfOk result (IsTaken plane.now points.now) }
+    ensures refused { IfErr result (λ fault. fault ≢ Fault.Memory → (shape : ShapeModel) → ¬ TurnAsSaid plane.now shape points.now) }
+    ensures first { IfErr result (λ fault. fault ≢ Fault.Memory
+        → AreOnGridLines plane.now points.now → IsFirstFailure plane.now points.now fault) }
+{
+    let darts = usize::from(plane.graph().darts());
+    directions.clear();
+    directions.resize(darts, Direction::East)?;
+    shape_in(alloc, directions.as_mut_slice(), plane, points)
+}
+
+/// The same, with a list for the directions of the darts.
+fn shape_in(
+    alloc: Global,
+    directions: &mut [Direction],
+    plane: &Plane,
+    points: &Points,
+) -> Result<Shape, Fault>
+    requires whole { HasBoundedPoints plane.now points.now }
+    requires room { darts plane.now ≤ length directions.old }
     ensures taken { IfOk result (IsTaken plane.now points.now) }
     ensures refused { IfErr result (λ fault. fault ≢ Fault.Memory → (shape : ShapeModel) → ¬ TurnAsSaid plane.now shape points.now) }
     ensures first { IfErr result (λ fault. fault ≢ Fault.Memory
@@ -30,9 +54,8 @@ pub(crate) fn shape_of(alloc: Global, plane: &Plane, points: &Points) -> Result<
     // Only the proof needs this: `graph` says how many darts there are at most.
     let _graph = plane.graph();
     let strings = list_turns(alloc, plane, points)?;
-    let mut directions = [Direction::East; MAX_DARTS];
-    list_directions(plane, points, &mut directions);
-    let angles = list_angles(alloc, plane, &directions)?;
+    list_directions(plane, points, directions);
+    let angles = list_angles(alloc, plane, directions)?;
     Ok(Shape::new(angles, strings))
 }
 

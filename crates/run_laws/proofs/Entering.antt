@@ -1,6 +1,7 @@
 -- Entries that decide the records of their book.
 use Rattle.std.proofs.Common.{◌≡◌, ◌≢◌, ℕ, suc, ◌+◌, List, [], ◌∷◌, map, length, drop, All, get_or, refl, ap, subst, arith}
 use Rattle.std.proofs.Math.Logic.{∥∥₁_map}
+use Rattle.planar_code.specs.Stream.{lists_of}
 use Rattle.common.specs.declared.choice.Choice.{Choice}
 use Rattle.lanes.specs.Notes.{numbered}
 use Rattle.entries.specs.declared.answer.Answer.{Answer}
@@ -13,7 +14,7 @@ use Rattle.run_laws.proofs.Memory.{IsDecided}
 -- the entries decide the records, each the one at its place
 abbrev pub AreDecided : Choice → List (List ℕ) → List Entry → Type 0
 AreDecided choice [] [] = Unit {0}
-AreDecided choice (bytes ∷ records) (entry ∷ entries) = ∥ IsDecided choice bytes entry.answer ∥₁ × AreDecided choice records entries
+AreDecided choice (bytes ∷ records) (entry ∷ entries) = ∥ IsDecided choice (lists_of bytes) entry.answer ∥₁ × AreDecided choice records entries
 AreDecided choice _ _ = ⊥
 
 pub as_many : (choice : Choice) (records : List (List ℕ)) (entries : List Entry) → AreDecided choice records entries → length entries ≡ length records
@@ -24,20 +25,20 @@ as_many choice (bytes ∷ records) (entry ∷ entries) are = ap suc (as_many cho
 
 -- ---- from the words of a book
 
-decided : (choice : Choice) (bytes : List ℕ) (answer : Answer) → answer ≢ NoMemory → Answers choice bytes answer → IsDecided choice bytes answer
-decided choice bytes (Laid plane shape prices drawing) has is = is
-decided choice bytes (Refused rule) has is = is
-decided choice bytes NoMemory has is = has refl
+decided : (choice : Choice) (g : List (List ℕ)) (answer : Answer) → answer ≢ NoMemory → Answers choice g answer → IsDecided choice g answer
+decided choice g (Laid plane shape prices drawing) has is = is
+decided choice g (Refused rule) has is = is
+decided choice g NoMemory has is = has refl
 
 decided_entry : (choice : Choice) (file ordinal : ℕ) (bytes : List ℕ) (entry : Entry)
     → about_of entry ≡ record { file = file; ordinal = ordinal; bytes = bytes; choice = choice }
-    → ∥ Answers entry.choice entry.rec entry.answer ∥₁ → entry.answer ≢ NoMemory → ∥ IsDecided choice bytes entry.answer ∥₁
+    → ∥ Answers entry.choice (lists_of entry.rec) entry.answer ∥₁ → entry.answer ≢ NoMemory → ∥ IsDecided choice (lists_of bytes) entry.answer ∥₁
 decided_entry choice file ordinal bytes entry e answered has =
-    ∥∥₁_map answered (λ is. decided choice bytes entry.answer has (subst (λ about. Answers about.choice about.bytes entry.answer) e is))
+    ∥∥₁_map answered (λ is. decided choice (lists_of bytes) entry.answer has (subst (λ about. Answers about.choice (lists_of about.bytes) entry.answer) e is))
 
 pub decided_by_book : (choice : Choice) (file ordinal : ℕ) (records : List (List ℕ)) (entries : List Entry)
     → map about_of entries ≡ numbered choice file ordinal records
-    → All (λ entry. ∥ Answers entry.choice entry.rec entry.answer ∥₁) entries
+    → All (λ entry. ∥ Answers entry.choice (lists_of entry.rec) entry.answer ∥₁) entries
     → All (λ entry. entry.answer ≢ NoMemory) entries
     → AreDecided choice records entries
 decided_by_book choice file ordinal [] [] e answered has = tt

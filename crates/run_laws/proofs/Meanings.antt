@@ -127,9 +127,9 @@ drawn_means p shape (Err cause) drawn = (tt, record { boxes = drawn.boxes; boxed
 
 -- ---- the whole answer
 
-pub means : (choice : Choice) (bytes : List ℕ) (plane : PlaneModel) (shape : ShapeModel) (prices : PricesModel) (drawing : Result PointsModel Cause)
-    → IsLaid choice bytes plane shape prices drawing → IsLaidPlainly choice bytes plane shape prices drawing
-means choice bytes plane shape prices drawing laid =
+pub means : (choice : Choice) (g : List (List ℕ)) (plane : PlaneModel) (shape : ShapeModel) (prices : PricesModel) (drawing : Result PointsModel Cause)
+    → IsLaid choice g plane shape prices drawing → IsLaidPlainly choice g plane shape prices drawing
+means choice g plane shape prices drawing laid =
     let drawn = drawn_means plane shape drawing laid.drawn in
     record {
       lists = laid.lists;

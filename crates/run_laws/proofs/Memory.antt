@@ -1,7 +1,6 @@
 -- Books and answers that do not say that memory ran out.
 use Rattle.std.proofs.Common.{◌≢◌, ℕ, List, All}
 use Rattle.planar_code.specs.declared.ending.Ending.TheVariants as ending
-use Rattle.planar_code.specs.Stream.{lists_of}
 use Rattle.streams.specs.declared.frames.Mark.TheVariants.{Ended}
 use Rattle.embedding.specs.Rules.{FirstBroken}
 use Rattle.common.specs.declared.choice.Choice.{Choice}
@@ -10,11 +9,11 @@ use Rattle.entries.specs.declared.answer.Answer.TheVariants.{Laid, Refused, NoMe
 use Rattle.entries.specs.Answers.{IsLaid}
 use Rattle.entries.specs.Books.{BookModel}
 
--- the answer decides the record of these bytes
-abbrev pub IsDecided : Choice → List ℕ → Answer → Type 0
-IsDecided choice bytes (Laid plane shape prices drawing) = IsLaid choice bytes plane shape prices drawing
-IsDecided choice bytes (Refused rule) = FirstBroken (lists_of bytes) rule
-IsDecided choice bytes NoMemory = ⊥
+-- the answer decides the graph with these neighbour lists
+abbrev pub IsDecided : Choice → List (List ℕ) → Answer → Type 0
+IsDecided choice g (Laid plane shape prices drawing) = IsLaid choice g plane shape prices drawing
+IsDecided choice g (Refused rule) = FirstBroken g rule
+IsDecided choice g NoMemory = ⊥
 
 -- neither its mark nor an answer says that memory ran out
 pub record HasMemory (book : BookModel) : Type 0 where

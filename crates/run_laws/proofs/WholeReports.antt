@@ -29,27 +29,27 @@ use Rattle.run_laws.proofs.Entering.{AreDecided, as_many, decided_by_book}
 use Rattle.run_laws.proofs.Booking.{same_marked, book_marked}
 use Rattle.run_laws.proofs.Wording.{has_memory, books_have_memory}
 
-drawn_yes : (choice : Choice) (bytes : List ℕ) (plane : PlaneModel) (shape : ShapeModel) (prices : PricesModel) (drawing : Result PointsModel Cause)
-    → IsLaid choice bytes plane shape prices drawing → drawn_text drawing ≡ codes " drawn=yes"
-drawn_yes choice bytes plane shape prices drawing is = ap drawn_text (drawn choice bytes plane shape prices drawing is).1
+drawn_yes : (choice : Choice) (g : List (List ℕ)) (plane : PlaneModel) (shape : ShapeModel) (prices : PricesModel) (drawing : Result PointsModel Cause)
+    → IsLaid choice g plane shape prices drawing → drawn_text drawing ≡ codes " drawn=yes"
+drawn_yes choice g plane shape prices drawing is = ap drawn_text (drawn choice g plane shape prices drawing is).1
 
-whole_answer : (choice : Choice) (bytes : List ℕ) (one other : Answer) → IsDecided choice bytes one → IsDecided choice bytes other → answer_text one ≡ answer_text other
-whole_answer choice bytes (Laid plane shape prices drawing) (Laid plane' shape' prices' drawing') is is' =
+whole_answer : (choice : Choice) (g : List (List ℕ)) (one other : Answer) → IsDecided choice g one → IsDecided choice g other → answer_text one ≡ answer_text other
+whole_answer choice g (Laid plane shape prices drawing) (Laid plane' shape' prices' drawing') is is' =
     ap₂ (λ (sizes : List ℕ) (last : List ℕ). codes " ok" ++ sizes ++ last)
-    (same_sizes choice bytes plane plane' shape shape' prices prices' drawing drawing' is is')
-    (drawn_yes choice bytes plane shape prices drawing is ∙ sym (drawn_yes choice bytes plane' shape' prices' drawing' is'))
-whole_answer choice bytes (Refused rule) (Refused other) is is' =
-    ap (λ (r : Rule). codes " refused " ++ rules.word_of r) (one_rule (lists_of bytes) rule other is is')
-whole_answer choice bytes (Laid plane shape prices drawing) (Refused rule) is is' =
-    absurd (none_broken (lists_of bytes) rule (subst (λ (g : List (List ℕ)). KeepsBefore g 9) is.lists is.rules.rules) is')
-whole_answer choice bytes (Refused rule) (Laid plane shape prices drawing) is is' =
-    absurd (none_broken (lists_of bytes) rule (subst (λ (g : List (List ℕ)). KeepsBefore g 9) is'.lists is'.rules.rules) is)
-whole_answer choice bytes NoMemory other is is' = absurd is
-whole_answer choice bytes one NoMemory is is' = absurd is'
+    (same_sizes choice g plane plane' shape shape' prices prices' drawing drawing' is is')
+    (drawn_yes choice g plane shape prices drawing is ∙ sym (drawn_yes choice g plane' shape' prices' drawing' is'))
+whole_answer choice g (Refused rule) (Refused other) is is' =
+    ap (λ (r : Rule). codes " refused " ++ rules.word_of r) (one_rule g rule other is is')
+whole_answer choice g (Laid plane shape prices drawing) (Refused rule) is is' =
+    absurd (none_broken g rule (subst (λ (lists : List (List ℕ)). KeepsBefore lists 9) is.lists is.rules.rules) is')
+whole_answer choice g (Refused rule) (Laid plane shape prices drawing) is is' =
+    absurd (none_broken g rule (subst (λ (lists : List (List ℕ)). KeepsBefore lists 9) is'.lists is'.rules.rules) is)
+whole_answer choice g NoMemory other is is' = absurd is
+whole_answer choice g one NoMemory is is' = absurd is'
 
-whole_graph : (choice : Choice) (bytes : List ℕ) (one other : Answer) → ∥ IsDecided choice bytes one ∥₁ → ∥ IsDecided choice bytes other ∥₁ → answer_text one ≡ answer_text other
-whole_graph choice bytes one other is is' =
-    ∥∥₁_elim is (hlevel props) (λ a. ∥∥₁_elim is' (hlevel props) (λ b. whole_answer choice bytes one other a b))
+whole_graph : (choice : Choice) (g : List (List ℕ)) (one other : Answer) → ∥ IsDecided choice g one ∥₁ → ∥ IsDecided choice g other ∥₁ → answer_text one ≡ answer_text other
+whole_graph choice g one other is is' =
+    ∥∥₁_elim is (hlevel props) (λ a. ∥∥₁_elim is' (hlevel props) (λ b. whole_answer choice g one other a b))
 
 whole_entries : (choice : Choice) (records : List (List ℕ)) (entries others : List Entry) → AreDecided choice records entries → AreDecided choice records others
     → (number : ℕ) → numbered_texts entry_line number entries ≡ numbered_texts entry_line number others
@@ -60,7 +60,7 @@ whole_entries choice (bytes ∷ records) [] others are are' number = absurd are
 whole_entries choice (bytes ∷ records) (entry ∷ entries) [] are are' number = absurd are'
 whole_entries choice (bytes ∷ records) (entry ∷ entries) (other ∷ others) are are' number =
     ap₂ (λ (answer : List ℕ) (rest : List ℕ). (codes "graph " ++ decimal number ++ answer ++ codes "\n") ++ rest)
-    (whole_graph choice bytes entry.answer other.answer are.0 are'.0)
+    (whole_graph choice (lists_of bytes) entry.answer other.answer are.0 are'.0)
     (whole_entries choice records entries others are.1 are'.1 (number + 1))
 
 pub whole_book : (choice : Choice) (records : List (List ℕ)) (book other : BookModel) → AreDecided choice records book.entries → AreDecided choice records other.entries

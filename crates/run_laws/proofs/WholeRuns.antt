@@ -2,6 +2,7 @@
 use Rattle.std.proofs.Common.{◌≡◌, ℕ, ◌+◌, List, [], ◌∷◌, ◌++◌, refl, sym, ap, subst, ◌∙◌, Some}
 use Rattle.std.proofs.Math.Logic.{∥∥₁_map}
 use Rattle.planar_code.proofs.Splits.{split_same}
+use Rattle.planar_code.specs.Stream.{lists_of}
 use Rattle.streams.specs.declared.frames.Mark.TheVariants.{Ended}
 use Rattle.common.specs.declared.choice.Choice.{Choice}
 use Rattle.entries.specs.declared.answer.Answer.{Answer}
@@ -18,10 +19,10 @@ use Rattle.run_laws.proofs.Memory as memory
 use Rattle.run_laws.proofs.Entering.{AreDecided}
 use Rattle.run_laws.proofs.WholeReports.{whole_book}
 
-decided : (choice : Choice) (bytes : List ℕ) (answer : Answer) → IsDecided choice bytes answer → memory.IsDecided choice bytes answer
-decided choice bytes (Laid plane shape prices drawing) is = is
-decided choice bytes (Refused rule) is = is
-decided choice bytes NoMemory is = absurd is
+decided : (choice : Choice) (g : List (List ℕ)) (answer : Answer) → IsDecided choice g answer → memory.IsDecided choice g answer
+decided choice g (Laid plane shape prices drawing) is = is
+decided choice g (Refused rule) is = is
+decided choice g NoMemory is = absurd is
 
 decided_by_run : (choice : Choice) (file ordinal : ℕ) (records : List (List ℕ)) (entries : List Entry)
     → AreOneForEach choice file ordinal records entries → AreDecided choice records entries
@@ -29,7 +30,7 @@ decided_by_run choice file ordinal [] [] are = tt
 decided_by_run choice file ordinal [] (entry ∷ entries) are = absurd are
 decided_by_run choice file ordinal (bytes ∷ records) [] are = absurd are
 decided_by_run choice file ordinal (bytes ∷ records) (entry ∷ entries) are =
-    (∥∥₁_map are.0.decided (decided choice bytes entry.answer), decided_by_run choice file (ordinal + 1) records entries are.1)
+    (∥∥₁_map are.0.decided (decided choice (lists_of bytes) entry.answer), decided_by_run choice file (ordinal + 1) records entries are.1)
 
 pub same_runs : (choice : Choice) (file other_file : ℕ) (bytes : List ℕ) (book other : BookModel)
     → IsWholeRun choice file bytes book → IsWholeRun choice other_file bytes other

@@ -2,7 +2,6 @@
 use Rattle.std.specs.Prelude.{◌≡◌, ◌≢◌, ℕ, ◌+◌, ◌*◌, ◌/◌, ◌<◌, ◌≤◌, ◌==◌, ◌⊎◌, if◌then◌else◌, ℤ, pos, negsuc, ◌+ℤ◌, ◌-ℤ◌, ◌≤ℤ◌, List, ◌++◌, length, map, reverse, slice_index, slice_index_or, All, AllPairs, Result, IfOk, IfErr}
 use Rattle.std.specs.List.{flat_map}
 use Rattle.common.specs.Sums.{sum_below, total_below}
-use Rattle.planar_code.specs.Stream.{lists_of}
 use Rattle.embedding.specs.declared.rules.Rule.{Rule}
 use Rattle.embedding.specs.Darts.{dart_count, next_of}
 use Rattle.embedding.specs.Faces.{HasFaces}
@@ -140,14 +139,14 @@ pub record IsCauseShown (plane : PlaneModel) (shape : ShapeModel) (cause : Cause
 
 -- ---- the whole answer
 
--- the guarantee of an answer that is laid for a record of these bytes under this choice of the outer face
-pub record IsLaidPlainly (choice : Choice) (bytes : List ℕ) (plane : PlaneModel) (shape : ShapeModel) (prices : PricesModel) (drawing : Result PointsModel Cause) : Type 0 where
-  -- the plane has the record's lists, and they break no rule
-  pub lists : plane.lists ≡ lists_of bytes
-  pub no_rule : (rule : Rule) → ¬ Breaks (lists_of bytes) rule
+-- the guarantee of an answer that is laid for a graph with these neighbour lists under this choice of the outer face
+pub record IsLaidPlainly (choice : Choice) (g : List (List ℕ)) (plane : PlaneModel) (shape : ShapeModel) (prices : PricesModel) (drawing : Result PointsModel Cause) : Type 0 where
+  -- the plane has these lists, and they break no rule
+  pub lists : plane.lists ≡ g
+  pub no_rule : (rule : Rule) → ¬ Breaks g rule
   -- its faces are those of the lists, and the outer one is the chosen one
-  pub face_count : length plane.face ≡ dart_count (lists_of bytes)
-  pub faces : HasFaces (dart_count (lists_of bytes)) (next_of (lists_of bytes)) (λ d. slice_index plane.face d) plane.faces
+  pub face_count : length plane.face ≡ dart_count g
+  pub faces : HasFaces (dart_count g) (next_of g) (λ d. slice_index plane.face d) plane.faces
   pub outer : HasOuter choice plane shape
   -- the shape has an angle and a string for each dart, and they are an orthogonal representation
   pub angle_count : length shape.angles ≡ darts plane

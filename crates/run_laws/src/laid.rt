@@ -10,13 +10,13 @@ ghost use Rattle.entries.specs.declared.cause.Cause.{Cause};
 ghost use Rattle.entries.specs.Answers.{IsLaid};
 ghost use Rattle.run_laws.specs.Laid.{IsLaidPlainly};
 
-/// The plane, the shape, the prices and the coordinates of a laid answer are right for its record.
+/// The plane, the shape, the prices and the coordinates of a laid answer are right for its graph.
 ///
-/// The plane has the neighbour lists of the record, which break no rule, their faces and the chosen outer face. The
+/// The plane has the neighbour lists of the graph, which break no rule, their faces and the chosen outer face. The
 /// shape is an orthogonal representation with no more bends than any other, with strings of any length, and the prices
 /// prove so. The points, if given, lie on the grid, follow the axes, turn as the shape says and meet nowhere.
 pub fn laid_means()
-    ensures { (choice : Choice) (bytes : List ℕ) (plane : PlaneModel) (shape : ShapeModel) (prices : PricesModel) (drawing : Result PointsModel Cause)
-        → IsLaid choice bytes plane shape prices drawing
-        → IsLaidPlainly choice bytes plane shape prices drawing }
+    ensures { (choice : Choice) (g : List (List ℕ)) (plane : PlaneModel) (shape : ShapeModel) (prices : PricesModel) (drawing : Result PointsModel Cause)
+        → IsLaid choice g plane shape prices drawing
+        → IsLaidPlainly choice g plane shape prices drawing }
 {}

@@ -11,7 +11,7 @@ use test_inputs::record_of;
 use test_tools::same;
 
 /// The point of a vertex, or the origin if there is none.
-fn place_of(places: &[Point], vertex: u8) -> Point {
+fn place_of(places: &[Point], vertex: u16) -> Point {
     match places.get(usize::from(vertex).wrapping_sub(1)) {
         Some(place) => *place,
         None => Point { x: 0, y: 0 },

@@ -17,7 +17,7 @@ use test_tools::same;
 #[derive(Clone, Copy)]
 enum Said {
     /// Its numbers of vertices, edges, faces and bends; the shape is drawn.
-    Drawn(u8, u16, u16, u32),
+    Drawn(u16, u16, u16, u32),
     Refused(Rule),
 }
 

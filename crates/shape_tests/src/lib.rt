@@ -5,6 +5,8 @@
 #[cfg(test)]
 mod flow_network_work;
 #[cfg(test)]
+mod large;
+#[cfg(test)]
 mod ortho_rep_best;
 #[cfg(test)]
 mod ortho_rep_shapes;

@@ -3,7 +3,9 @@ use Rattle.std.proofs.Common.{◌≡◌, ◌≤◌, ◌<◌, ◌+◌, ℕ, List,
 use Rattle.std.specs.Prelude.{slice_index}
 use Rattle.std.proofs.lemmas.Bool.{cases_eq}
 use Rattle.std.proofs.lemmas.Int.{ints}
+use Rattle.common.specs.declared.limits.TheConstants.{MAX_VERTICES}
 use Rattle.faces.specs.Planes.{PlaneModel, HasEnds, darts, vertices, reverse_dart, face_at}
+use Rattle.ortho_rep.specs.declared.turn.TheConstants.{MAX_REPEATS}
 use Rattle.ortho_rep.specs.Representation.{Rep}
 use Rattle.ortho_rep.specs.Prices.{PricesModel, vertex_price, face_price}
 use Rattle.ortho_rep.proofs.FewTurns.{few_turns}
@@ -23,7 +25,7 @@ one_way p angles lefts t ends agree d b left =
           )
     ]
 
-pub few : (p : PlaneModel) (angles lefts : List ℕ) (t : PricesModel) → HasEnds p → vertices p ≤ 255 → Rep p (angle_in angles) (string_in p lefts) → Agree p angles lefts t → (d : ℕ) → d < darts p → slice_index lefts d + slice_index lefts (reverse_dart p d) ≤ 6144
+pub few : (p : PlaneModel) (angles lefts : List ℕ) (t : PricesModel) → HasEnds p → vertices p ≤ MAX_VERTICES → Rep p (angle_in angles) (string_in p lefts) → Agree p angles lefts t → (d : ℕ) → d < darts p → slice_index lefts d + slice_index lefts (reverse_dart p d) ≤ MAX_REPEATS
 few p angles lefts t ends order rep agree d b =
     omega (
       arith,

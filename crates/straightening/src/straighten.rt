@@ -11,7 +11,7 @@ ghost use Rattle.straightening.specs.Reflex.{reflex_angles};
 
 use crate::flow::{ShapeFlow, clockwise, is_tight_angle};
 use crate::search::{FaceSearch, PathEnds};
-use crate::tally::is_rep;
+use crate::tally::{Tally, is_rep};
 use faces::Plane;
 use ortho_rep::{Prices, Shape};
 use std::alloc::{AllocError, Global};
@@ -19,7 +19,7 @@ use std::boxed::Box;
 
 /// The buffers of `straighten_in`, reused for the next shape. Their contents between two calls do not matter.
 ///
-/// It allocates nothing until a shape has a vertex that may be made straight, and 5 KB from then on.
+/// It allocates nothing until a shape has a vertex that may be made straight, and 39 KB from then on.
 #[derive(Drop)]
 pub struct Scratch {
     workspace: Option<Box<Workspace>>,
@@ -37,14 +37,17 @@ impl Scratch {
 struct Workspace {
     flow: ShapeFlow,
     search: FaceSearch,
+    tally: Tally,
 }
 
 impl Workspace {
     /// One in which nothing was straightened. Only this function pays for the room that it takes while it is made.
+    #[inline(never)]
     fn boxed(alloc: Global) -> Result<Box<Workspace>, AllocError> {
         let workspace = Workspace {
             flow: ShapeFlow::new(),
             search: FaceSearch::new(),
+            tally: Tally::new(),
         };
         Ok(Box::new(alloc, workspace)?)
     }
@@ -113,10 +116,14 @@ fn straighten_shape(
     ensures straighter { IfOk result (λ made. reflex_angles made ≤ reflex_angles shape) }
     ensures bends { IfOk result (λ made. bends_of (length made.strings) (turns_at made) ≡ bends_of (length shape.strings) (turns_at shape)) }
 {
-    let Workspace { flow, search } = workspace;
+    let Workspace {
+        flow,
+        search,
+        tally,
+    } = workspace;
     flow.load(plane, &shape);
     search.clear(plane);
-    if !straighten_from(flow, search, plane, prices, first) || !is_rep(plane, flow) {
+    if !straighten_from(flow, search, plane, prices, first) || !is_rep(tally, plane, flow) {
         return Ok(shape);
     }
     let made = flow.shape(alloc, plane)?;

@@ -1,6 +1,5 @@
 -- Verdicts, step by step.
 use Rattle.std.proofs.Common.{◌≡◌, ℕ, ◌<◌, Bool, List, ap, subst, arith}
-use Rattle.planar_code.specs.Stream.{lists_of}
 use Rattle.embedding.specs.declared.rules.Rule.{Rule}
 use Rattle.faces.specs.Planes.{PlaneModel, IsPlane, with_outer}
 use Rattle.ortho_rep.specs.Points.{PointsModel}
@@ -20,18 +19,18 @@ never_refused faces p (given.Fault fault) rule h = let e : verdict.Refused rule 
 never_refused faces p given.Missing rule h = let e : verdict.Refused rule ≡ verdict.Missing = h in cc
 never_refused faces p given.Unread rule h = let e : verdict.Refused rule ≡ verdict.Unread = h in cc
 
--- the verdict on a plane is that on its record
-pub on_record : (faces : Bool) (bytes : List ℕ) (p : PlaneModel) (given : Given) (v : Verdict) → p.lists ≡ lists_of bytes → IsPlane p
-    → IsVerdictOnPlane faces p given v → IsVerdict faces bytes given v
-on_record faces bytes p given (verdict.Refused rule) same plane h = absurd (never_refused faces p given rule h)
-on_record faces bytes p given verdict.Memory same plane h = tt
-on_record faces bytes p given verdict.Missing same plane h = record { plane = p; lists_are = same; is_plane = plane; verdict_is = h }
-on_record faces bytes p given verdict.Unread same plane h = record { plane = p; lists_are = same; is_plane = plane; verdict_is = h }
-on_record faces bytes p given (verdict.Line f) same plane h = record { plane = p; lists_are = same; is_plane = plane; verdict_is = h }
-on_record faces bytes p given (verdict.Drawn f) same plane h = record { plane = p; lists_are = same; is_plane = plane; verdict_is = h }
-on_record faces bytes p given verdict.Regions same plane h = record { plane = p; lists_are = same; is_plane = plane; verdict_is = h }
-on_record faces bytes p given (verdict.Claim c) same plane h = record { plane = p; lists_are = same; is_plane = plane; verdict_is = h }
-on_record faces bytes p given (verdict.Ok bends fewest) same plane h = record { plane = p; lists_are = same; is_plane = plane; verdict_is = h }
+-- the verdict on a plane is that on its lists
+pub on_lists : (faces : Bool) (g : List (List ℕ)) (p : PlaneModel) (given : Given) (v : Verdict) → p.lists ≡ g → IsPlane p
+    → IsVerdictOnPlane faces p given v → IsVerdict faces g given v
+on_lists faces g p given (verdict.Refused rule) same plane h = absurd (never_refused faces p given rule h)
+on_lists faces g p given verdict.Memory same plane h = tt
+on_lists faces g p given verdict.Missing same plane h = record { plane = p; lists_are = same; is_plane = plane; verdict_is = h }
+on_lists faces g p given verdict.Unread same plane h = record { plane = p; lists_are = same; is_plane = plane; verdict_is = h }
+on_lists faces g p given (verdict.Line f) same plane h = record { plane = p; lists_are = same; is_plane = plane; verdict_is = h }
+on_lists faces g p given (verdict.Drawn f) same plane h = record { plane = p; lists_are = same; is_plane = plane; verdict_is = h }
+on_lists faces g p given verdict.Regions same plane h = record { plane = p; lists_are = same; is_plane = plane; verdict_is = h }
+on_lists faces g p given (verdict.Claim c) same plane h = record { plane = p; lists_are = same; is_plane = plane; verdict_is = h }
+on_lists faces g p given (verdict.Ok bends fewest) same plane h = record { plane = p; lists_are = same; is_plane = plane; verdict_is = h }
 
 -- the verdict on a representation that points draw is that on the points
 on_drawing : (faces : Bool) (p now : PlaneModel) (points : PointsModel) (shape : ShapeModel) (claims : Claims) (v : Verdict)

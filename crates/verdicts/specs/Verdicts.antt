@@ -1,6 +1,5 @@
--- When a verdict holds of a record and of what is given for it.
+-- When a verdict holds of a graph, given by its neighbour lists, and of what is given for it.
 use Rattle.std.specs.Prelude.{◌≡◌, ◌≢◌, ℕ, ◌<◌, Bool, true, List, length, ⊤}
-use Rattle.planar_code.specs.Stream.{lists_of}
 use Rattle.embedding.specs.Rules.{FirstBroken}
 use Rattle.faces.specs.Planes.{PlaneModel, IsPlane, with_outer}
 use Rattle.ortho_rep.specs.Points.{PointsModel}
@@ -60,15 +59,15 @@ IsVerdictOnPlane faces p (given.Fault fault) v = (v ≡ verdict.Memory) × (faul
 IsVerdictOnPlane faces p given.Missing v = v ≡ verdict.Missing
 IsVerdictOnPlane faces p given.Unread v = v ≡ verdict.Unread
 
--- the record breaks no rule, and this is the verdict on what is given for its plane
-pub record IsVerdictOnEmbedding (faces : Bool) (bytes : List ℕ) (given : Given) (v : Verdict) : Type 0 where
+-- the lists break no rule, and this is the verdict on what is given for their plane
+pub record IsVerdictOnEmbedding (faces : Bool) (g : List (List ℕ)) (given : Given) (v : Verdict) : Type 0 where
   pub plane : PlaneModel
-  pub lists_are : plane.lists ≡ lists_of bytes
+  pub lists_are : plane.lists ≡ g
   pub is_plane : IsPlane plane
   pub verdict_is : IsVerdictOnPlane faces plane given v
 
--- the verdict on a record and what is given for it
-abbrev pub IsVerdict : Bool → List ℕ → Given → Verdict → Type 0
-IsVerdict faces bytes given (verdict.Refused rule) = FirstBroken (lists_of bytes) rule
-IsVerdict faces bytes given verdict.Memory = ⊤
-IsVerdict faces bytes given v = IsVerdictOnEmbedding faces bytes given v
+-- the verdict on a graph with these neighbour lists and what is given for it
+abbrev pub IsVerdict : Bool → List (List ℕ) → Given → Verdict → Type 0
+IsVerdict faces g given (verdict.Refused rule) = FirstBroken g rule
+IsVerdict faces g given verdict.Memory = ⊤
+IsVerdict faces g given v = IsVerdictOnEmbedding faces g given v

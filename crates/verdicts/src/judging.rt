@@ -1,5 +1,6 @@
 //! The verdict on a record and what is given for it.
 ghost use Rattle.std.specs.Prelude.{◌≡◌, true, false, IfOk};
+ghost use Rattle.planar_code.specs.Stream.{lists_of};
 ghost use Rattle.drawing_check.specs.Draws.{HasPoints};
 ghost use Rattle.referee.specs.Drawings.{IsDrawnBy};
 ghost use Rattle.verdicts.specs.Verdicts.{IsVerdict, IsVerdictOnPlane, IsVerdictOnDrawing, IsFound, KeepsFaces};
@@ -44,7 +45,7 @@ pub fn judge_record(
     rec: &Record,
     given: Given,
 ) -> Verdict
-    ensures { IsVerdict faces rec.now given result }
+    ensures { IsVerdict faces (lists_of rec.now) given result }
 {
     let graph = match Graph::read_in(alloc, &mut scratch.planes.graph, rec) {
         Ok(graph) => graph,

@@ -16,8 +16,8 @@ use std::alloc::AllocError;
 #[derive(Clone, Copy, Debug)]
 pub(crate) struct Bent {
     edge: u16,
-    tail: u8,
-    head: u8,
+    tail: u16,
+    head: u16,
     /// The point of its tail.
     from: Point,
     /// The point of its head.
@@ -39,13 +39,14 @@ pub(crate) fn list_segments(
     requires points { HasPoints plane.now points.now }
     ensures { IfOk result (λ listed. listed ≡ true → AreCrossed lists.new.x lists.new.y) }
 {
-    lists.x.begin(points.vertex_count())?;
-    lists.y.begin(points.vertex_count())?;
+    let vertices = plane.graph().vertices();
+    lists.x.begin(vertices)?;
+    lists.y.begin(vertices)?;
     lists.bent.clear();
     list_edges(lists, plane, points)?;
     let x = &mut lists.x;
     let y = &mut lists.y;
-    if !list_straight(plane.graph().vertices(), points, x, y)? {
+    if !list_straight(vertices, points, x, y)? {
         return Ok(false);
     }
     if !list_bent(lists.bent.as_slice(), points, x, y)? {
@@ -60,9 +61,15 @@ pub(crate) fn list_segments(
 /// Joins the ends of all edges that have no corner, and lists those that have some.
 fn list_edges(lists: &mut Lists, plane: &Plane, points: &Points) -> Result<(), AllocError>
     requires points { HasPoints plane.now points.now }
+    requires x_edges { length points.now.vertices < vec_len lists.old.x.edges.beside }
+    requires y_edges { length points.now.vertices < vec_len lists.old.y.edges.beside }
     requires bent { All (λ b. b.edge < length points.now.corners) lists.old.bent.items }
     ensures x { lists.new.x.segments ≡ lists.old.x.segments }
     ensures y { lists.new.y.segments ≡ lists.old.y.segments }
+    ensures x_of { lists.new.x.of ≡ lists.old.x.of }
+    ensures y_of { lists.new.y.of ≡ lists.old.y.of }
+    ensures x_edges { vec_len lists.new.x.edges.beside ≡ vec_len lists.old.x.edges.beside }
+    ensures y_edges { vec_len lists.new.y.edges.beside ≡ vec_len lists.old.y.edges.beside }
     ensures bent { OnOk result (All (λ b. b.edge < length points.now.corners) lists.new.bent.items) }
 {
     let graph = plane.graph();
@@ -82,17 +89,23 @@ fn list_edge(
     lists: &mut Lists,
     points: &Points,
     edge: u16,
-    tail: u8,
-    head: u8,
+    tail: u16,
+    head: u16,
 ) -> Result<(), AllocError>
     requires edge { edge < length points.now.corners }
     requires starts { 0 < tail }
     requires tail { tail ≤ length points.now.vertices }
     requires ends { 0 < head }
     requires head { head ≤ length points.now.vertices }
+    requires x_edges { length points.now.vertices < vec_len lists.old.x.edges.beside }
+    requires y_edges { length points.now.vertices < vec_len lists.old.y.edges.beside }
     requires bent { All (λ b. b.edge < length points.now.corners) lists.old.bent.items }
     ensures x { lists.new.x.segments ≡ lists.old.x.segments }
     ensures y { lists.new.y.segments ≡ lists.old.y.segments }
+    ensures x_of { lists.new.x.of ≡ lists.old.x.of }
+    ensures y_of { lists.new.y.of ≡ lists.old.y.of }
+    ensures x_edges { vec_len lists.new.x.edges.beside ≡ vec_len lists.old.x.edges.beside }
+    ensures y_edges { vec_len lists.new.y.edges.beside ≡ vec_len lists.old.y.edges.beside }
     ensures bent { OnOk result (All (λ b. b.edge < length points.now.corners) lists.new.bent.items) }
 {
     let from = points.vertex(tail);
@@ -116,12 +129,16 @@ fn list_edge(
 
 /// Lists the segments of this many vertices and the straight edges between them; false if there is no room.
 fn list_straight(
-    count: u8,
+    count: u16,
     points: &Points,
     x: &mut Segments,
     y: &mut Segments,
 ) -> Result<bool, AllocError>
     requires count { count ≤ length points.now.vertices }
+    requires x_of { vec_len x.old.of ≡ count }
+    requires y_of { vec_len y.old.of ≡ count }
+    requires x_edges { count < vec_len x.old.edges.beside }
+    requires y_edges { count < vec_len y.old.edges.beside }
     requires x { AreFew x.old.segments.items }
     requires y { AreFew y.old.segments.items }
     ensures x { AreFew x.new.segments.items }
@@ -129,7 +146,10 @@ fn list_straight(
 {
     for place in 0..count {
         let point = points.vertex(place + 1);
-        if !x.add_straight(place + 1, point.x)? || !y.add_straight(place + 1, point.y)? {
+        if !x.add_straight(place + 1, point.x)? {
+            return Ok(false);
+        }
+        if !y.add_straight(place + 1, point.y)? {
             return Ok(false);
         }
     }
@@ -216,7 +236,7 @@ fn turn(
     to_segments: &mut Segments,
     run: (u32, u32),
     place: u16,
-    end: Option<u8>,
+    end: Option<u16>,
 ) -> Result<Option<u16>, AllocError>
     requires from { AreFew from_segments.old.segments.items }
     requires to { AreFew to_segments.old.segments.items }

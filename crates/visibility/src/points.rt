@@ -13,7 +13,7 @@ use std::alloc::{AllocError, Global};
 pub(crate) fn points_on(
     alloc: Global,
     old: &Points,
-    vertices: u8,
+    vertices: u16,
     edges: u16,
     x: &Segments,
     y: &Segments,
@@ -35,7 +35,7 @@ pub(crate) fn points_on(
 /// The points of this many vertices, in a list with this much room; `None` if one of them is on no segment.
 fn vertex_points(
     alloc: Global,
-    count: u8,
+    count: u16,
     room: usize,
     x: &Segments,
     y: &Segments,
@@ -57,7 +57,7 @@ fn vertex_points(
 fn corner_points(
     alloc: Global,
     old: &Points,
-    vertices: u8,
+    vertices: u16,
     edges: u16,
     x: &Segments,
     y: &Segments,
@@ -85,7 +85,7 @@ fn push_points(
     points: &mut Vec<Point>,
     x: &Segments,
     y: &Segments,
-    vertices: u8,
+    vertices: u16,
     count: usize,
 ) -> Result<bool, AllocError>
     ensures { OnOk result ((more : List Point) × (points.new.items ≡ points.old.items ++ more)) }

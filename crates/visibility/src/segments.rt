@@ -5,6 +5,7 @@ ghost use Rattle.visibility.specs.declared.segments.TheConstants.{MAX_COORDINATE
 ghost use Rattle.visibility.specs.Axes.{segment_at, AreBelow, AreFew, AreListed, HaveEnds, KeepEnds};
 
 use crate::straight::StraightEdges;
+use common::MAX_VERTICES;
 use std::alloc::{AllocError, Global};
 use std::mem;
 
@@ -96,19 +97,21 @@ impl Segments {
             segments: Vec::new(alloc),
             of: Vec::new(alloc),
             firsts: Vec::new(alloc),
-            edges: StraightEdges::none(),
+            edges: StraightEdges::empty(alloc),
         }
     }
 
     /// Forgets all segments, and makes a place for each of this many vertices.
-    pub(crate) fn begin(&mut self, vertices: usize) -> Result<(), AllocError>
-        ensures { OnOk result (AreFew self.new.segments.items) }
+    pub(crate) fn begin(&mut self, vertices: u16) -> Result<(), AllocError>
+        ensures few { OnOk result (AreFew self.new.segments.items) }
+        ensures of { OnOk result (vec_len self.new.of ≡ vertices) }
+        ensures edges { OnOk result (vec_len self.new.edges.beside ≡ vertices + 1) }
     {
         self.segments.clear();
         self.firsts.clear();
-        self.edges.clear();
         self.of.clear();
-        self.of.resize(vertices, 0)
+        self.of.resize(usize::from(vertices), 0)?;
+        self.edges.begin(vertices)
     }
 
     /// Adds a segment with this coordinate that reaches from one vertex or corner to another, by their places, over this
@@ -123,6 +126,7 @@ impl Segments {
         requires few { AreFew self.old.segments.items }
         ensures few { AreFew self.new.segments.items }
         ensures of { self.new.of ≡ self.old.of }
+        ensures edges { vec_len self.new.edges.beside ≡ vec_len self.old.edges.beside }
         ensures count { vec_len self.old.segments ≤ vec_len self.new.segments }
         ensures added { IfOk result (λ found. IfSome found (λ segment. segment < vec_len self.new.segments)) }
     {
@@ -144,21 +148,25 @@ impl Segments {
 
     /// Adds the segment with this coordinate that begins at a vertex, with all to which straight edges lead from there;
     /// none if such an edge leads to the vertex. Returns whether there is room, and an edge leads to no other vertex.
-    pub(crate) fn add_straight(&mut self, vertex: u8, coordinate: u32) -> Result<bool, AllocError>
+    pub(crate) fn add_straight(&mut self, vertex: u16, coordinate: u32) -> Result<bool, AllocError>
         requires vertex { 0 < vertex }
+        requires place { vertex ≤ vec_len self.old.of }
+        requires edges { vec_len self.old.of < vec_len self.old.edges.beside }
         requires few { AreFew self.old.segments.items }
         ensures few { AreFew self.new.segments.items }
+        ensures of { vec_len self.new.of ≡ vec_len self.old.of }
+        ensures edges { vec_len self.new.edges.beside ≡ vec_len self.old.edges.beside }
     {
         if self.edges.is_led_to(vertex) {
             return Ok(true);
         }
-        let first = u16::from(vertex) - 1;
+        let first = vertex - 1;
         let Some(segment) = self.add(coordinate, first, first, 0)? else {
             return Ok(false);
         };
         let mut last = vertex;
         let mut parts = 0;
-        for steps in 0..255 {
+        for steps in 0..MAX_VERTICES {
             // No invariant says that an edge leads to one of the vertices that have places.
             let Some(of) = self.of.get_mut(usize::from(last) - 1) else {
                 return Ok(false);
@@ -168,11 +176,11 @@ impl Segments {
             if ahead == 0 {
                 break;
             }
-            parts = steps + 1;
+            parts = steps as u16 + 1;
             last = ahead;
         }
         let added = &mut self.segments[usize::from(segment)];
-        added.ends_on = u16::from(last) - 1;
+        added.ends_on = last - 1;
         added.parts = parts;
         Ok(true)
     }
@@ -311,7 +319,7 @@ impl Segments {
     }
 
     /// The segment on which the vertex at this place lies, if it lies on one.
-    pub(crate) fn segment_at(&self, place: u8) -> Option<u16>
+    pub(crate) fn segment_at(&self, place: u16) -> Option<u16>
         ensures { IfSome result (λ segment. segment < vec_len self.now.segments) }
     {
         segment_of(self.of.as_slice(), usize::from(place), self.segments.len())

@@ -6,8 +6,12 @@ ghost use Rattle.visibility.specs.Axes.{AreFew, AreListed, HaveEnds, KeepEnds};
 ghost use Rattle.visibility.specs.Crossing.{AreCrossed};
 
 use crate::segments::{MAX_COORDINATE, Segment, Segments};
-use least_length::{Wire, find_shorter};
+use least_length::{Wire, find_shorter, take_shorter};
 use std::alloc::{AllocError, Global};
+
+/// How many segments the searches for one drawing may go over in all, each counted each time. Only drawings with many
+/// segments round one another need more.
+const MAX_LOOKS: u64 = 28_000;
 
 /// The buffers of a shortening.
 #[derive(Drop)]
@@ -19,6 +23,8 @@ pub(crate) struct Shortening {
     places: Vec<u16>,
     /// The coordinates found, in that order.
     coordinates: Vec<u16>,
+    /// How many more segments the searches for this drawing may go over.
+    looks: u64,
     search: least_length::Scratch,
 }
 
@@ -32,12 +38,19 @@ impl Shortening {
             wires: Vec::new(alloc),
             places: Vec::new(alloc),
             coordinates: Vec::new(alloc),
+            looks: 0,
             search: least_length::Scratch::empty(alloc),
         }
     }
 
+    /// Lets the searches for a drawing go over `MAX_LOOKS` segments in all.
+    pub(crate) fn begin(&mut self) {
+        self.looks = MAX_LOOKS;
+    }
+
     /// Gives segments coordinates with which those of the other axis, `other`, are shortest in all, while the
-    /// segments on each level keep their order; returns whether they are shorter then. If not, no coordinate changes.
+    /// segments on each level keep their order; returns whether they are shorter then. If not, no coordinate changes. The
+    /// search that takes the last of the looks for this drawing may leave them shorter, and yet not shortest.
     pub(crate) fn shorten(
         &mut self,
         along: &mut Segments,
@@ -46,13 +59,22 @@ impl Shortening {
         requires { AreCrossed along.old other.now }
         ensures { OnOk result (AreCrossed along.new other.now) }
     {
-        if other.are_shortest(along) || !self.list_segments(along, other.segments.as_slice())? {
+        if self.looks == 0 || other.are_shortest(along) {
+            return Ok(false);
+        }
+        if !self.list_segments(along, other.segments.as_slice())? {
             return Ok(false);
         }
         self.list_wires(other.segments.as_slice())?;
         let segments = self.segments.as_slice();
         let wires = self.wires.as_slice();
-        if !find_shorter(&mut self.search, segments, wires, &mut self.coordinates)? {
+        if !find(
+            &mut self.search,
+            segments,
+            wires,
+            &mut self.looks,
+            &mut self.coordinates,
+        )? {
             return Ok(false);
         }
         // The search does not say how great coordinates are.
@@ -125,6 +147,25 @@ impl Shortening {
         }
         Ok(())
     }
+}
+
+/// Finds coordinates with which the wires are shortest, or shorter if the search has no looks left; false if there are none.
+fn find(
+    search: &mut least_length::Scratch,
+    segments: &[least_length::Segment],
+    wires: &[Wire],
+    looks: &mut u64,
+    coordinates: &mut Vec<u16>,
+) -> Result<bool, AllocError>
+    ensures { IfOk result (λ found. found ≡ true → length coordinates.new.items ≡ length segments.now) }
+{
+    if find_shorter(search, segments, wires, looks, coordinates)? {
+        return Ok(true);
+    }
+    if *looks > 0 {
+        return Ok(false);
+    }
+    take_shorter(search, segments, wires, coordinates)
 }
 
 /// Gives segments the coordinates found.

@@ -2,11 +2,11 @@ use Rattle.std.proofs.Common.{subst}
 use Rattle.answers.specs.Steps.{IsShaped, IsPlaneOf}
 use Rattle.answers.proofs.stages.find_points.Goals as goal
 
--- the plane is that of the record, and the points draw its shape
+-- the plane is that of the lists, and the points draw its shape
 pub returns-in-Ok-clause-answers : goal.returns-in-Ok-clause-answers
-returns-in-Ok-clause-answers c choice bytes shaped =
+returns-in-Ok-clause-answers c choice g shaped =
     let found = c.in_ok-shaped_plane.shaped_plane in
-    let known : IsPlaneOf choice bytes found.plane = subst (IsShaped choice bytes) c.in_ok-shaped_plane.was shaped in
+    let known : IsPlaneOf choice g found.plane = subst (IsShaped choice g) c.in_ok-shaped_plane.was shaped in
     record {
       lists = known.lists;
       rules = known.rules;

@@ -54,7 +54,7 @@ bend_edge-requires-clause-space c =
       next.done.same,
       c.in_ok-table.ensures.bare.dart_count,
       c.in_ok-table.ensures.room,
-      c.room_for-room.ensures,
+      c.in_ok-room.ensures.room,
       bends_twice p a s c.graph-graph.ensures.ends c.requires.shape.rep,
       lesser_few p a s d c.graph-graph.ensures.ends c.requires.shape.rep next.inside,
       lesser_length-lesser p s d next.lesser,
@@ -113,7 +113,7 @@ returns c =
         bends.counts.right_turns,
         done.same,
         c.in_ok-table.ensures.room,
-        c.room_for-room.ensures,
+        c.in_ok-room.ensures.room,
         bends_twice p a s ends rep,
       );
     }

@@ -1,6 +1,7 @@
 use Rattle.std.proofs.Common.{ℕ, ◌*◌, ◌≤◌, rules, arith, subst, sym}
 use Rattle.std.proofs.lemmas.Grind.{common_steps}
 use Rattle.std.proofs.lemmas.Bool.Decides.{nat_tests}
+use Rattle.embedding.specs.declared.genus.TheConstants.{MAX_ROTATION}
 use Rattle.embedding.specs.Darts.{dart_count}
 use Rattle.embedding.specs.Faces.{HasFaces}
 use Rattle.embedding.specs.Walk.{AreRotations, next_in}
@@ -11,17 +12,17 @@ use Rattle.embedding.proofs.genus.breaks_genus.Goals as goal
 
 pub slice_bounds-room-end : goal.slice_bounds-room-end
 slice_bounds-room-end c =
-    let few : 2 * c.darts-darts.result ≤ 2040 = omega (arith, c.darts-darts.ensures.count, (sizes c.args.lists.now c.requires.rules c.requires.few).few) in
+    let few : 2 * c.darts-darts.result ≤ MAX_ROTATION = omega (arith, c.darts-darts.ensures.count, (sizes c.args.lists.now c.requires.rules c.requires.few).few) in
     search rules
 
 pub slice_bounds-rotation-end : goal.slice_bounds-rotation-end
 slice_bounds-rotation-end c =
-    let few : 2 * c.darts-darts.result ≤ 2040 = omega (arith, c.darts-darts.ensures.count, (sizes c.args.lists.now c.requires.rules c.requires.few).few) in
+    let few : 2 * c.darts-darts.result ≤ MAX_ROTATION = omega (arith, c.darts-darts.ensures.count, (sizes c.args.lists.now c.requires.rules c.requires.few).few) in
     search rules
 
 pub write_rotation-requires-clause-size : goal.write_rotation-requires-clause-size
 write_rotation-requires-clause-size c =
-    let few : 2 * c.darts-darts.result ≤ 2040 = omega (arith, c.darts-darts.ensures.count, (sizes c.args.lists.now c.requires.rules c.requires.few).few) in
+    let few : 2 * c.darts-darts.result ≤ MAX_ROTATION = omega (arith, c.darts-darts.ensures.count, (sizes c.args.lists.now c.requires.rules c.requires.few).few) in
     let count = c.darts-darts.ensures.count in
     grind (arith, common_steps)
 

@@ -4,26 +4,30 @@ use Rattle.embedding.proofs.reach.reach.Goals as goal
 
 pub bounds-vertices-vertices : goal.bounds-vertices-vertices
 bounds-vertices-vertices c =
-    let small : c.args.vertex < 256 = omega arith in
     let new : get_or c.args.vertices.now.reached c.args.vertex false ≡ false =
     ap (λ (k : ℕ). get_or c.args.vertices.now.reached k false) (sym c.from.ensures) ∙ c.if-not-vertices-from.true in
-    let room = queue_room _ _ _ c.args.vertex small new c.requires in
+    let room = queue_room _ _ _ c.args.vertex c.requires.small new c.requires.queue in
+    omega (arith, room)
+
+pub offset_bounds-vertices-vertices : goal.offset_bounds-vertices-vertices
+offset_bounds-vertices-vertices c =
+    let new : get_or c.args.vertices.now.reached c.args.vertex false ≡ false =
+    ap (λ (k : ℕ). get_or c.args.vertices.now.reached k false) (sym c.from.ensures) ∙ c.if-not-vertices-from.true in
+    let room = queue_room _ _ _ c.args.vertex c.requires.small new c.requires.queue in
     omega (arith, room)
 
 pub overflow_add-vertices : goal.overflow_add-vertices
 overflow_add-vertices c =
-    let small : c.args.vertex < 256 = omega arith in
     let new : get_or c.args.vertices.now.reached c.args.vertex false ≡ false =
     ap (λ (k : ℕ). get_or c.args.vertices.now.reached k false) (sym c.from.ensures) ∙ c.if-not-vertices-from.true in
-    let room = queue_room _ _ _ c.args.vertex small new c.requires in
+    let room = queue_room _ _ _ c.args.vertex c.requires.small new c.requires.queue in
     omega (arith, room)
 
 pub returns-then-not-vertices-from-clause-queue : goal.returns-then-not-vertices-from-clause-queue
 returns-then-not-vertices-from-clause-queue c =
-    let small : c.args.vertex < 256 = omega arith in
     let new : get_or c.args.vertices.now.reached c.args.vertex false ≡ false =
     ap (λ (k : ℕ). get_or c.args.vertices.now.reached k false) (sym c.from.ensures) ∙ c.if-not-vertices-from.true in
-    rw c.from-then-not-vertices-from.ensures (queue_more _ _ _ c.args.vertex small new c.requires)
+    rw c.from-then-not-vertices-from.ensures (queue_more _ _ _ c.args.vertex c.requires.small new c.requires.queue)
 
 pub returns-then-not-vertices-from-clause-others : goal.returns-then-not-vertices-from-clause-others
 returns-then-not-vertices-from-clause-others c =

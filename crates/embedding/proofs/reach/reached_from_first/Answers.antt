@@ -1,14 +1,22 @@
-use Rattle.std.proofs.Common.{replicate, false, refl, arith}
+use Rattle.std.proofs.Common.{ℕ, ◌<◌, List, get_or, replicate, false, refl, sym, subst, arith}
+use Rattle.std.specs.List.{All}
+use Rattle.embedding.specs.declared.lists.TheConstants.{NUMBERS}
+use Rattle.embedding.proofs.Ranges.{all_in_range}
 use Rattle.embedding.proofs.Reached.{queue_none, queue_short, blank_flags, walking_starts, walking_more, walking_ends}
 use Rattle.embedding.proofs.reach.reached_from_first.Goals as goal
 
-pub reach-requires : goal.reach-requires
-reach-requires c =
-    queue_none _ _ refl refl (blank_flags 256)
+pub reach-requires-clause-queue : goal.reach-requires-clause-queue
+reach-requires-clause-queue c =
+    queue_none _ _ refl refl (blank_flags NUMBERS)
+
+pub reach_all-requires-clause-small : goal.reach_all-requires-clause-small
+reach_all-requires-clause-small c =
+    subst (λ (l : List ℕ). All (λ v. v < NUMBERS) l) (sym c.of_vertex.ensures.value)
+    (all_in_range c.args.lists.now c.requires NUMBERS (get_or c.loop-done.vertices.queue c.loop-done.done 0) (omega (arith, c.of_vertex.ensures.few)))
 
 pub loop-done-init : goal.loop-done-init
 loop-done-init c =
-    walking_starts c.args.lists.now (replicate 256 false) (replicate 256 0) c.reach.new.vertices.reached c.reach.new.vertices.queue c.reach.new.vertices.found (blank_flags 256)
+    walking_starts c.args.lists.now (replicate NUMBERS false) (replicate NUMBERS 0) c.reach.new.vertices.reached c.reach.new.vertices.queue c.reach.new.vertices.found (blank_flags NUMBERS)
     (record {
       queue_is = c.reach.ensures.queue;
       here = c.reach.ensures.reached;
@@ -20,6 +28,11 @@ loop-done-init c =
 
 pub bounds-vertices-done : goal.bounds-vertices-done
 bounds-vertices-done c =
+    let short = queue_short _ _ _ c.loop-done.invariant.queue_is in
+    omega (arith, short, c.loop-done-test.true)
+
+pub offset_bounds-vertices-done : goal.offset_bounds-vertices-done
+offset_bounds-vertices-done c =
     let short = queue_short _ _ _ c.loop-done.invariant.queue_is in
     omega (arith, short, c.loop-done-test.true)
 
@@ -35,7 +48,7 @@ loop-done-smaller c =
 
 pub loop-done-preserved : goal.loop-done-preserved
 loop-done-preserved c =
-    walking_more c.of_vertex.result.now c.reach_all.new.vertices.reached c.reach_all.new.vertices.queue c.reach_all.new.vertices.found c.loop-done-test.true c.of_vertex.ensures c.loop-done.invariant
+    walking_more c.of_vertex.result.now c.reach_all.new.vertices.reached c.reach_all.new.vertices.queue c.reach_all.new.vertices.found c.loop-done-test.true c.of_vertex.ensures.value c.loop-done.invariant
     (record {
       queue_is = c.reach_all.ensures.queue;
       listed = c.reach_all.ensures.reached;

@@ -1,6 +1,7 @@
 use mir.Syntax.{w16}
 use mir.Val.{of_z, to_z}
 use Rattle.std.proofs.lemmas.Int.{ints}
+use Rattle.networks.specs.declared.network.TheConstants.{MAX_ARCS}
 use Rattle.networks.specs.declared.residual.TheConstants.{SATURATED}
 use Rattle.std.specs.Prelude.{ℤ, pos, ◌+ℤ◌, ◌-ℤ◌}
 use Rattle.std.proofs.Common.{rules, cond, eqb, ap, ◌∙◌, ◌^◌, ◌≡◌, ◌<◌, ◌≤◌, ◌+◌, ◌*◌, ℕ, length, set, slice_index_or, sym, subst, inl, inr, arith, true, false}
@@ -22,7 +23,7 @@ loop-i-preserved c =
     let kept = arcs_kept net c.arcs-given.result.now c.arcs-given.ensures.kept c.arcs-given.ensures.arcs in
     let read = arc_read net c.arcs-given.result.now kept c.arcs-given.ensures.arcs i (omega arith) in
     let inside : i < arc_count net = read.inside in
-    let small : arc_count net ≤ 4096 = kept.small.1 in
+    let small : arc_count net ≤ MAX_ARCS = kept.small.1 in
     let x = c.new.result in
     let y = c.new-in-loop-i.result in
     let limit : ℕ = c.limit-fits.result in

@@ -1,6 +1,6 @@
-use Rattle.std.proofs.Common.{◌≡◌, ◌<◌, ◌≤◌, length}
+use Rattle.std.proofs.Common.{◌≡◌, ◌<◌}
 use Rattle.faces.specs.Planes.{darts, with_outer}
-use Rattle.ortho_rep.specs.Tries.{IsMoving, IsIncumbent, AreBounds}
+use Rattle.ortho_rep.specs.Tries.{IsMoving, IsIncumbent, AreBounds, HasRoom}
 use Rattle.ortho_rep.proofs.best.tour.Given as goal
 
 abbrev pub invariant-loop-step : goal.invariant-loop-step
@@ -10,6 +10,5 @@ invariant-loop-step l = record {
   incumbent : IsIncumbent l.plane l.incumbent;
   bounds : AreBounds l.plane l.bounds;
   dart : l.dart < darts l.plane;
-  faces : l.plane.faces ≤ length l.seen;
-  darts : darts l.plane ≤ length l.tree_darts;
+  walk : HasRoom l.plane l.walk;
 }

@@ -1,5 +1,6 @@
 use Rattle.std.proofs.Common.{◌∙◌, inl, inr, sym}
 use Rattle.planarbend_c.specs.Held.{contents}
+use Rattle.planarbend_c.specs.Sources.{input_of}
 use Rattle.planarbend_c.specs.Found.{IsFoundKeeping, finding_of}
 use Rattle.planarbend_c.specs.Cuts.{cut_contents}
 use Rattle.planarbend_c.specs.Outcomes.{IsUnlaid}
@@ -20,15 +21,15 @@ returns-in-Ok-clause-outcome c =
     let request = c.args.request.now in
     let layout = c.in-Ok.layout in
     let found = c.in-Ok.ensures in
-    told (IsFoundKeeping request.conditions) (IsUnlaid request c.args.bytes.now (cut_contents c.lay_out_keeping.new.cut)) c.args.bytes.now request.outer request.drawing (finding_of layout) c.tell.new.counts (contents c.tell.new.lists) c.tell.result
-    (answer_of (IsFoundKeeping request.conditions) c.args.bytes.now request.outer request.drawing c.in-Some.choice c.in-Some-drawing_of.kind (finding_of layout)
+    told (IsFoundKeeping request.conditions) (IsUnlaid request (cut_contents c.lay_out_keeping.new.cut)) (input_of request.source) request.outer request.drawing (finding_of layout) c.tell.new.counts (contents c.tell.new.lists) c.tell.result
+    (answer_of (IsFoundKeeping request.conditions) (input_of request.source) request.outer request.drawing c.in-Some.choice c.in-Some-drawing_of.kind (finding_of layout)
     (sym c.choice_of.ensures ∙ c.in-Some.is) (sym c.drawing_of.ensures ∙ c.in-Some-drawing_of.is) found.is_record found.found
     found.asked)
     c.tell.ensures.told
 
 pub returns-in-Err-clause-outcome : goal.returns-in-Err-clause-outcome
 returns-in-Err-clause-outcome c =
-    unlaid_told c.args.request.now c.in-Some.choice c.args.bytes.now c.args.counts.now (contents c.args.lists.now) (cut_contents c.lay_out_keeping.new.cut) c.in-Err.outcome
+    unlaid_told c.args.request.now c.in-Some.choice c.args.counts.now (contents c.args.lists.now) (cut_contents c.lay_out_keeping.new.cut) c.in-Err.outcome
     (sym c.choice_of.ensures ∙ c.in-Some.is) c.in-Err.ensures.fault
 
 pub returns-in-Ok-clause-undrawn : goal.returns-in-Ok-clause-undrawn

@@ -3,9 +3,8 @@ use Rattle.answers.specs.Kept.{IsUnkept}
 use Rattle.planarbend_c.proofs.keeping.unkept.Goals as goal
 
 pub returns-in-NoShape-clause-told : goal.returns-in-NoShape-clause-told
-returns-in-NoShape-clause-told c = λ conditions choice bytes is_record shown. record {
+returns-in-NoShape-clause-told c = λ conditions choice g shown. record {
   why = c.in-NoShape.why;
-  is_record = is_record;
-  shown = subst (IsUnkept conditions choice bytes) c.in-NoShape.is shown;
+  shown = subst (IsUnkept conditions choice g) c.in-NoShape.is shown;
   held = c.put_cut.ensures.held;
 }

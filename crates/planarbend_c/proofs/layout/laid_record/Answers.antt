@@ -1,5 +1,6 @@
 use Rattle.std.proofs.Common.{subst, sym}
 use Rattle.std.proofs.lemmas.Result.{err_from_is_err_and}
+use Rattle.planarbend_c.specs.Sources.{parsed_lists}
 use Rattle.planarbend_c.specs.Faults.{IsFault}
 use Rattle.planarbend_c.specs.Found.{IsAsAsked, IsFound}
 use Rattle.planarbend_c.proofs.layout.laid_record.Goals as goal
@@ -24,13 +25,13 @@ returns-in_err-drawing-clause-asked c = let p = err_from_is_err_and c.from_resid
 pub returns-in_err-drawing-clause-fault : goal.returns-in_err-drawing-clause-fault
 returns-in_err-drawing-clause-fault c =
     let p = err_from_is_err_and c.from_residual-in_err-drawing.result c.from_residual-in_err-drawing.ensures.1 in
-    rw (p.1, p.2) (subst (IsFault c.args.rec.now) (sym c.in_err-drawing.ensures.fault) tt)
+    rw (p.1, p.2) (subst (IsFault (parsed_lists c.args.rec.now)) (sym c.in_err-drawing.ensures.fault) tt)
 
 pub returns-clause-found : goal.returns-clause-found
 returns-clause-found c =
     let shaped = c.in_ok-shaped_plane.shaped_plane in
     let known = c.in_ok-shaped_plane.ensures.plane in
-    subst (IsFound c.args.choice c.args.rec.now) (sym c.laid_shape.ensures) (record {
+    subst (IsFound c.args.choice (parsed_lists c.args.rec.now)) (sym c.laid_shape.ensures) (record {
       lists = known.lists;
       rules = known.rules;
       chosen = known.chosen;

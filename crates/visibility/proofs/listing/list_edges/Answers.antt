@@ -25,12 +25,20 @@ loop-dart-preserved c =
       | then-dart-reverse+in_ok-list_edge w ↦ record {
         x = rw w.lists-is (w.list_edge.ensures.x ∙ c.loop-dart.invariant.x);
         y = rw w.lists-is (w.list_edge.ensures.y ∙ c.loop-dart.invariant.y);
+        x_of = rw w.lists-is (w.list_edge.ensures.x_of ∙ c.loop-dart.invariant.x_of);
+        y_of = rw w.lists-is (w.list_edge.ensures.y_of ∙ c.loop-dart.invariant.y_of);
+        x_edges = rw w.lists-is (w.list_edge.ensures.x_edges ∙ c.loop-dart.invariant.x_edges);
+        y_edges = rw w.lists-is (w.list_edge.ensures.y_edges ∙ c.loop-dart.invariant.y_edges);
         number = omega (arith, w.edge-is, number_more p dart c.loop-dart.edge c.loop-dart.invariant.number (omega (arith, reverse_is, w.if-dart-reverse.true)));
         bent = rw w.lists-is w.in_ok-list_edge.ensures.bent;
       }
       | else-dart-reverse w ↦ record {
         x = rw w.lists-is c.loop-dart.invariant.x;
         y = rw w.lists-is c.loop-dart.invariant.y;
+        x_of = rw w.lists-is c.loop-dart.invariant.x_of;
+        y_of = rw w.lists-is c.loop-dart.invariant.y_of;
+        x_edges = rw w.lists-is c.loop-dart.invariant.x_edges;
+        y_edges = rw w.lists-is c.loop-dart.invariant.y_edges;
         number = omega (arith, w.edge-is, number_kept p dart c.loop-dart.edge c.loop-dart.invariant.number (omega (arith, reverse_is, w.if-dart-reverse.false)));
         bent = rw w.lists-is c.loop-dart.invariant.bent;
       }

@@ -1,4 +1,5 @@
 use Rattle.std.proofs.Common.{sym, subst}
+use Rattle.planar_code.specs.Stream.{lists_of}
 use Rattle.answers.specs.Steps.{IsEmbedded}
 use Rattle.answers.proofs.framed.ItemRecordUnitStaged.work.Goals as goal
 
@@ -6,5 +7,5 @@ pub invariant_of-result : goal.invariant_of-result
 invariant_of-result g c =
     record {
       known = subst (λ bytes. ∥ g.P.Purpose.knows (record { file = c.args.self.task.file; ordinal = c.args.self.task.ordinal; bytes = bytes; choice = c.args.self.task.choice }) ∥₁) (sym c.of.ensures) c.args.self.known;
-      made = ∣ subst (λ bytes. IsEmbedded bytes c.hold.result) (sym c.of.ensures) (c.hold.ensures _ c.embed-plane.ensures) ∣₁;
+      made = ∣ subst (λ bytes. IsEmbedded (lists_of bytes) c.hold.result) (sym c.of.ensures) (c.hold.ensures _ c.embed-plane.ensures) ∣₁;
     }

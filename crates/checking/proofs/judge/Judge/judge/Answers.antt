@@ -1,4 +1,5 @@
 use Rattle.std.proofs.Common.{◌≡◌, ◌≢◌, ◌↔◌, ◌+◌, ◌++◌, ℕ, Bool, true, false, List, [], Ok, ap, subst, sym, ◌∙◌}
+use Rattle.planar_code.specs.Stream.{lists_of}
 use Rattle.streams.specs.Sink.{IsInTransit, StaysInTransit}
 use Rattle.text_lines.specs.declared.lines.Lines.{Lines}
 use Rattle.text_lines.specs.Lines.{state_in}
@@ -39,7 +40,7 @@ returns-clause-goes_on g c = λ known fails start earlier u.
     under_way_next g.L.Tap.to_come g.L.Tap.fails known fails start old_out new_out judge _ earlier c.args.rec.now v told mid failed u
     (subst (λ (ls : Lines g.row.L.Denot). KeepsNext g.L.Tap.to_come g.L.Tap.fails known fails (state_in judge.lines) ls u.kept told) (sym lines)
     (c.give-given.ensures.gives known fails u.kept u.has_kept))
-    (subst (λ (a : Asked). IsVerdict a.faces c.args.rec.now told v) c.give-given.ensures.asked c.verdict_on-verdict.ensures.holds)
+    (subst (λ (a : Asked). IsVerdict a.faces (lists_of c.args.rec.now) told v) c.give-given.ensures.asked c.verdict_on-verdict.ensures.holds)
     c.verdict_on-verdict.ensures.memory asked count
     (subst (λ (b : Bool). (c.note.new.self.all_ok ≡ true) ↔ ((b ≡ true) × IsOk v)) (c.verdict_on-verdict.ensures.ok ∙ c.give-given.ensures.ok) c.note.ensures.ok)
     (subst (λ (b : Bool). (c.note.new.self.wants_memory ≡ false) ↔ ((b ≡ false) × (v ≢ found.Memory))) (c.verdict_on-verdict.ensures.wants ∙ c.give-given.ensures.wants) c.note.ensures.wants)

@@ -1,5 +1,6 @@
 use Rattle.std.proofs.Common.{◌≡◌, ◌≤◌, ◌+◌, arith, refl, ◌∙◌}
 use Rattle.std.specs.Prelude.{length}
+use Rattle.networks.specs.declared.residual.TheConstants.{MAX_RESIDUAL_ARCS}
 use Rattle.networks.specs.ResidualArcs.{out_degree}
 use Rattle.networks.specs.Search.{arcs_of, orders, looked}
 use Rattle.networks.proofs.Searching.{served_still, looked_ordered, looked_scanned, looked_few}
@@ -25,7 +26,7 @@ scan-requires-clause-few c =
     let i = c.nodes.invariant in
     let g = c.args.input in
     let most : looked (arcs_of g) (orders c.nodes.search) c.nodes.search.scanned ≤ length (arcs_of g) = looked_few g c.nodes.search i.search in
-    let few : length (arcs_of g) ≤ 8192 = i.search.input.graph.few in
+    let few : length (arcs_of g) ≤ MAX_RESIDUAL_ARCS = i.search.input.graph.few in
     omega (arith, i.looks, c.requires.few)
 
 pub nodes-smaller : goal.nodes-smaller

@@ -1,5 +1,6 @@
 use Rattle.std.proofs.Common.{◌<◌, ◌≤◌, ◌+◌, ℕ, arith, refl, subst, ◌∙◌}
 use Rattle.std.specs.Prelude.{length}
+use Rattle.networks.specs.declared.residual.TheConstants.{MAX_RESIDUAL_ARCS}
 use Rattle.networks.specs.Search.{nodes_of, arcs_of, labels, orders, places, AreLowered, IsScanning}
 use Rattle.networks.proofs.Reaching.{headed, headed_nearest, kept_same, kept_then, same_z, under_radius}
 use Rattle.networks.proofs.Searching.{scanning, next_in, are_scanned, looked_none, next_starts, looked_below, looked_less, looked_all, serves_all, looked_next}
@@ -33,7 +34,7 @@ pub look-arc-requires : goal.look-arc-requires
 look-arc-requires c =
     let g = c.args.input in
     let i = c.arcs.invariant in
-    let few : length (arcs_of g) ≤ 8192 = c.requires.search.input.graph.few in
+    let few : length (arcs_of g) ≤ MAX_RESIDUAL_ARCS = c.requires.search.input.graph.few in
     record {
       number = (next_starts _ _ _ _ _ i.looked c.arcs-test.true).inside;
       few = omega (arith, looked_below _ _ _ _ _ i.looked);
@@ -93,7 +94,7 @@ returns-clause-served c =
 
 pub overflow_add-looks : goal.overflow_add-looks
 overflow_add-looks c =
-    let few : length (arcs_of c.args.input) ≤ 8192 = c.requires.search.input.graph.few in
+    let few : length (arcs_of c.args.input) ≤ MAX_RESIDUAL_ARCS = c.requires.search.input.graph.few in
     omega (arith, looked_below _ _ _ _ _ c.arcs.invariant.looked, c.requires.few)
 
 pub returns-clause-looks : goal.returns-clause-looks

@@ -1,0 +1,116 @@
+//! Records that are parsed.
+
+ghost use Rattle.std.specs.Prelude.{◌≡◌, IfOk, IfErr};
+ghost use Rattle.answers.specs.Kept.{IsKeptPlane, IsUnkept};
+ghost use Rattle.answers.specs.Steps.{IsRefused, IsShaped};
+ghost use Rattle.planarbend_c.specs.Sources.{Bytes, Entries, IsOneRecord, input_lists, input_of, parsed_lists};
+ghost use Rattle.planarbend_c.specs.Faults.{IsUnparsed};
+
+use crate::outcome::Outcome;
+use crate::source::Source;
+use answers::{KeptPlane, RecordScratch, ShapedPlane};
+use common::{Choice, DrawingKind};
+use conditions::{Conditions, KeepFault};
+use embedding::ReadFault;
+use planar_code::{ParseFault, Record, WideFault, WideRecord};
+use std::alloc::Global;
+
+/// A record in entries of 8 or of 16 bits.
+#[derive(Drop)]
+pub(crate) enum Parsed {
+    Bytes(Record),
+    Entries(WideRecord),
+}
+
+impl Parsed {
+    /// The plane of the record with a least shape, as [`RecordScratch::shape`].
+    pub(crate) fn shape(
+        &self,
+        alloc: Global,
+        scratch: &mut RecordScratch,
+        choice: Choice,
+        drawing_kind: DrawingKind,
+    ) -> Result<ShapedPlane, ReadFault>
+        ensures shaped { IsShaped choice (parsed_lists self.now) result }
+        ensures kind { IfOk result (λ shaped_plane. shaped_plane.drawing_kind ≡ drawing_kind) }
+    {
+        match self {
+            Parsed::Bytes(rec) => scratch.shape(alloc, rec, choice, drawing_kind),
+            Parsed::Entries(rec) => scratch.shape_wide(alloc, rec, choice, drawing_kind),
+        }
+    }
+
+    /// The plane of the record with a shape that keeps the conditions, as [`RecordScratch::shape_keeping`].
+    pub(crate) fn shape_keeping(
+        &self,
+        alloc: Global,
+        scratch: &mut RecordScratch,
+        conditions: &Conditions<'_>,
+        choice: Choice,
+        drawing_kind: DrawingKind,
+    ) -> Result<Result<KeptPlane, KeepFault>, ReadFault>
+        ensures kept { IfOk result (λ made. IfOk made (IsKeptPlane conditions.now choice (parsed_lists self.now))) }
+        ensures kind { IfOk result (λ made. IfOk made (λ kept. kept.drawing_kind ≡ drawing_kind)) }
+        ensures unkept { IfOk result (λ made. IfErr made (IsUnkept conditions.now choice (parsed_lists self.now))) }
+        ensures refused { IfErr result (IsRefused (parsed_lists self.now)) }
+    {
+        match self {
+            Parsed::Bytes(rec) => scratch.shape_keeping(
+                alloc,
+                rec,
+                conditions,
+                choice,
+                drawing_kind,
+            ),
+            Parsed::Entries(rec) => scratch.shape_wide_keeping(
+                alloc,
+                rec,
+                conditions,
+                choice,
+                drawing_kind,
+            ),
+        }
+    }
+}
+
+/// The record that a source is.
+pub(crate) fn parse(alloc: Global, source: &Source<'_>) -> Result<Parsed, Outcome>
+    ensures lists { IfOk result (λ rec. parsed_lists rec ≡ input_lists (input_of source.now)) }
+    ensures is_record { IfOk result (λ _. IsOneRecord (input_of source.now)) }
+    ensures fault { IfErr result (IsUnparsed (input_of source.now)) }
+{
+    if source.is_wide {
+        parsed_entries(alloc, source.entries)
+    } else {
+        parsed_bytes(alloc, source.bytes)
+    }
+}
+
+/// The record that the bytes are.
+fn parsed_bytes(alloc: Global, bytes: &[u8]) -> Result<Parsed, Outcome>
+    ensures lists { IfOk result (λ rec. parsed_lists rec ≡ input_lists (Bytes bytes.now)) }
+    ensures is_record { IfOk result (λ _. IsOneRecord (Bytes bytes.now)) }
+    ensures fault { IfErr result (IsUnparsed (Bytes bytes.now)) }
+{
+    match Record::parse(alloc, bytes) {
+        Ok(rec) => Ok(Parsed::Bytes(rec)),
+        Err(ParseFault::Memory) => Err(Outcome::Memory),
+        Err(_) => Err(Outcome::NotARecord),
+    }
+}
+
+/// The wide record that the entries are.
+fn parsed_entries(alloc: Global, entries: &[u16]) -> Result<Parsed, Outcome>
+    ensures lists { IfOk result (λ rec. parsed_lists rec ≡ input_lists (Entries entries.now)) }
+    ensures is_record { IfOk result (λ _. IsOneRecord (Entries entries.now)) }
+    ensures fault { IfErr result (IsUnparsed (Entries entries.now)) }
+{
+    let Ok(copy) = Vec::from_slice(alloc, entries) else {
+        return Err(Outcome::Memory);
+    };
+    match WideRecord::new(copy) {
+        Ok(rec) => Ok(Parsed::Entries(rec)),
+        Err(WideFault::Large) => Err(Outcome::Large),
+        Err(WideFault::Record) => Err(Outcome::NotARecord),
+    }
+}
