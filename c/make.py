@@ -1,5 +1,5 @@
 #!/usr/bin/env python3
-"""Makes the library for C in out/ from an archive of the crate planarbend_c: libplanarbend.a, libplanarbend.so.1, the
+"""Makes the library for C in out/ from an archive of the crate planarbend_c: libplanarbend.a, libplanarbend.so.2, the
 same file as libplanarbend.so, and planarbend.pc, by which pkg-config finds them here. Both libraries consist of the
 archive and of c/planarbend.c. They export the names in c/planarbend.map and no others. Needs a C compiler (CC, or cc)
 and binutils.
@@ -20,7 +20,7 @@ from common import ROOT, START, say, stop
 
 TOP = Path(ROOT)
 SOURCE, OUT = TOP / "c", TOP / "out"
-SONAME = "libplanarbend.so.1"
+SONAME = "libplanarbend.so.2"
 FILES = ["libplanarbend.a", SONAME, "libplanarbend.so", "planarbend.pc"]
 COMPILER = os.environ.get("CC") or "cc"
 FLAGS = ["-std=c11", "-O2", "-fPIC", "-Wall", "-Wextra", "-Werror"]

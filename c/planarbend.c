@@ -16,14 +16,24 @@ void *planarbend_test_realloc(void *block, size_t size);
 #define realloc planarbend_test_realloc
 #endif
 
-/* What the second call is asked for. */
+/* What should be one record, in entries of 8 bits or, if it is wide, of 16. */
+struct source {
+    const uint8_t *bytes;
+    size_t byte_count;
+    const uint16_t *entries;
+    size_t entry_count;
+    bool is_wide;
+};
+
+/* What a call under conditions is asked for. */
 struct request {
+    struct source source;
     uint32_t outer;
     uint32_t drawing;
     planarbend_conditions conditions;
 };
 
-/* Where the second call puts a cut. */
+/* Where a call under conditions puts a cut. */
 struct cut_lists {
     uint8_t *vertices;
     size_t vertices_room;
@@ -33,14 +43,14 @@ struct cut_lists {
 };
 
 /* The proved calls. A list of room 0 is left out; no pointer is null. */
-uint32_t planarbend_c_layout(const uint8_t *record, size_t size, uint32_t outer, uint32_t drawing,
-                             planarbend_counts *counts, planarbend_lists *lists);
-uint32_t planarbend_c_layout_keeping(const uint8_t *record, size_t size, const struct request *request,
-                                     planarbend_counts *counts, planarbend_lists *lists, struct cut_lists *cut);
+uint32_t planarbend_c_layout(const struct source *source, uint32_t outer, uint32_t drawing, planarbend_counts *counts,
+                             planarbend_lists *lists);
+uint32_t planarbend_c_layout_keeping(const struct request *request, planarbend_counts *counts, planarbend_lists *lists,
+                                     struct cut_lists *cut);
 
 /* ---- memory that is kept */
 
-enum { ALIGNMENT = 16, HEAD = ALIGNMENT, FIRST_ROOM = 16 << 10, MOST_ROOM = (1 << 20) - 256 };
+enum { ALIGNMENT = 16, HEAD = ALIGNMENT, FIRST_ROOM = 16 << 10, MOST_ROOM = 5 * (1 << 20) - 256 };
 
 #if defined(__GNUC__)
 /* From a shared library too it is found without a call. */
@@ -197,54 +207,68 @@ static bool without_null(const planarbend_dart **darts, size_t count) {
     return *darts != NULL;
 }
 
+/* Whether the source may be read; a list without entries gets a pointer that is not null. */
+static bool may_be_read(struct source *source) {
+    static const uint16_t nothing = 0;
+    if (source->byte_count == 0) source->bytes = (const uint8_t *)&nothing;
+    if (source->entry_count == 0) source->entries = &nothing;
+    return source->bytes != NULL && source->entries != NULL;
+}
+
 /* The call with conditions, and its cut where one is wanted. */
-static uint32_t called_keeping(const uint8_t *record, size_t size, const struct request *request, planarbend_counts *counts,
-                               planarbend_lists *lists, planarbend_cut *cut) {
+static uint32_t called_keeping(const struct request *request, planarbend_counts *counts, planarbend_lists *lists,
+                               planarbend_cut *cut) {
     uint8_t nothing = 0;
     struct cut_lists found = {&nothing, 0, &nothing, 0, 0};
-    if (cut == NULL) return planarbend_c_layout_keeping(record, size, request, counts, lists, &found);
+    if (cut == NULL) return planarbend_c_layout_keeping(request, counts, lists, &found);
     found.vertices = cut->vertices;
     found.vertices_room = sizeof cut->vertices;
     found.faces = cut->faces;
     found.faces_room = sizeof cut->faces;
-    uint32_t result = planarbend_c_layout_keeping(record, size, request, counts, lists, &found);
+    uint32_t result = planarbend_c_layout_keeping(request, counts, lists, &found);
     if (result == PLANARBEND_NO_SHAPE) cut->outer_face = found.outer_face;
     return result;
 }
 
-/* Both calls: `request` is null where there are no conditions. */
-static int called(planarbend *object, const uint8_t *record, size_t size, int outer, int drawing,
-                  const struct request *request, planarbend_counts *counts, const planarbend_lists *lists,
+/* All calls: `conditions` is null where there are none. */
+static int called(planarbend *object, struct source source, int outer, int drawing,
+                  const planarbend_conditions *conditions, planarbend_counts *counts, const planarbend_lists *lists,
                   planarbend_cut *cut) {
-    static const uint8_t nothing = 0;
+    struct request request = {source, (uint32_t)outer, (uint32_t)drawing, {NULL, 0, NULL, 0}};
     planarbend_counts unwanted;
     planarbend_lists own;
     memset(&own, 0, sizeof own);
     if (lists != NULL) own = *lists;
-    if (outer < 0 || drawing < 0 || (record == NULL && size > 0) || !without_nulls(&own)) return PLANARBEND_ARGUMENT;
-    if (record == NULL) record = &nothing;
+    if (conditions != NULL) request.conditions = *conditions;
+    if (outer < 0 || drawing < 0 || !may_be_read(&request.source) || !without_nulls(&own)
+        || !without_null(&request.conditions.straight, request.conditions.straight_count)
+        || !without_null(&request.conditions.inner, request.conditions.inner_count)) return PLANARBEND_ARGUMENT;
     if (counts == NULL) counts = &unwanted;
     lend(object);
-    uint32_t result = request == NULL
-        ? planarbend_c_layout(record, size, (uint32_t)outer, (uint32_t)drawing, counts, &own)
-        : called_keeping(record, size, request, counts, &own, cut);
+    uint32_t result = conditions == NULL
+        ? planarbend_c_layout(&request.source, request.outer, request.drawing, counts, &own)
+        : called_keeping(&request, counts, &own, cut);
     take_back(object);
     return (int)result;
 }
 
 int planarbend_layout(planarbend *object, const uint8_t *record, size_t size, int outer, int drawing,
                       planarbend_counts *counts, const planarbend_lists *lists) {
-    return called(object, record, size, outer, drawing, NULL, counts, lists, NULL);
+    return planarbend_layout_keeping(object, record, size, outer, drawing, NULL, counts, lists, NULL);
 }
 
 int planarbend_layout_keeping(planarbend *object, const uint8_t *record, size_t size, int outer, int drawing,
                               const planarbend_conditions *conditions, planarbend_counts *counts,
                               const planarbend_lists *lists, planarbend_cut *cut) {
-    if (conditions == NULL) return called(object, record, size, outer, drawing, NULL, counts, lists, cut);
-    struct request request = {(uint32_t)outer, (uint32_t)drawing, *conditions};
-    if (!without_null(&request.conditions.straight, request.conditions.straight_count)
-        || !without_null(&request.conditions.inner, request.conditions.inner_count)) return PLANARBEND_ARGUMENT;
-    return called(object, record, size, outer, drawing, &request, counts, lists, cut);
+    struct source source = {record, size, NULL, 0, false};
+    return called(object, source, outer, drawing, conditions, counts, lists, cut);
+}
+
+int planarbend_layout_wide(planarbend *object, const planarbend_wide_request *request, planarbend_counts *counts,
+                           const planarbend_lists *lists, planarbend_cut *cut) {
+    if (request == NULL || request->size != sizeof *request) return PLANARBEND_ARGUMENT;
+    struct source source = {NULL, 0, request->record, request->entries, true};
+    return called(object, source, request->outer, request->drawing, request->conditions, counts, lists, cut);
 }
 
 planarbend_lists planarbend_lists_of(planarbend_buffer *buffer) {
@@ -265,8 +289,8 @@ planarbend_lists planarbend_lists_of(planarbend_buffer *buffer) {
 const char *planarbend_word(int result) {
     static const char *const words[] = {"ok",     "range",        "loop",  "multi",  "asymmetric", "edgeless", "degree",
                                         "disconnected", "genus", "record", "memory", "room",     "argument",
-                                        "noshape", "noedge",  "noouter", "wide"};
-    return result < 0 || result > PLANARBEND_WIDE ? NULL : words[result];
+                                        "noshape", "noedge",  "noouter", "wide",   "large"};
+    return result < 0 || result > PLANARBEND_LARGE ? NULL : words[result];
 }
 
 const char *planarbend_version(void) {

@@ -24,7 +24,7 @@
 extern "C" {
 #endif
 
-/* Upper bounds for a graph that is laid out. Of these, conditions lift only PLANARBEND_MAX_BENDS. */
+/* Upper bounds for a graph whose record is bytes. Of these, conditions lift only PLANARBEND_MAX_BENDS. */
 enum {
     PLANARBEND_MAX_VERTICES = 255,
     PLANARBEND_MAX_EDGES = 510,
@@ -32,6 +32,15 @@ enum {
     PLANARBEND_MAX_FACES = 257,
     PLANARBEND_MAX_BENDS = 1534,
     PLANARBEND_MAX_RECORD = 65026 /* bytes of any record; a record that is laid out has at most 1,276 */
+};
+
+/* The same for a graph whose record has entries of 16 bits. */
+enum {
+    PLANARBEND_WIDE_MAX_VERTICES = 1200,
+    PLANARBEND_WIDE_MAX_EDGES = 2400,
+    PLANARBEND_WIDE_MAX_DARTS = 4800,
+    PLANARBEND_WIDE_MAX_FACES = 1202,
+    PLANARBEND_WIDE_MAX_BENDS = 7204
 };
 
 /* Results of a call. */
@@ -64,7 +73,9 @@ enum {
     /* All faces must be inner faces. */
     PLANARBEND_NO_OUTER = 15,
     /* A shape was found, but no drawing with the order of its boxes fits 16-bit coordinates. */
-    PLANARBEND_WIDE = 16
+    PLANARBEND_WIDE = 16,
+    /* Only from planarbend_layout_wide: the record has more than 1,200 vertices. */
+    PLANARBEND_LARGE = 17
 };
 
 /* The choice of outer face. */
@@ -82,8 +93,8 @@ enum {
 
 /* A dart: an edge in the direction from one end to the other. Vertices are numbered from 1. */
 typedef struct planarbend_dart {
-    uint8_t from;
-    uint8_t to;
+    uint16_t from;
+    uint16_t to;
 } planarbend_dart;
 
 /* Conditions on a layout. A pointer may be null if its count is 0. */
@@ -178,13 +189,13 @@ planarbend_lists planarbend_lists_of(planarbend_buffer *buffer);
  * with the lowest number.
  */
 typedef struct planarbend_cut {
-    uint8_t vertices[PLANARBEND_MAX_VERTICES];
-    uint8_t faces[PLANARBEND_MAX_FACES];
+    uint8_t vertices[PLANARBEND_WIDE_MAX_VERTICES];
+    uint8_t faces[PLANARBEND_WIDE_MAX_FACES];
     uint32_t outer_face;
 } planarbend_cut;
 
 /*
- * An object holds memory for reuse by later calls, at most 1 MB. A call with it allocates nothing if an earlier call
+ * An object holds memory for reuse by later calls, in proportion to the largest graph so far and at most 5 MB. A call with it allocates nothing if an earlier call
  * with it, with the same `outer` and `drawing`, was for a graph at least as large in every respect.
  */
 typedef struct planarbend planarbend;
@@ -223,9 +234,30 @@ int planarbend_layout_keeping(planarbend *object, const uint8_t *record, size_t 
                               const planarbend_lists *lists, planarbend_cut *cut);
 
 /*
+ * A request for planarbend_layout_wide. The names of this struct and of the call may change until version 2.0.0.
+ *
+ * The record has entries of 16 bits: n, from 1 to 1,200, then for each vertex its neighbours in clockwise order and a 0.
+ */
+typedef struct planarbend_wide_request {
+    size_t size; /* sizeof (planarbend_wide_request) */
+    const uint16_t *record;
+    size_t entries; /* of the record */
+    int outer;
+    int drawing;
+    const planarbend_conditions *conditions; /* null if there are none */
+} planarbend_wide_request;
+
+/*
+ * Lays out one record of 16-bit entries, and returns one of the results 0 to 17: PLANARBEND_LARGE if its first entry is
+ * greater than 1,200, PLANARBEND_ARGUMENT also if `request` is null or its size is another. The rest is as above.
+ */
+int planarbend_layout_wide(planarbend *object, const planarbend_wide_request *request, planarbend_counts *counts,
+                           const planarbend_lists *lists, planarbend_cut *cut);
+
+/*
  * Returns the word of a result: "ok", the word of a rule as in reports ("range" to "genus"), "record", "memory",
- * "room", "argument", "noshape", "noedge", "noouter" or "wide"; null for any other number. The string is static: do
- * not free it.
+ * "room", "argument", "noshape", "noedge", "noouter", "wide" or "large"; null for any other number. The string is
+ * static: do not free it.
  */
 const char *planarbend_word(int result);
 

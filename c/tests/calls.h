@@ -33,6 +33,7 @@ struct call {
     const planarbend_conditions *conditions;
     int is_keeping; /* whether planarbend_layout_keeping is called */
     int without_counts, without_lists, without_cut;
+    int is_wide; /* whether planarbend_layout_wide is called, with the same entries in 16 bits */
 };
 
 struct answer {
@@ -109,6 +110,16 @@ static void look_at_result(const struct call *call, const struct answer *answer)
         look_untouched(&answer->marks.cut, sizeof answer->marks.cut);
 }
 
+/* Calls planarbend_layout_wide. */
+static int ask_wide(const struct call *call, planarbend_counts *counts, const planarbend_lists *lists, planarbend_cut *cut) {
+    static uint16_t entries[PLANARBEND_MAX_RECORD + 1];
+    LOOK(call->size <= PLANARBEND_MAX_RECORD);
+    for (size_t at = 0; at < call->size; at++) entries[at] = call->record[at];
+    planarbend_wide_request request = {sizeof request, entries, call->size, call->outer, call->drawing, NULL};
+    if (call->is_keeping) request.conditions = call->conditions;
+    return planarbend_layout_wide(call->object, &request, counts, lists, cut);
+}
+
 /* Calls the library. The rooms of the answer say how long its lists are. */
 static int ask(const struct call *call, struct answer *answer) {
     memset(&answer->counts, UNTOUCHED, sizeof answer->counts);
@@ -119,7 +130,8 @@ static int ask(const struct call *call, struct answer *answer) {
     planarbend_counts *counts = call->without_counts ? NULL : &answer->counts;
     const planarbend_lists *lists = call->without_lists ? NULL : &answer->lists;
     planarbend_cut *cut = call->without_cut ? NULL : &answer->marks.cut;
-    answer->result = call->is_keeping
+    answer->result = call->is_wide ? ask_wide(call, counts, lists, cut)
+        : call->is_keeping
         ? planarbend_layout_keeping(call->object, call->record, call->size, call->outer, call->drawing, call->conditions,
                                     counts, lists, cut)
         : planarbend_layout(call->object, call->record, call->size, call->outer, call->drawing, counts, lists);

@@ -10,7 +10,16 @@
 #include "memory.h"
 #include "planarbend.h"
 
+struct source {
+    const uint8_t *bytes;
+    size_t byte_count;
+    const uint16_t *entries;
+    size_t entry_count;
+    bool is_wide;
+};
+
 struct request {
+    struct source source;
     uint32_t outer, drawing;
     planarbend_conditions conditions;
 };
@@ -31,15 +40,13 @@ struct rattle_given {
 struct rattle_given rattle_alloc(size_t size, size_t alignment);
 struct rattle_given rattle_realloc(void *block, size_t kept, size_t size, size_t alignment);
 void rattle_dealloc(void *block);
-uint32_t planarbend_c_layout(const uint8_t *record, size_t size, uint32_t outer, uint32_t drawing, planarbend_counts *counts,
+uint32_t planarbend_c_layout(const struct source *source, uint32_t outer, uint32_t drawing, planarbend_counts *counts,
                              planarbend_lists *lists);
-uint32_t planarbend_c_layout_keeping(const uint8_t *record, size_t size, const struct request *request,
-                                     planarbend_counts *counts, planarbend_lists *lists, struct cut_lists *cut);
+uint32_t planarbend_c_layout_keeping(const struct request *request, planarbend_counts *counts, planarbend_lists *lists,
+                                     struct cut_lists *cut);
 
 /* What a call was given. */
 struct given {
-    const uint8_t *record;
-    size_t size;
     struct request request;
     planarbend_counts *counts;
     planarbend_lists lists;
@@ -53,21 +60,21 @@ static const planarbend_counts COUNTED = {11, 12, 13, 14, 15, 16};
 
 static uint32_t answer(const struct given *given) {
     last = *given;
-    LOOK(given->record != NULL && given->counts != NULL);
+    LOOK(given->request.source.bytes != NULL && given->request.source.entries != NULL && given->counts != NULL);
     if (returned == PLANARBEND_OK || returned == PLANARBEND_ROOM) *given->counts = COUNTED;
     if (work != NULL) work();
     return returned;
 }
 
-uint32_t planarbend_c_layout(const uint8_t *record, size_t size, uint32_t outer, uint32_t drawing, planarbend_counts *counts,
+uint32_t planarbend_c_layout(const struct source *source, uint32_t outer, uint32_t drawing, planarbend_counts *counts,
                              planarbend_lists *lists) {
-    struct given given = {record, size, {outer, drawing, {NULL, 0, NULL, 0}}, counts, *lists, {NULL, 0, NULL, 0, 0}};
+    struct given given = {{*source, outer, drawing, {NULL, 0, NULL, 0}}, counts, *lists, {NULL, 0, NULL, 0, 0}};
     return answer(&given);
 }
 
-uint32_t planarbend_c_layout_keeping(const uint8_t *record, size_t size, const struct request *request,
-                                     planarbend_counts *counts, planarbend_lists *lists, struct cut_lists *cut) {
-    struct given given = {record, size, *request, counts, *lists, *cut};
+uint32_t planarbend_c_layout_keeping(const struct request *request, planarbend_counts *counts, planarbend_lists *lists,
+                                     struct cut_lists *cut) {
+    struct given given = {*request, counts, *lists, *cut};
     LOOK(request->conditions.straight != NULL && request->conditions.inner != NULL);
     LOOK(cut->vertices != NULL && cut->faces != NULL);
     cut->outer_face = 77;
@@ -77,6 +84,7 @@ uint32_t planarbend_c_layout_keeping(const uint8_t *record, size_t size, const s
 /* ---- what is passed */
 
 static const uint8_t BYTES[] = {2, 2, 0, 1, 0};
+static const uint16_t ENTRIES[] = {2, 2, 0, 1, 0, 9};
 static const planarbend_dart DARTS[3000];
 
 /* Lists of which one has this room and the others none, or all have, with pointers that are null where there is no room. */
@@ -106,19 +114,33 @@ static void look_at_lists(const planarbend_lists *wanted) {
     PASSED(corners);
 }
 
+/* The entries are passed in one of two widths, and the other list is empty. */
+static void look_at_source(bool is_wide) {
+    const struct source *source = &last.request.source;
+    LOOK(source->is_wide == is_wide);
+    LOOK(source->byte_count == (is_wide ? 0 : sizeof BYTES) && (is_wide || source->bytes == BYTES));
+    LOOK(source->entry_count == (is_wide ? 6 : 0) && (!is_wide || source->entries == ENTRIES));
+}
+
 static void look_at_passed(planarbend *object, int way, const planarbend_lists *lists, planarbend_cut *cut) {
     const planarbend_conditions asked[] = {{NULL, 0, NULL, 0}, {DARTS, 3, NULL, 0}, {NULL, 0, DARTS, 600}, {DARTS, 3000, DARTS + 1, 2999}};
     for (int outer = 0; outer < 4; outer++)
         for (int drawing = 0; drawing < 4; drawing++)
-            for (int result = 0; result <= PLANARBEND_WIDE; result++) {
+            for (int result = 0; result <= 2 * PLANARBEND_LARGE + 1; result++) {
+                bool is_wide = result > PLANARBEND_LARGE;
+                int wanted = is_wide ? result - PLANARBEND_LARGE - 1 : result;
+                const planarbend_conditions *conditions = way < 0 ? NULL : asked + way;
+                const planarbend_wide_request wide = {sizeof wide, ENTRIES, 6, outer, drawing, conditions};
                 planarbend_counts counts;
                 memset(&counts, 0xA5, sizeof counts);
                 memset(&last, 0, sizeof last);
                 if (cut != NULL) memset(cut, 0xA5, sizeof *cut);
-                returned = (uint32_t)result;
-                int found = way < 0 ? planarbend_layout(object, BYTES, sizeof BYTES, outer, drawing, &counts, lists)
-                    : planarbend_layout_keeping(object, BYTES, sizeof BYTES, outer, drawing, asked + way, &counts, lists, cut);
-                LOOK(found == result && last.record == BYTES && last.size == sizeof BYTES && last.counts == &counts);
+                returned = (uint32_t)wanted;
+                int found = is_wide ? planarbend_layout_wide(object, &wide, &counts, lists, cut)
+                    : way < 0 ? planarbend_layout(object, BYTES, sizeof BYTES, outer, drawing, &counts, lists)
+                    : planarbend_layout_keeping(object, BYTES, sizeof BYTES, outer, drawing, conditions, &counts, lists, cut);
+                LOOK(found == wanted && last.counts == &counts);
+                look_at_source(is_wide);
                 LOOK(last.request.outer == (uint32_t)outer && last.request.drawing == (uint32_t)drawing);
                 planarbend_lists none = lists_of(NULL, -1, 0);
                 look_at_lists(lists == NULL ? &none : lists);
@@ -127,10 +149,10 @@ static void look_at_passed(planarbend *object, int way, const planarbend_lists *
                 LOOK(passed->straight_count == asked[way].straight_count && passed->inner_count == asked[way].inner_count);
                 LOOK(passed->straight_count == 0 || passed->straight == asked[way].straight);
                 LOOK(passed->inner_count == 0 || passed->inner == asked[way].inner);
-                LOOK(last.cut.vertices_room == (cut == NULL ? 0 : 255) && last.cut.faces_room == (cut == NULL ? 0 : 257));
+                LOOK(last.cut.vertices_room == (cut == NULL ? 0 : 1200) && last.cut.faces_room == (cut == NULL ? 0 : 1202));
                 if (cut == NULL) continue;
                 LOOK(last.cut.vertices == cut->vertices && last.cut.faces == cut->faces);
-                LOOK(cut->outer_face == (result == PLANARBEND_NO_SHAPE ? 77 : 0xA5A5A5A5));
+                LOOK(cut->outer_face == (wanted == PLANARBEND_NO_SHAPE ? 77 : 0xA5A5A5A5));
             }
 }
 
@@ -147,7 +169,10 @@ static void look_at_passing(planarbend *object) {
     look_at_passed(object, -1, NULL, NULL);
     look_at_passed(object, 3, NULL, &cut);
     returned = PLANARBEND_NOT_A_RECORD; /* no bytes and no counts: neither pointer that is passed is null */
-    LOOK(planarbend_layout(object, NULL, 0, 0, 0, NULL, NULL) == PLANARBEND_NOT_A_RECORD && last.size == 0);
+    LOOK(planarbend_layout(object, NULL, 0, 0, 0, NULL, NULL) == PLANARBEND_NOT_A_RECORD);
+    const planarbend_wide_request empty = {sizeof empty, NULL, 0, 0, 0, NULL};
+    LOOK(planarbend_layout_wide(object, &empty, NULL, NULL, NULL) == PLANARBEND_NOT_A_RECORD);
+    LOOK(last.request.source.byte_count == 0 && last.request.source.entry_count == 0);
 }
 
 /* Calls that are refused before the proved ones. */
@@ -156,6 +181,14 @@ static void look_at_refused(planarbend *object) {
     LOOK(planarbend_layout(object, BYTES, 5, -1, 0, NULL, NULL) == PLANARBEND_ARGUMENT);
     LOOK(planarbend_layout(object, BYTES, 5, 0, -1, NULL, NULL) == PLANARBEND_ARGUMENT);
     LOOK(planarbend_layout(object, NULL, 5, 0, 0, NULL, NULL) == PLANARBEND_ARGUMENT);
+    const planarbend_wide_request wide[] = {
+        {sizeof *wide - 1, ENTRIES, 5, 0, 0, NULL}, {0, ENTRIES, 5, 0, 0, NULL}, {sizeof *wide + 8, ENTRIES, 5, 0, 0, NULL},
+        {sizeof *wide, ENTRIES, 5, -1, 0, NULL}, {sizeof *wide, ENTRIES, 5, 0, -1, NULL}, {sizeof *wide, NULL, 5, 0, 0, NULL}};
+    LOOK(planarbend_layout_wide(object, NULL, NULL, NULL, NULL) == PLANARBEND_ARGUMENT);
+    for (int at = 0; at < 6; at++) LOOK(planarbend_layout_wide(object, wide + at, NULL, NULL, NULL) == PLANARBEND_ARGUMENT);
+    const planarbend_conditions null_darts[] = {{NULL, 1, NULL, 0}, {NULL, 0, NULL, 1}};
+    for (int at = 0; at < 2; at++)
+        LOOK(planarbend_layout_keeping(object, BYTES, 5, 0, 0, null_darts + at, NULL, NULL, NULL) == PLANARBEND_ARGUMENT);
     for (int kind = -1; kind < 7; kind++) {
         planarbend_buffer buffer;
         planarbend_lists lists = lists_of(&buffer, kind, 5);
@@ -380,9 +413,9 @@ static void look_at_heads(void) {
     planarbend_free(object);
 }
 
-/* Pieces have at most 1 MB with their object, and what a call is given besides is freed. */
+/* Pieces have at most 5 MB with their object, and what a call is given besides is freed. */
 static void take_much(void) {
-    for (size_t size = 1000; size <= 3000000; size *= 3) {
+    for (size_t size = 1000; size <= 15000000; size *= 3) {
         struct rattle_given given = rattle_alloc(size, 8);
         LOOK(given.is_given);
         memset(given.block, 7, size);
@@ -404,10 +437,10 @@ static void look_at_greatest(void) {
     work = NULL;
     planarbend_free(object);
     object = new_object();
-    for (most = 1000; most < 3000000; most *= 2) {
+    for (most = 1000; most < 8000000; most *= 2) {
         work = take_blocks, state = 5, steps = 40;
         call(object);
-        LOOK(held <= 2 && bytes_held <= 1 << 20);
+        LOOK(held <= 2 && bytes_held <= 5 << 20);
     }
     planarbend_free(object);
     LOOK(held == 0);

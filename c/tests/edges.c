@@ -17,7 +17,7 @@ static const planarbend_dart ACROSS[] = {{1, 2}, {2, 1}}; /* one of them has eac
 
 static struct call call_of(planarbend *object, const uint8_t *record, size_t size, int outer, int drawing,
                            const planarbend_conditions *conditions) {
-    struct call call = {object, record, size, outer, drawing, conditions, conditions != NULL, 0, 0, 0};
+    struct call call = {object, record, size, outer, drawing, conditions, conditions != NULL, 0, 0, 0, 0};
     return call;
 }
 
@@ -29,10 +29,10 @@ static int result_of(struct call call) {
 
 static void look_at_words(void) {
     const char *words[] = {"ok",     "range", "loop",     "multi",   "asymmetric", "edgeless", "degree", "disconnected", "genus",
-                           "record", "memory", "room",    "argument", "noshape",   "noedge",   "noouter", "wide"};
-    for (int result = 0; result <= PLANARBEND_WIDE; result++) LOOK(strcmp(planarbend_word(result), words[result]) == 0);
+                           "record", "memory", "room",    "argument", "noshape",   "noedge",   "noouter", "wide",  "large"};
+    for (int result = 0; result <= PLANARBEND_LARGE; result++) LOOK(strcmp(planarbend_word(result), words[result]) == 0);
     LOOK(planarbend_word(-1) == NULL && planarbend_word(INT_MIN) == NULL);
-    LOOK(planarbend_word(PLANARBEND_WIDE + 1) == NULL && planarbend_word(INT_MAX) == NULL);
+    LOOK(planarbend_word(PLANARBEND_LARGE + 1) == NULL && planarbend_word(INT_MAX) == NULL);
     LOOK(strcmp(planarbend_version(), VERSION) == 0);
 }
 
@@ -42,7 +42,7 @@ static void look_at_numbers(void) {
     LOOK(PLANARBEND_DRAWING_NONE == 0 && PLANARBEND_DRAWING_QUICK == 1 && PLANARBEND_DRAWING_SHORT == 2);
     LOOK(PLANARBEND_MAX_VERTICES == 255 && PLANARBEND_MAX_EDGES == 510 && PLANARBEND_MAX_DARTS == 1020);
     LOOK(PLANARBEND_MAX_FACES == 257 && PLANARBEND_MAX_BENDS == 1534 && PLANARBEND_MAX_RECORD == 65026);
-    LOOK(offsetof(planarbend_dart, from) == 0 && offsetof(planarbend_dart, to) == 1);
+    LOOK(offsetof(planarbend_dart, from) == 0 && offsetof(planarbend_dart, to) == 2);
     LOOK(offsetof(planarbend_turns, left) == 0 && offsetof(planarbend_turns, right) == 4);
     LOOK(offsetof(planarbend_point, x) == 0 && offsetof(planarbend_point, y) == 2);
 }

@@ -40,10 +40,12 @@ static long look_at_layout(const struct call *call, const struct asked *asked, c
     return length;
 }
 
-/* A call with an object and one without say the same. Returns the length of the drawing. */
+/* A call with an object and one without say the same, the latter every other time with entries of 16 bits. Returns the length
+   of the drawing. */
 static long ask_both(const struct call *call, const struct asked *asked) {
+    static int calls = 0;
     struct call without = *call;
-    without.object = NULL;
+    without.object = NULL, without.is_wide = calls++ % 2;
     ask(call, &one);
     ask(&without, &other);
     LOOK(is_same(&one, &other));
@@ -77,7 +79,7 @@ static planarbend_dart straight[4 * PLANARBEND_MAX_DARTS], inner[4 * PLANARBEND_
 
 static planarbend_dart ends_of(int dart) {
     planarbend_dart ends;
-    ends.from = (uint8_t)plane.tail[dart], ends.to = (uint8_t)plane.head[dart];
+    ends.from = (uint16_t)plane.tail[dart], ends.to = (uint16_t)plane.head[dart];
     return ends;
 }
 
@@ -204,7 +206,7 @@ static void look_at_once(struct call call, uint32_t number, struct sums *sums) {
 /* ---- files */
 
 static void look_at_graph(planarbend *object, const uint8_t *record, size_t size, int ways, struct sums *sums) {
-    struct call call = {object, record, size, 0, 0, NULL, 0, 0, 0, 0};
+    struct call call = {object, record, size, 0, 0, NULL, 0, 0, 0, 0, 0};
     trace(&plane, record);
     sums->graphs++;
     for (call.outer = 0; call.outer < 2; call.outer++) {
@@ -232,7 +234,7 @@ int main(int count, char **words) {
                 look_at_graph(object, bytes + at, length, number % share == 0 ? WAYS : 0, &sums);
                 continue;
             }
-            struct call call = {object, bytes + at, length, 0, 0, NULL, 0, 0, 0, 0};
+            struct call call = {object, bytes + at, length, 0, 0, NULL, 0, 0, 0, 0, 0};
             trace(&plane, bytes + at);
             sums.graphs++;
             look_at_once(call, (uint32_t)number, &sums);

@@ -82,10 +82,10 @@ def test_names(_: Path) -> None:
     declared = sorted(set(re.findall(r"\b(planarbend_\w+)\(", re.sub(r"/\*.*?\*/", "", header, flags=re.S))))
     for option, library in (("-D", "libplanarbend.so"), ("-g", "libplanarbend.a")):
         lines = run("nm", option, "--defined-only", OUT / library)
-        found = sorted(name for name in re.findall(r"^\w+ \w (\w+)", lines, re.M) if name != "PLANARBEND_1")
+        found = sorted(name for name in re.findall(r"^\w+ \w (\w+)", lines, re.M) if name != "PLANARBEND_2")
         if found != declared:
             raise Failed(f"{library} exports {found}, and the header declares {declared}")
-    if "Library soname: [libplanarbend.so.1]" not in run("readelf", "-d", OUT / "libplanarbend.so"):
+    if "Library soname: [libplanarbend.so.2]" not in run("readelf", "-d", OUT / "libplanarbend.so"):
         raise Failed("libplanarbend.so has another soname")
 
 
@@ -178,6 +178,11 @@ def test_sizes(folder: Path) -> None:
     run(made, 0, *sized(folder, 256))
 
 
+def test_wide(folder: Path) -> None:
+    """Records with entries of 16 bits, up to 1,200 vertices."""
+    run(compiled(folder, TESTS / "wide.c", *WRAPPED, *STATIC))
+
+
 def test_threads(folder: Path) -> None:
     """Eight threads at once give the same answers, from the shared library."""
     made = compiled(folder, TESTS / "answers.c", *SHARED, standard="c99")
@@ -212,7 +217,7 @@ def test_examples(folder: Path) -> None:
 
 CASES: list[Callable[[Path], None]] = [
     test_names, test_package, test_header_in_cpp, test_crossing, test_crossing_addresses, test_edges, test_layouts,
-    test_sizes, test_threads, test_valgrind, test_examples]
+    test_sizes, test_wide, test_threads, test_valgrind, test_examples]
 
 
 def seconds() -> float:

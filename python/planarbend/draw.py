@@ -17,7 +17,6 @@ from planarbend.drawing.shape import Shape, lone
 from planarbend.drawing.spread import spread
 from planarbend.graph import Edge, Graph, Partition
 from planarbend.layout.engine import Engine, default_engine
-from planarbend.layout.planar_code import MOST_VERTICES
 from planarbend.programs import PlanarbendError
 from planarbend.progress import stage
 
@@ -60,7 +59,7 @@ def draw(graph: Graph, options: Options = Options(), engine: Engine | None = Non
     Raises
     ------
     DrawError
-        A component would need more than 255 vertices; vertices of `outer` in one component lie on no common face; or the edges
+        A component would need more vertices than the engine takes (the library 1,200, the program 255); vertices of `outer` in one component lie on no common face; or the edges
         of `straight` cannot be kept straight (there is no library, an edge is a loop, or no such drawing was found).
     PlanarbendError
         The program is missing or fails.
@@ -124,7 +123,7 @@ def best_sheet(graph: Graph, options: Options, engine: Engine) -> Sheet:
     best = None
     for attempt in range(MOST_EMBEDDINGS):
         try:
-            shapes = shapes_of(embedded(graph, options, attempt), graph, options, engine)
+            shapes = shapes_of(embedded(graph, options, attempt, engine.most_vertices), graph, options, engine)
         except DrawError as fault:
             if best is None and not (isinstance(fault, NotStraight) and attempt + 1 < MOST_EMBEDDINGS):
                 raise
@@ -140,21 +139,21 @@ def best_sheet(graph: Graph, options: Options, engine: Engine) -> Sheet:
     return best[1]
 
 
-def embedded(graph: Graph, options: Options, attempt: int) -> Planarization:
+def embedded(graph: Graph, options: Options, attempt: int, most: int) -> Planarization:
     """Return a component in the plane: at each attempt but the first another embedding, by another order of its vertices and
-    edges. Raise a `DrawError` if there are more vertices and crossings than can be drawn."""
+    edges. Raise a `DrawError` if there are more vertices and crossings than `most`."""
     count, pairs = len(graph.vertices), [(edge.tail, edge.head) for edge in graph.edges]
-    if count > MOST_VERTICES:
-        raise DrawError(f"a component has {count} vertices; the limit is {MOST_VERTICES}; {HELP}")
+    if count > most:
+        raise DrawError(f"a component has {count} vertices; the limit is {most}; {HELP}")
     more = f", embedding {attempt + 1}" if attempt else ""
     stage(f"{count} vertices, {len(pairs)} edges: searching for few crossings{more}")
     order = random.Random(options.seed * MOST_EMBEDDINGS + attempt) if attempt else None
     try:
         return planarize(count, pairs, effort=options.effort, seed=options.seed, together=options.outer,
-                         most=MOST_VERTICES - count, order=order)
+                         most=most - count, order=order)
     except TooManyCrossings as fault:
         plain = sum(tail != head for tail, head in pairs)
-        raise DrawError(f"a component has {count} vertices, {plain} edges and {fault}; the limit is {MOST_VERTICES}"
+        raise DrawError(f"a component has {count} vertices, {plain} edges and {fault}; the limit is {most}"
                         f" vertices and crossings; {HELP}") from None
 
 
@@ -166,8 +165,8 @@ def shapes_of(planar: Planarization, graph: Graph, options: Options, engine: Eng
         return choose(planar, engine, options)
     except TooLarge as fault:
         raise DrawError(f"a component has {len(graph.vertices)} vertices, {len(graph.edges)} edges and {planar.crossings}"
-                        f" crossings, which takes {fault} vertices of degree 4; the limit is {MOST_VERTICES};"
-                        f" {HELP}") from None
+                        f" crossings, which takes {fault} vertices of degree 4; the limit is"
+                        f" {engine.most_vertices}; {HELP}") from None
     except NoSuchFace:
         names = ", ".join(graph.vertices[vertex].name for vertex in options.outer)
         raise DrawError(f"no embedding was found with these vertices on one face: {names}") from None

@@ -12,10 +12,12 @@ from pathlib import Path
 from typing import Any
 
 import support
+import test_layouts
 from drawing_checker import Found, check, on_outer_face
 from planarbend.draw import DrawError, Options, draw
 from planarbend.graph import Edge, Graph, Vertex
 from planarbend.drawing.picture import svg
+from planarbend.layout import library
 from planarbend.readers import read
 
 # The most crossings and bends of each graph; crossings are the published numbers where there are any.
@@ -144,6 +146,14 @@ class Limits(unittest.TestCase):
         with self.assertRaisesRegex(DrawError, "256|255"):
             draw(graph_of(256, [(place, place + 1) for place in range(255)]))
         self.assertEqual(found(graph_of(256, ladder))[0], Found(0, 0))  # the last vertex stands alone
+
+    @test_layouts.needs_library
+    def test_more_than_255_vertices(self) -> None:
+        """By the library: a hub of 240 leaves as a box, and a vertex too many."""
+        with test_layouts.calling(library.path()):
+            self.assertEqual(found(graph_of(241, [(0, leaf) for leaf in range(1, 241)]))[0], Found(0, 0))
+            with self.assertRaisesRegex(DrawError, "^a component has 1201 vertices; the limit is 1200;"):
+                draw(graph_of(1201, [(0, leaf) for leaf in range(1, 1201)]))
 
     def test_a_hub_that_spines_alone_can_draw(self) -> None:
         """A star of 127 leaves has 254 vertices with a cage, and one of 150 leaves 300: it is drawn by a spine."""

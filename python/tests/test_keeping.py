@@ -14,7 +14,7 @@ from planarbend.layout.engine import Answer, Conditions, Cut, NotKept, ProcessEn
 from planarbend.drawing.expand import Expansion
 from planarbend.graph import Edge, Graph, Vertex
 from planarbend.drawing.numbering import Contraction, conditions_of, form_of, outer_forms
-from planarbend.layout.planar_code import Lists, record_of
+from planarbend.layout.planar_code import MOST_VERTICES, Lists, record_of
 from planarbend.drawing.planarize import planarize
 from planarbend.drawing.plans import Plan
 from planes import Plane
@@ -41,6 +41,7 @@ class Refuser:
     """An engine that keeps no condition."""
 
     keeps = True
+    most_vertices = MOST_VERTICES
 
     def lay(self, graphs: list[Lists], outer: str) -> list[Answer]:
         raise AssertionError("a straight edge was forgotten")
@@ -54,6 +55,7 @@ class Careless:
     """An engine that says that it keeps conditions, and does not look at them."""
 
     keeps = True
+    most_vertices = MOST_VERTICES
 
     def __init__(self) -> None:
         self.engine = ProcessEngine()

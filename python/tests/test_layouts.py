@@ -154,6 +154,38 @@ class Library(unittest.TestCase):
                 self.assertIsInstance(layouts, laid_out.LibraryLayouts)
                 self.assertEqual(list(layouts), wanted, (name, words))
 
+    def test_more_than_255_vertices(self) -> None:
+        """Rings of up to 1,200 vertices, each with a leaf inside at every third one: a bend for each vertex of the ring that
+        cannot turn outward, beside the four that turn."""
+        for sides in (189, 300, 900):
+            graph = {at: [(at + 1) % sides, (at - 1) % sides, *([sides + at // 3] if at % 3 == 0 else [])] for at in range(sides)}
+            graph |= {sides + at // 3: [at] for at in range(0, sides, 3)}
+            with calling(library.path()):
+                layout, = planarbend.layouts([graph])
+                self.assertEqual((len(layout.points), layout.bends), (sides * 4 // 3, 0))
+                self.assertEqual(len(set(layout.points.values())), sides * 4 // 3)
+            self.assertEqual(planarbend.layout_of(graph).bends if sides == 189 else 0, 0)
+        with self.assertRaisesRegex(ValueError, "^a graph of 1200 vertices; planar_code has 1 to 255$"):
+            planarbend.layout_of(graph)  # by the program
+        with calling(library.path()):
+            record = planarbend.Record(tuple(range(1201)), [[1], [0]])
+            with self.assertRaisesRegex(ValueError, "^a graph of 1201 vertices; planarbend lays out 1 to 1200$"):
+                planarbend.layout_of({at: [] for at in record.names})
+            with library.Library() as called, self.assertRaisesRegex(ValueError, "more than 1200 vertices"):
+                called.line(library.wide_record_of([[]] * 1201))
+
+    def test_both_widths(self) -> None:
+        """A record gives the same with entries of 8 and of 16 bits."""
+        with library.Library(library.path()) as called:
+            for name, outer in itertools.product(("planar_d4_n6.pc", "cubic60.pc"), CHOICES):
+                for record in records_of(name):
+                    wide, kept = library.wide_record_of(record.lists), [(1, record.lists[0][0])]
+                    self.assertEqual(called.line(wide, outer), called.line(record.bytes(), outer))
+                    self.assertEqual(called.line(wide, outer, straight=kept), called.line(record.bytes(), outer, straight=kept))
+            for wide in ([2, 2, 0, 1], [0], [], [2, 2, 0, 1, 0, 0]):
+                with self.assertRaisesRegex(ValueError, "not one record"):
+                    called.line(library.array("H", wide))
+
     def test_one_graph(self) -> None:
         with calling(library.path()):
             layout = planarbend.layout_of({"a": "bc", "b": "ca", "c": "ab"}, "best")

@@ -63,7 +63,7 @@ class Found(unittest.TestCase):
 
     def test_libraries(self) -> None:
         self.made("lib/planarbend/planarbend")
-        places = [self.root / "lib/planarbend/out/libplanarbend.so.1", self.root / "lib/libplanarbend.so.1"]
+        places = [self.root / "lib/planarbend/out/libplanarbend.so.2", self.root / "lib/libplanarbend.so.2"]
         none = self.asked()[1]
         for place in reversed(places):
             place.parent.mkdir(exist_ok=True)
@@ -71,7 +71,7 @@ class Found(unittest.TestCase):
             self.assertEqual(self.asked()[1], str(place))
         self.assertEqual(self.asked(PLANARBEND_LIBRARY="")[1], "None")
         self.assertEqual(self.asked(PLANARBEND_LIBRARY="/some/library.so")[1], "/some/library.so")
-        self.assertIn(none, ("None", "libplanarbend.so.1"))
+        self.assertIn(none, ("None", "libplanarbend.so.2"))
 
 
 if __name__ == "__main__":

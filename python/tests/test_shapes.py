@@ -23,7 +23,7 @@ from planarbend.drawing.shape import Shape, is_clockwise_rectangle, shape_of, wi
 from planarbend.graph import Edge, Graph, Kind, Vertex
 from planarbend.layout.engine import GridPoint, default_engine
 
-NOTHING: Any = None
+NOTHING: Any = SimpleNamespace(most_vertices=255)
 # Two vertices of degree 6 with all of their neighbours in common, of which two pairs are joined: degrees 2, 3 and 6.
 EDGES = [(hub, leaf) for leaf in range(2, 8) for hub in (0, 1)] + [(2, 3), (4, 5)]
 

@@ -18,7 +18,6 @@ from planarbend.drawing.planarization import Planarization
 from planarbend.drawing.plans import Options, Plan
 from planarbend.drawing.shape import Shape, shape_of
 from planarbend.layout.engine import Engine, NotKept
-from planarbend.layout.planar_code import MOST_VERTICES
 
 NUMBERINGS = 7  # further numberings of each plan, for each unit of effort
 MOST_FACES = 24  # outer faces of a plan that are tried
@@ -52,20 +51,21 @@ class Search:
     def __init__(self, planar: Planarization, engine: Engine, options: Options) -> None:
         """Return a search before its first shape."""
         self.planar, self.engine, self.options, self.random = planar, engine, options, random.Random(options.seed)
+        self.most = engine.most_vertices
         self.degree = [len(darts) for darts in planar.rotation[:planar.vertex_count]]
         self.large = [vertex for vertex, count in enumerate(self.degree) if count > MOST_CONNECTIONS]
         self.first = self.first_plan(False)
 
     def fits(self, plan: Plan) -> bool:
         """Return whether a plan takes few enough vertices, before parallel edges."""
-        return size_of(self.planar, plan) - self.degree.count(2) <= MOST_VERTICES
+        return size_of(self.planar, plan) - self.degree.count(2) <= self.most
 
     def expanded(self, plan: Plan) -> Expansion | None:
         """Return the expansion of a plan, or None if it takes too many vertices."""
         if not self.fits(plan):
             return None
-        expansion = Expansion(self.planar, plan)
-        return expansion if len(Contraction(expansion).nodes) <= MOST_VERTICES else None
+        expansion = Expansion(self.planar, plan, self.most)
+        return expansion if len(Contraction(expansion).nodes) <= self.most else None
 
     def first_plan(self, compact: bool) -> Plan:
         """Return the plan with cages for all vertices above degree 4; spines if compact, or for the largest until all fits."""
@@ -185,9 +185,9 @@ class Search:
     def prices(self, planars: Sequence[Planarization], plan: Plan) -> list[tuple[int, ...]]:
         """Return the price of a plan in each of several embeddings, which have other pieces."""
         plan = replace(plan, loose=())
-        forms = [next(self.numberings(Expansion(planar, plan))) for planar in planars]
-        laid = iter(self.laid([form for form in forms if len(form.lists) <= MOST_VERTICES], "best"))
-        found = [next(laid) if len(form.lists) <= MOST_VERTICES else None for form in forms]
+        forms = [next(self.numberings(Expansion(planar, plan, self.most))) for planar in planars]
+        laid = iter(self.laid([form for form in forms if len(form.lists) <= self.most], "best"))
+        found = [next(laid) if len(form.lists) <= self.most else None for form in forms]
         return [(sys.maxsize,) if one is None else one.price() for one in found]
 
     def can_be_cage(self, vertex: int, plan: Plan) -> bool:

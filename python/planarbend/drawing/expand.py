@@ -11,6 +11,7 @@ from collections.abc import Mapping
 from planarbend.drawing.planarization import Planarization
 from planarbend.drawing.plans import Plan
 from planarbend.layout.embedding import Embedding
+from planarbend.layout.planar_code import MOST_VERTICES
 
 MOST_CONNECTIONS = 4  # of a vertex, as planarbend takes it
 LEAST_CAGE = 3  # connections of a vertex that can be a cage
@@ -23,15 +24,16 @@ class Expansion(Embedding):
     box is its vertex, and a piece that is divided begins with its dart. Vertices that become cages have at least `LEAST_CAGE`
     connections, those that become spines at least 5. A loose piece gets a node of degree 2 for each of its bends.
 
+    `most`: how many nodes planarbend takes.
     `homes`: for each vertex of the graph its nodes: one; or those of its cage, clockwise; or those of its spine, in order.
     `sides`: for each cage the darts from node to node, clockwise; for each spine the darts along it.
     `chains`: for each edge of the graph the darts along it, from its tail to its head.
     """
 
-    def __init__(self, planar: Planarization, plan: Plan) -> None:
-        """Return the expansion of a connected graph by a plan."""
+    def __init__(self, planar: Planarization, plan: Plan, most: int = MOST_VERTICES) -> None:
+        """Return the expansion of a connected graph by a plan, for an engine that takes at most as many nodes."""
         super().__init__(list(planar.tail), list(planar.rotation))
-        self.planar, self.plan, self.spines = planar, plan, dict(plan.spines)
+        self.planar, self.plan, self.spines, self.most = planar, plan, dict(plan.spines), most
         self.homes = [[vertex] for vertex in range(planar.vertex_count)]
         self.sides: dict[int, list[int]] = {}
         for vertex in range(planar.vertex_count):

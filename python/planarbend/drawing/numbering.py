@@ -1,6 +1,6 @@
 """An expansion as it is passed to planarbend: with its nodes in some order, and one of its faces as the outer face.
 
-planarbend takes at most 255 nodes. If an expansion has more, vertices of degree 2 are left out; each is later put back in the
+planarbend takes at most 1,200 nodes, and the program alone 255. If an expansion has more, vertices of degree 2 are left out; each is later put back in the
 middle of the line that replaces it.
 """
 from __future__ import annotations
@@ -11,7 +11,7 @@ from dataclasses import dataclass
 from planarbend.drawing.expand import Expansion
 from planarbend.layout.embedding import Embedding
 from planarbend.layout.engine import Answer, Conditions, GridPoint
-from planarbend.layout.planar_code import MOST_VERTICES, Lists
+from planarbend.layout.planar_code import Lists
 
 LEAST_CORNERS = 4  # nodes of a cage, of which a smaller one, or one that is no larger, has its corners between nodes
 Paths = dict[int, list[GridPoint]]  # of darts: the points along each, in one of its two directions
@@ -28,7 +28,7 @@ class Contraction(Embedding):
         super().__init__(expansion.tail, expansion.rotation)
         self.expansion = expansion
         self.runs: dict[int, list[int]] = {}
-        excess = len(self.rotation) + room - MOST_VERTICES
+        excess = len(self.rotation) + room - expansion.most
         if excess > 0:
             self.tail, self.rotation = list(self.tail), list(self.rotation)
             self._leave_out([nodes[0] for nodes in expansion.homes if nodes[0] not in kept], excess)
@@ -173,7 +173,7 @@ def outer_forms(expansion: Expansion, outer: Sequence[int] = ()) -> Iterator[For
     """Yield forms with one face after another as the outer face, longest first; never the inner face of a cage. Only faces
     with the vertices of `outer` on them."""
     graph = Contraction(expansion)
-    if len(graph.nodes) > MOST_VERTICES:
+    if len(graph.nodes) > expansion.most:
         return
     home = {node: vertex for vertex, nodes in enumerate(expansion.homes) for node in nodes}
     cage_of = {node: vertex for vertex in expansion.plan.cages for node in expansion.homes[vertex]}
@@ -206,7 +206,7 @@ def form_with_outer(graph: Contraction, walk: list[int], most: int) -> Form | No
     length = (most - len(walk)) // 2 + 1
     graph = Contraction(expansion, 1 + length, (tail, head))
     dart = next((dart for dart in graph.rotation[tail] if graph.tail[dart ^ 1] == head), None)
-    if dart is None or len(graph.nodes) + 1 + length > MOST_VERTICES:
+    if dart is None or len(graph.nodes) + 1 + length > expansion.most:
         return None
     if graph.runs and tail_needed(graph, dart) > length:
         return None

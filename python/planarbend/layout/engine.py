@@ -7,7 +7,7 @@ from collections.abc import Sequence
 from dataclasses import dataclass
 from typing import Any, Protocol
 
-from planarbend.layout.planar_code import HEADER, Lists, record_of
+from planarbend.layout.planar_code import HEADER, MOST_VERTICES, Lists, record_of
 from planarbend.programs import PlanarbendError, RunFailed, program
 
 GridPoint = tuple[int, int]
@@ -82,13 +82,14 @@ class NotKept(PlanarbendError):
 class Engine(Protocol):
     """What lays out embedded graphs with the fewest bends: the library, the program, or a stand-in.
 
-    Neighbour lists have vertices numbered from 1 and neighbours in clockwise order. A graph has at most 255 vertices of degree
-    at most 4; it is connected and has an edge, but no loops or parallel edges. `outer` is "first", for the outer face with the
+    Neighbour lists have vertices numbered from 1 and neighbours in clockwise order. A graph has at most `most_vertices` vertices
+    (the library 1,200, the program 255) of degree at most 4; it is connected and has an edge, but no loops or parallel edges. `outer` is "first", for the outer face with the
     longest boundary (among several, the one with the lowest number), or "best", for the one that minimises bends. `keeps` says
     whether conditions can be kept.
     """
 
     keeps: bool
+    most_vertices: int
 
     def lay(self, graphs: Sequence[Lists], outer: str) -> list[Answer]:
         """Return the layout of each graph, or raise a `PlanarbendError` if one has none, or the engine fails."""
@@ -104,6 +105,7 @@ class ProcessEngine:
     """The program, which runs once for each call of `lay`. It keeps no conditions."""
 
     keeps = False
+    most_vertices = MOST_VERTICES
 
     def __init__(self) -> None:
         """Return the program's engine, or raise `NoProgram`."""

@@ -25,7 +25,7 @@ from planarbend.layout import library
 from planarbend.layout.embedding import Embedding
 from planarbend.layout.engine import Answer, Refusal, Representation, points_of
 from planarbend.layout.faults import fault_of
-from planarbend.layout.planar_code import HEADER, MOST_NEIGHBOURS, MOST_RECORDS, MOST_VERTICES, Lists, lists_of, record_of
+from planarbend.layout.planar_code import HEADER, MOST_NEIGHBOURS, MOST_RECORDS, MOST_VERTICES, MOST_WIDE, Lists, lists_of, record_of
 from planarbend.programs import NoProgram, PlanarbendError, RunFailed, program
 from planarbend.layout.reports import NoLine, json_line
 
@@ -83,7 +83,8 @@ class Record:
         Raises
         ------
         ValueError
-            The graph has 0 or over 255 vertices, a vertex has over 254 neighbours, or a neighbour is not a vertex.
+            The graph has 0 or over 1,200 vertices, one of at most 255 has a vertex with over 254 neighbours, or a
+            neighbour is not a vertex.
         TypeError
             The argument is not an embedded graph.
         """
@@ -97,15 +98,15 @@ class Record:
             raise TypeError(f"a graph is a mapping from each vertex to its neighbours in clockwise order, not {graph!r:.60}")
         names = tuple(graph)
         number = {name: place for place, name in enumerate(names, 1)}
-        if not 1 <= len(names) <= MOST_VERTICES:
-            raise ValueError(f"a graph of {len(names)} vertices; planar_code has 1 to {MOST_VERTICES}")
+        if not 1 <= len(names) <= MOST_WIDE:
+            raise ValueError(f"a graph of {len(names)} vertices; planarbend lays out 1 to {MOST_WIDE}")
         lists = []
         for name, neighbours in graph.items():
             strange = [other for other in neighbours if other not in number]
             if strange:
                 raise ValueError(f"{name!r} has the neighbour {strange[0]!r}, which is not a vertex")
             lists.append([number[other] for other in neighbours])
-            if len(lists[-1]) > MOST_NEIGHBOURS:
+            if len(lists[-1]) > MOST_NEIGHBOURS and len(names) <= MOST_VERTICES:
                 raise ValueError(f"{name!r} has {len(lists[-1])} neighbours; planar_code has at most {MOST_NEIGHBOURS}")
         return Record(names, lists)
 
@@ -116,7 +117,10 @@ class Record:
         return Record(tuple(range(1, len(lists) + 1)), lists)
 
     def bytes(self) -> bytes:
-        """Return the record's bytes in planar_code."""
+        """Return the record's bytes in planar_code; raise `ValueError` if it has over 255 vertices, which only the library
+        takes."""
+        if len(self.lists) > MOST_VERTICES:
+            raise ValueError(f"a graph of {len(self.lists)} vertices; planar_code has 1 to {MOST_VERTICES}")
         return record_of(self.lists)
 
 
@@ -342,7 +346,7 @@ class LibraryLayouts(Layouts):
         """Yield the answers for all records, each with its record."""
         drawing, = words
         for record in self.records:
-            yield record, self.library.laid(record.bytes(), outer, drawing)
+            yield record, self.library.laid(library.any_record_of(record.lists), outer, drawing)
 
     def close(self) -> None:
         """Stop, and free the library's memory; no layouts follow."""

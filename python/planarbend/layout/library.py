@@ -10,18 +10,19 @@ from __future__ import annotations
 import ctypes
 import itertools
 import os
+from array import array
 from collections.abc import Iterable, Iterator, Sequence
 from typing import Any
 
 from planarbend.layout.engine import Answer, Conditions, Cut, GridPoint, NotKept, Refusal, Representation
-from planarbend.layout.planar_code import Lists, record_of
+from planarbend.layout.planar_code import MOST_VERTICES, MOST_WIDE, Lists, record_of, wide_record_of
 from planarbend.programs import ROOT, NoProgram, PlanarbendError
 
-MOST_VERTICES, MOST_EDGES, MOST_FACES, MOST_BENDS = 255, 510, 257, 1534
+MOST_EDGES, MOST_FACES, MOST_BENDS = 2400, 1202, 7204  # of a record with entries of 16 bits
 OUTER = {"first": 0, "best": 1}
 DRAWING = {"none": 0, "quick": 1, "short": 2}
-OK, FIRST_RULE, LAST_RULE, NOT_A_RECORD, MEMORY, NO_SHAPE, WIDE = 0, 1, 8, 9, 10, 13, 16
-NAME = "libplanarbend.so.1"
+OK, FIRST_RULE, LAST_RULE, NOT_A_RECORD, MEMORY, NO_SHAPE, WIDE, LARGE = 0, 1, 8, 9, 10, 13, 16, 17
+NAME = "libplanarbend.so.2"
 PLACES = [os.path.join(ROOT, "out", NAME), os.path.join(os.path.dirname(ROOT), NAME)]  # built, and installed
 
 
@@ -32,14 +33,14 @@ class Counts(ctypes.Structure):
 
 
 class Buffer(ctypes.Structure):
-    """`planarbend_buffer` of planarbend.h; a point is two numbers, and so are the turns of a dart."""
+    """Room for all lists of any graph without conditions; a point is two numbers, and so are the turns of a dart."""
 
     _fields_ = [
         ("turns", ctypes.c_uint32 * (4 * MOST_EDGES)),
-        ("vertex_prices", ctypes.c_int32 * MOST_VERTICES),
+        ("vertex_prices", ctypes.c_int32 * MOST_WIDE),
         ("face_prices", ctypes.c_int32 * MOST_FACES),
         ("corner_starts", ctypes.c_uint32 * (MOST_EDGES + 1)),
-        ("points", ctypes.c_uint16 * (2 * MOST_VERTICES)),
+        ("points", ctypes.c_uint16 * (2 * MOST_WIDE)),
         ("corners", ctypes.c_uint16 * (2 * MOST_BENDS)),
         ("angles", ctypes.c_uint8 * (2 * MOST_EDGES)),
     ]
@@ -51,18 +52,35 @@ class Room(ctypes.Structure):
     _fields_ = [field for name in ("angles", "turns", "vertex_prices", "face_prices", "points", "corner_starts", "corners")
                 for field in ((name, ctypes.c_void_p), (f"{name}_room", ctypes.c_size_t))]
 
+    @staticmethod
+    def of(buffer: Buffer) -> Room:
+        """Return lists that refer to the buffer."""
+        room = Room()
+        for name, kind in Buffer._fields_:
+            numbers = 2 if name in ("turns", "points", "corners") else 1  # of an item
+            setattr(room, name, ctypes.addressof(buffer) + getattr(Buffer, name).offset)
+            setattr(room, f"{name}_room", ctypes.sizeof(kind) // ctypes.sizeof(kind._type_) // numbers)
+        return room
+
 
 class Kept(ctypes.Structure):
-    """`planarbend_conditions` of planarbend.h; a dart is two bytes."""
+    """`planarbend_conditions` of planarbend.h; a dart is two numbers of 16 bits."""
 
-    _fields_ = [("straight", ctypes.c_char_p), ("straight_count", ctypes.c_size_t),
-                ("inner", ctypes.c_char_p), ("inner_count", ctypes.c_size_t)]
+    _fields_ = [("straight", ctypes.c_void_p), ("straight_count", ctypes.c_size_t),
+                ("inner", ctypes.c_void_p), ("inner_count", ctypes.c_size_t)]
+
+
+class Wide(ctypes.Structure):
+    """`planarbend_wide_request` of planarbend.h."""
+
+    _fields_ = [("size", ctypes.c_size_t), ("record", ctypes.c_void_p), ("entries", ctypes.c_size_t), ("outer", ctypes.c_int),
+                ("drawing", ctypes.c_int), ("conditions", ctypes.c_void_p)]
 
 
 class Marks(ctypes.Structure):
     """`planarbend_cut` of planarbend.h."""
 
-    _fields_ = [("vertices", ctypes.c_uint8 * MOST_VERTICES), ("faces", ctypes.c_uint8 * MOST_FACES),
+    _fields_ = [("vertices", ctypes.c_uint8 * MOST_WIDE), ("faces", ctypes.c_uint8 * MOST_FACES),
                 ("outer_face", ctypes.c_uint32)]
 
     def cut(self) -> Cut:
@@ -72,6 +90,7 @@ class Marks(ctypes.Structure):
 
 
 Darts = Iterable[tuple[int, int]]
+Record = bytes | array  # entries of 8 or of 16 bits
 
 
 def path() -> str | None:
@@ -115,7 +134,6 @@ class Library:
             raise NoProgram(f"{name}: {error}") from None
         self._library.planarbend_version.restype = ctypes.c_char_p
         self._library.planarbend_word.restype = ctypes.c_char_p
-        self._library.planarbend_lists_of.restype = Room
         self._library.planarbend_free.argtypes = [ctypes.c_void_p]
         self._layout = self._library.planarbend_layout
         self._layout.argtypes = [ctypes.c_void_p, ctypes.c_char_p, ctypes.c_size_t, ctypes.c_int, ctypes.c_int,
@@ -124,8 +142,12 @@ class Library:
         self.keeps = self._keeping is not None  # an older library has no such call
         if self._keeping is not None:
             self._keeping.argtypes = [*self._layout.argtypes[:5], ctypes.c_void_p, *self._layout.argtypes[5:], ctypes.c_void_p]
+        self._wide = getattr(self._library, "planarbend_layout_wide", None)
+        self.most_vertices = MOST_VERTICES if self._wide is None else MOST_WIDE
+        if self._wide is not None:
+            self._wide.argtypes = [ctypes.c_void_p] * 5
         self._counts, self._buffer, self._marks = Counts(), Buffer(), Marks()
-        self._lists = self._library.planarbend_lists_of(ctypes.byref(self._buffer))
+        self._lists = Room.of(self._buffer)
         self._addresses = ctypes.addressof(self._counts), ctypes.addressof(self._lists)
         if self._library.planarbend_new(ctypes.byref(self._object)):
             raise MemoryError("planarbend_new")
@@ -174,28 +196,41 @@ class Library:
         """Return if a result is a broken rule; otherwise raise its error."""
         if result == NOT_A_RECORD:
             raise ValueError("the bytes are not one record of planar_code")
+        if result == LARGE:
+            raise ValueError(f"a graph of more than {MOST_WIDE} vertices")
         if result == MEMORY:
             raise MemoryError("planarbend_layout")
 
-    def _called(self, record: bytes, outer: str, drawing: str, straight: Darts, inner: Darts) -> int:
+    def _called(self, record: Record, outer: str, drawing: str, straight: Darts, inner: Darts) -> int:
         """Return the result of a call, under the conditions, if any."""
-        kept = [b"".join(map(bytes, darts)) for darts in (straight, inner)]
+        kept = [array("H", itertools.chain.from_iterable(darts)) for darts in (straight, inner)]
+        conditions = Kept(*itertools.chain.from_iterable((ends.buffer_info()[0], len(ends) // 2) for ends in kept))
+        at = ctypes.addressof(conditions) if any(kept) else None
+        if isinstance(record, array):
+            return self._called_wide(record, OUTER[outer], DRAWING[drawing], at)
         given = self._object, record, len(record), OUTER[outer], DRAWING[drawing]
-        if not any(kept):
+        if at is None:
             return int(self._layout(*given, *self._addresses))
         if self._keeping is None:
             raise PlanarbendError("this libplanarbend keeps no conditions: it is older than the package")
-        conditions = Kept(kept[0], len(kept[0]) // 2, kept[1], len(kept[1]) // 2)
-        return int(self._keeping(*given, ctypes.addressof(conditions), *self._addresses, ctypes.addressof(self._marks)))
+        return int(self._keeping(*given, at, *self._addresses, ctypes.addressof(self._marks)))
 
-    def line(self, record: bytes, outer: str = "first", drawing: str = "short", straight: Darts = (),
+    def _called_wide(self, record: array[int], outer: int, drawing: int, conditions: int | None) -> int:
+        """Return the result of a call with a record of 16-bit entries, under the conditions at this address, if any."""
+        if self._wide is None:
+            raise PlanarbendError(f"this libplanarbend takes at most {MOST_VERTICES} vertices: it is older than the package")
+        at, entries = record.buffer_info()
+        request = Wide(ctypes.sizeof(Wide), at, entries, outer, drawing, conditions)
+        return int(self._wide(self._object, ctypes.addressof(request), *self._addresses, ctypes.addressof(self._marks)))
+
+    def line(self, record: Record, outer: str = "first", drawing: str = "short", straight: Darts = (),
              inner: Darts = ()) -> dict[str, Any]:
         """Return the line of `planarbend layout --json` for a record, without "file" and "graph".
 
         Parameters
         ----------
-        record : bytes
-            One record of planar_code.
+        record : bytes, or array of 16-bit numbers
+            One record of planar_code; with entries of 16 bits, of at most 1,200 vertices.
         outer : {"first", "best"}
             The outer face.
         drawing : {"none", "quick", "short"}
@@ -220,12 +255,12 @@ class Library:
         line = json_of(found, (counts.vertices, counts.edges, counts.faces))
         return line if drawing != "none" else line | {"drawn": "no", "points": None}
 
-    def laid(self, record: bytes, outer: str, drawing: str) -> Answer | Refusal:
+    def laid(self, record: Record, outer: str, drawing: str) -> Answer | Refusal:
         """Return the layout of a record with its representation, or why there is none, or raise `ValueError` if the bytes are
         not exactly one record."""
         return self._found(self._called(record, outer, drawing, (), ()))
 
-    def answer(self, record: bytes, outer: str, straight: Darts = (), inner: Darts = ()) -> Answer:
+    def answer(self, record: Record, outer: str, straight: Darts = (), inner: Darts = ()) -> Answer:
         """Return the bends, points and corners of a record, for `planarbend.draw`; raise `NotKept` if the conditions cannot be
         kept, and `PlanarbendError` if the record is refused, memory ran out, or the library is too old for conditions."""
         result = self._called(record, outer, "short", straight, inner)
@@ -275,18 +310,23 @@ def json_of(answer: Answer, sizes: tuple[int, int, int]) -> dict[str, Any]:
             "prices": {"faces": found.face_prices, "vertices": found.vertex_prices}, "status": "ok", "turns": found.turns}
 
 
+def any_record_of(lists: Lists) -> Record:
+    """Return the record with these neighbour lists, in bytes if it has at most 255 vertices."""
+    return record_of(lists) if len(lists) <= MOST_VERTICES else wide_record_of(lists)
+
+
 class LibraryEngine:
     """The library, which is called once for each graph."""
 
     def __init__(self, library: Library | None = None) -> None:
         """Return the engine of a library, by default that of `path`."""
         self.library = library or Library()
-        self.keeps = self.library.keeps
+        self.keeps, self.most_vertices = self.library.keeps, self.library.most_vertices
 
     def lay_keeping(self, lists: Lists, outer: str, conditions: Conditions) -> Answer:
         """Return a layout that keeps conditions, as `Engine.lay_keeping`."""
-        return self.library.answer(record_of(lists), outer, conditions.straight, conditions.inner)
+        return self.library.answer(any_record_of(lists), outer, conditions.straight, conditions.inner)
 
     def lay(self, graphs: Sequence[Lists], outer: str) -> list[Answer]:
         """Return the layout of each graph, as `Engine.lay`."""
-        return [self.library.answer(record_of(lists), outer) for lists in graphs]
+        return [self.library.answer(any_record_of(lists), outer) for lists in graphs]

@@ -3,12 +3,15 @@ only Python's standard library."""
 from __future__ import annotations
 
 import io
+import itertools
+from array import array
 from collections.abc import Iterable, Iterator
 from typing import BinaryIO
 
 HEADER = b">>planar_code<<"
 MOST_VERTICES = 255  # of one record
 MOST_NEIGHBOURS = 254  # of one neighbour list
+MOST_WIDE = 1200  # vertices of a record with entries of 16 bits, which the library takes
 MOST_RECORD = 1 + MOST_VERTICES * (MOST_NEIGHBOURS + 1)  # bytes of one record
 MOST_RECORDS = 1_000_000  # of one file, as planarbend reads it
 PIECE = 1 << 16  # bytes read at a time
@@ -94,3 +97,9 @@ def record_of(lists: Iterable[Iterable[int]]) -> bytes:
     """Return the record with these neighbour lists."""
     ended = [bytes(neighbours) + b"\0" for neighbours in lists]
     return bytes([len(ended)]) + b"".join(ended)
+
+
+def wide_record_of(lists: Iterable[Iterable[int]]) -> array[int]:
+    """Return the record with these neighbour lists in entries of 16 bits, which the library takes for large graphs."""
+    ended = [[*neighbours, 0] for neighbours in lists]
+    return array("H", [len(ended), *itertools.chain.from_iterable(ended)])
