@@ -122,7 +122,7 @@ impl Graph {
         let entries = &mut room[..size_of(rec)];
         let count = write_lists(rec, entries, &mut starts);
         let lists = Lists::new(entries, &starts, count);
-        Graph::read_lists(alloc, scratch, &lists)
+        Graph::read_lists(alloc, scratch, lists)
     }
 
     /// The graph of a wide record. The time is linear in its entries if no list has more than four or there are at most
@@ -180,24 +180,24 @@ impl Graph {
         let entries = &rec.entries()[1..];
         find_starts(entries, &mut starts);
         let lists = Lists::new(entries, &starts, rec.order());
-        Graph::read_lists(alloc, scratch, &lists)
+        Graph::read_lists(alloc, scratch, lists)
     }
 
     /// The graph of lists.
     fn read_lists(
         alloc: Global,
         scratch: &mut Scratch,
-        lists: &Lists<'_>,
+        lists: Lists<'_>,
     ) -> Result<Graph, ReadFault>
-        requires { length lists.now ≤ MAX_VERTICES }
-        ensures lists { IfOk result (λ graph. graph ≡ lists.now) }
-        ensures rules { OnOk result (KeepsBefore lists.now 8) }
-        ensures fault { IfErr result (IsReadFault lists.now) }
+        requires { length lists ≤ MAX_VERTICES }
+        ensures lists { IfOk result (λ graph. graph ≡ lists) }
+        ensures rules { OnOk result (KeepsBefore lists 8) }
+        ensures fault { IfErr result (IsReadFault lists) }
     {
-        if let Some(rule) = first_broken(lists) {
+        if let Some(rule) = first_broken(&lists) {
             return Err(ReadFault::Rule(rule));
         }
-        match Graph::of(alloc, scratch, lists) {
+        match Graph::of(alloc, scratch, &lists) {
             Ok(graph) => Ok(graph),
             Err(_) => Err(ReadFault::Memory),
         }
