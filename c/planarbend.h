@@ -2,7 +2,7 @@
  * planarbend.h: lays out embedded planar graphs with horizontal and vertical edges and the fewest bends.
  *
  * A call takes one record of planar_code: one byte n, then for each vertex its neighbours in clockwise order and a
- * byte 0, without a header. For the record's embedding and the chosen outer face it computes an orthogonal
+ * byte 0, without a header; or the same in entries of 16 bits (planarbend_layout_wide). For the record's embedding and the chosen outer face it computes an orthogonal
  * representation with the fewest bends, prices that prove them fewest, and points that draw it without crossings.
  * planarbend's docs/FORMAT.md and docs/JSON.md define darts, edges, faces, angles, turns and prices; the names here
  * are those of the JSON lines.
@@ -57,7 +57,7 @@ enum {
     PLANARBEND_DISCONNECTED = 7, /* some vertex cannot be reached from vertex 1 */
     PLANARBEND_GENUS = 8,        /* the lists embed the graph in a surface other than the sphere */
     /* The bytes are not exactly one record: no bytes, a part of a record, more than a record, or a list of over 254
-       items. */
+       items. Of entries of 16 bits a list may have any length; over 65,535 of them are no record. */
     PLANARBEND_NOT_A_RECORD = 9,
     /* Memory ran out. This says nothing about the record. */
     PLANARBEND_MEMORY = 10,
@@ -160,7 +160,7 @@ typedef struct planarbend_lists {
     size_t corners_room;
 } planarbend_lists;
 
-/* Room for all lists of any graph without conditions: 20,428 bytes. */
+/* Room for all lists of any graph whose record is bytes, without conditions: 20,428 bytes. */
 typedef struct planarbend_buffer {
     planarbend_turns turns[PLANARBEND_MAX_DARTS];
     int32_t vertex_prices[PLANARBEND_MAX_VERTICES];
@@ -195,8 +195,9 @@ typedef struct planarbend_cut {
 } planarbend_cut;
 
 /*
- * An object holds memory for reuse by later calls, in proportion to the largest graph so far and at most 5 MB. A call with it allocates nothing if an earlier call
- * with it, with the same `outer` and `drawing`, was for a graph at least as large in every respect.
+ * An object holds memory for reuse by later calls, in proportion to the largest record so far and at most 5 MB. A call
+ * with it allocates nothing if an earlier call with it, with the same `outer` and `drawing`, was for a graph at least as
+ * large in every respect, whose record had entries of as many bits.
  */
 typedef struct planarbend planarbend;
 

@@ -123,7 +123,8 @@ static void look_at_source(bool is_wide) {
 }
 
 static void look_at_passed(planarbend *object, int way, const planarbend_lists *lists, planarbend_cut *cut) {
-    const planarbend_conditions asked[] = {{NULL, 0, NULL, 0}, {DARTS, 3, NULL, 0}, {NULL, 0, DARTS, 600}, {DARTS, 3000, DARTS + 1, 2999}};
+    const planarbend_conditions asked[] = {
+        {NULL, 0, NULL, 0}, {DARTS, 3, NULL, 0}, {NULL, 0, DARTS, 600}, {DARTS, 3000, DARTS + 1, 2999}};
     for (int outer = 0; outer < 4; outer++)
         for (int drawing = 0; drawing < 4; drawing++)
             for (int result = 0; result <= 2 * PLANARBEND_LARGE + 1; result++) {

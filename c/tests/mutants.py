@@ -24,7 +24,7 @@ sys.dont_write_bytecode = True
 ROOT = Path(__file__).resolve().parents[2]
 COPIED = ["c", "checks/start", "python/planarbend", "crates/corpus/data", "examples/c"]
 TESTS = [["crossing"], ["edges"], ["crossing_addresses", "names", "header_in_cpp", "layouts"],
-         ["sizes", "threads", "valgrind", "examples", "package"]]  # tried in this order, until one fails
+         ["sizes", "wide", "threads", "valgrind", "examples", "package"]]  # tried in this order, until one fails
 QUICKLY = {**os.environ, "CFLAGS": "-O0"}  # tests are compiled more often than run
 
 # A line for each: the old text, which occurs once, " -> ", and the new text. "H " before that: the header. " ## " and a

@@ -59,8 +59,9 @@ def draw(graph: Graph, options: Options = Options(), engine: Engine | None = Non
     Raises
     ------
     DrawError
-        A component would need more vertices than the engine takes (the library 1,200, the program 255); vertices of `outer` in one component lie on no common face; or the edges
-        of `straight` cannot be kept straight (there is no library, an edge is a loop, or no such drawing was found).
+        A component would need more vertices than the engine takes (the library 1,200, the program 255); vertices of `outer` in
+        one component lie on no common face; or the edges of `straight` cannot be kept straight (there is no library, an edge is
+        a loop, or no such drawing was found).
     PlanarbendError
         The program is missing or fails.
     """

@@ -155,8 +155,7 @@ class Library(unittest.TestCase):
                 self.assertEqual(list(layouts), wanted, (name, words))
 
     def test_more_than_255_vertices(self) -> None:
-        """Rings of up to 1,200 vertices, each with a leaf inside at every third one: a bend for each vertex of the ring that
-        cannot turn outward, beside the four that turn."""
+        """Rings of up to 1,200 vertices, with a leaf at every third vertex of the ring: they need no bend."""
         for sides in (189, 300, 900):
             graph = {at: [(at + 1) % sides, (at - 1) % sides, *([sides + at // 3] if at % 3 == 0 else [])] for at in range(sides)}
             graph |= {sides + at // 3: [at] for at in range(0, sides, 3)}

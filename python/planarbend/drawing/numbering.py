@@ -1,7 +1,7 @@
 """An expansion as it is passed to planarbend: with its nodes in some order, and one of its faces as the outer face.
 
-planarbend takes at most 1,200 nodes, and the program alone 255. If an expansion has more, vertices of degree 2 are left out; each is later put back in the
-middle of the line that replaces it.
+planarbend takes at most 1,200 nodes, and the program alone 255. If an expansion has more, vertices of degree 2 are left out;
+each is later put back in the middle of the line that replaces it.
 """
 from __future__ import annotations
 

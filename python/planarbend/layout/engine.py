@@ -82,10 +82,10 @@ class NotKept(PlanarbendError):
 class Engine(Protocol):
     """What lays out embedded graphs with the fewest bends: the library, the program, or a stand-in.
 
-    Neighbour lists have vertices numbered from 1 and neighbours in clockwise order. A graph has at most `most_vertices` vertices
-    (the library 1,200, the program 255) of degree at most 4; it is connected and has an edge, but no loops or parallel edges. `outer` is "first", for the outer face with the
-    longest boundary (among several, the one with the lowest number), or "best", for the one that minimises bends. `keeps` says
-    whether conditions can be kept.
+    Neighbour lists have vertices numbered from 1 and neighbours in clockwise order. A graph has at most `most_vertices`
+    vertices (the library takes 1,200, the program 255) of degree at most 4; it is connected and has an edge, but no loops or parallel
+    edges. `outer` is "first", for the outer face with the longest boundary (among several, the one with the lowest number), or
+    "best", for the one that minimises bends. `keeps` says whether conditions can be kept.
     """
 
     keeps: bool

@@ -25,7 +25,8 @@ from planarbend.layout import library
 from planarbend.layout.embedding import Embedding
 from planarbend.layout.engine import Answer, Refusal, Representation, points_of
 from planarbend.layout.faults import fault_of
-from planarbend.layout.planar_code import HEADER, MOST_NEIGHBOURS, MOST_RECORDS, MOST_VERTICES, MOST_WIDE, Lists, lists_of, record_of
+from planarbend.layout.planar_code import (
+    HEADER, MOST_NEIGHBOURS, MOST_RECORDS, MOST_VERTICES, MOST_WIDE, Lists, lists_of, record_of)
 from planarbend.programs import NoProgram, PlanarbendError, RunFailed, program
 from planarbend.layout.reports import NoLine, json_line
 
