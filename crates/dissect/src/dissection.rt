@@ -26,8 +26,8 @@ use std::mem;
 ///
 /// # Errors
 ///
-/// `AllocError` if there is no memory for the boxes, or their table needs room for 2^32 darts (over 1,431,000,000 turns in
-/// all); there is no other error.
+/// `AllocError` if there is no memory for the boxes, or their table needs room for 2^32 darts or more (over 1,431,000,000
+/// turns in all); there is no other error.
 pub fn dissect(alloc: Global, plane: &Plane, shape: &Shape) -> Result<Boxes, AllocError>
     requires { IsShape plane.now shape.now }
     ensures { IfOk result (IsBoxed plane.now shape.now) }

@@ -149,6 +149,6 @@ few_five p shape plane least =
     let ends = plane_ends p plane in
     omega (arith, few_inner p shape plane least, plane.euler, plane.outer, ends.tail_from 0 ends.some_darts, ends.tail_to 0 ends.some_darts)
 
-pub few_limit : (p : PlaneModel) (shape : ShapeModel) → IsPlane p → IsLeast p shape → bends p shape ≤ 6 * vertices p + 4
-few_limit p shape plane least =
+pub few_six : (p : PlaneModel) (shape : ShapeModel) → IsPlane p → IsLeast p shape → bends p shape ≤ 6 * vertices p + 4
+few_six p shape plane least =
     omega (arith, few_inner p shape plane least, plane.euler, plane.outer, darts_few p.lists (seven_rules p.lists plane.rules))

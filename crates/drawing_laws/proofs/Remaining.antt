@@ -6,7 +6,7 @@ use Rattle.ortho_rep.specs.declared.points.TheConstants.{MAX_COORDINATE}
 use Rattle.ortho_rep.specs.Shapes.{ShapeModel}
 use Rattle.ortho_rep.specs.Prices.{PricesModel}
 use Rattle.ortho_rep.specs.Representation.{IsLeast}
-use Rattle.drawing_laws.proofs.FewBends.{few_limit}
+use Rattle.drawing_laws.proofs.FewBends.{few_six}
 use Rattle.ortho_rep.specs.Points.{PointsModel}
 use Rattle.drawing_check.specs.Draws.{AreInGrid, IsInGrid}
 use Rattle.dissect.specs.Boxes.{BoxesModel, AreBoxes}
@@ -49,7 +49,7 @@ remaining plane shape b Meet boxed few shown = tt
 pub remaining_of_least : (plane : PlaneModel) (shape : ShapeModel) (b : BoxesModel) (cause : Cause)
     → IsPlane plane → IsLeast plane shape → IsBoxed plane shape b → ShowsCause plane shape b cause → MayShow b cause
 remaining_of_least plane shape b cause is least boxed shown =
-    remaining plane shape b cause boxed (omega (arith, few_limit plane shape is least, boxed.few, is.order)) shown
+    remaining plane shape b cause boxed (omega (arith, few_six plane shape is least, boxed.few, is.order)) shown
 
 pub remaining_in_laid : (choice : Choice) (g : List (List ℕ)) (plane : PlaneModel) (shape : ShapeModel) (prices : PricesModel) (cause : Cause)
     → IsLaid choice g plane shape prices (Err cause) → (boxes : BoxesModel) × IsBoxed plane shape boxes × MayShow boxes cause

@@ -12,5 +12,5 @@ ghost use Rattle.drawing_laws.specs.Bound.{bend_bound, bends, edges};
 pub fn few_bends()
     ensures inner { (p : PlaneModel) (shape : ShapeModel) → IsPlane p → IsLeast p shape → bends p shape ≤ bend_bound p }
     ensures five { (p : PlaneModel) (shape : ShapeModel) → IsPlane p → IsLeast p shape → bends p shape ≤ 5 * edges p }
-    ensures limit { (p : PlaneModel) (shape : ShapeModel) → IsPlane p → IsLeast p shape → bends p shape ≤ 6 * vertices p + 4 }
+    ensures six { (p : PlaneModel) (shape : ShapeModel) → IsPlane p → IsLeast p shape → bends p shape ≤ 6 * vertices p + 4 }
 {}

@@ -4,7 +4,7 @@ use Rattle.std.specs.List.{All, Contains}
 use Rattle.std.proofs.lemmas.List.{get_or-set_same, get_or-set_other, get_or_default, length-set}
 use Rattle.std.proofs.lemmas.Bool.{cases_eq, true≢false}
 use Rattle.common.proofs.Sums.{sum_below-none, sum_below-le, sum_below-lt, sum_below-changed, sum_below-constant}
-use Rattle.embedding.specs.declared.lists.TheConstants.{NUMBERS}
+use Rattle.embedding.specs.declared.lists.TheConstants.{VERTEX_NUMBERS}
 use Rattle.embedding.specs.Lists.{list_of}
 use Rattle.embedding.specs.declared.rules.Rule.TheVariants.{Disconnected}
 use Rattle.embedding.specs.Rules.{Breaks, IsClosed}
@@ -19,7 +19,7 @@ flag_small true = omega arith
 flag_small false = omega arith
 
 -- no flags at first
-pub queue_none : (reached : List Bool) (queue : List ℕ) → length reached ≡ NUMBERS → length queue ≡ NUMBERS → ((v : ℕ) → get_or reached v false ≡ false) → IsQueue reached queue 0
+pub queue_none : (reached : List Bool) (queue : List ℕ) → length reached ≡ VERTEX_NUMBERS → length queue ≡ VERTEX_NUMBERS → ((v : ℕ) → get_or reached v false ≡ false) → IsQueue reached queue 0
 queue_none reached queue flags places blank =
     record {
       flags = flags;
@@ -35,14 +35,14 @@ blank_flags (suc n) zero = refl
 blank_flags (suc n) (suc v) = blank_flags n v
 
 -- where a number is not flagged, there is room
-pub queue_room : (reached : List Bool) (queue : List ℕ) (found v : ℕ) → v < NUMBERS → get_or reached v false ≡ false → IsQueue reached queue found → found < NUMBERS
+pub queue_room : (reached : List Bool) (queue : List ℕ) (found v : ℕ) → v < VERTEX_NUMBERS → get_or reached v false ≡ false → IsQueue reached queue found → found < VERTEX_NUMBERS
 queue_room reached queue found v small new q =
     let inside : v < length reached = omega (arith, q.flags) in
     let less : flag_of reached v < 1 = rw new (omega arith) in
     omega (arith, q.count, q.flags, sum_below-constant (length reached) 1, sum_below-lt (length reached) v (flag_of reached) (λ _. 1) inside (λ i _. flag_small (get_or reached i false)) less)
 
 -- one more flag
-pub queue_more : (reached : List Bool) (queue : List ℕ) (found v : ℕ) → v < NUMBERS → get_or reached v false ≡ false → IsQueue reached queue found → IsQueue (set reached v true) (set queue found v) (found + 1)
+pub queue_more : (reached : List Bool) (queue : List ℕ) (found v : ℕ) → v < VERTEX_NUMBERS → get_or reached v false ≡ false → IsQueue reached queue found → IsQueue (set reached v true) (set queue found v) (found + 1)
 queue_more reached queue found v small new q =
     let room = queue_room reached queue found v small new q in
     let inside : v < length reached = omega (arith, q.flags) in
@@ -218,6 +218,6 @@ reached_keeps g reached r all (s, holds, closed, (u, from, to, missing)) =
     true≢false (sym (r.least s holds closed u (all u from to)) ∙ missing)
 
 -- the queue is never longer than its places
-pub queue_short : (reached : List Bool) (queue : List ℕ) (found : ℕ) → IsQueue reached queue found → found ≤ NUMBERS
+pub queue_short : (reached : List Bool) (queue : List ℕ) (found : ℕ) → IsQueue reached queue found → found ≤ VERTEX_NUMBERS
 queue_short reached queue found q =
     omega (arith, q.count, q.flags, sum_below-constant (length reached) 1, sum_below-le (length reached) (flag_of reached) (λ _. 1) (λ i _. flag_small (get_or reached i false)))

@@ -1,4 +1,4 @@
--- Why a record gives no graph.
+-- Why lists give no graph.
 use Rattle.std.specs.Prelude.{ℕ, ◌<◌, List}
 use Rattle.embedding.specs.declared.faults.ReadFault.{ReadFault}
 use Rattle.embedding.specs.declared.faults.ReadFault.TheVariants.{Rule, Memory}

@@ -1,12 +1,12 @@
-//! Whether a record's lists break each of the first seven rules. No test allocates.
+//! Whether lists break each of the first seven rules. No test allocates.
 
 ghost use Rattle.std.specs.Prelude.{◌≡◌, ℕ, ◌+◌, ◌<◌, ◌≤◌, ◌↔◌, ◌⊎◌, List, [], length, slice_index, IsTrue, MatchOption, All, Any, Contains};
-ghost use Rattle.embedding.specs.declared.lists.TheConstants.{NUMBERS};
+ghost use Rattle.embedding.specs.declared.lists.TheConstants.{VERTEX_NUMBERS};
 ghost use Rattle.embedding.specs.Lists.{list_of};
 ghost use Rattle.embedding.specs.Pairs.{HasPair};
 ghost use Rattle.embedding.specs.Rules.{Breaks, KeepsBefore, FirstBroken, NamesTwice, rule_number};
 
-use crate::lists::{Lists, NUMBERS};
+use crate::lists::{Lists, VERTEX_NUMBERS};
 use crate::pairs::Pairs;
 use crate::reach::breaks_disconnected;
 use crate::rows::is_small_graph;
@@ -28,11 +28,11 @@ fn holds(list: &[u16], vertex: u16) -> bool
 
 /// Whether the list names a neighbour twice. `last` has for each number the last list that named
 /// it, and no list has named one for this vertex yet.
-fn names_twice(list: &[u16], vertex: u16, last: &mut [u16; NUMBERS]) -> bool
-    requires small { All (λ v. v < NUMBERS) list.now }
-    requires unnamed { (v : ℕ) → v < NUMBERS → slice_index last.old v < vertex }
+fn names_twice(list: &[u16], vertex: u16, last: &mut [u16; VERTEX_NUMBERS]) -> bool
+    requires small { All (λ v. v < VERTEX_NUMBERS) list.now }
+    requires unnamed { (v : ℕ) → v < VERTEX_NUMBERS → slice_index last.old v < vertex }
     ensures twice { IsTrue result ↔ NamesTwice list.now }
-    ensures flagged { (v : ℕ) → v < NUMBERS → slice_index last.new v ≤ vertex }
+    ensures flagged { (v : ℕ) → v < VERTEX_NUMBERS → slice_index last.new v ≤ vertex }
 {
     for v in list {
         if last[usize::from(*v)] == vertex {
@@ -92,7 +92,7 @@ fn breaks_multi(lists: &Lists<'_>) -> bool
     requires { ¬ Breaks lists.now Rule.Range }
     ensures { IsTrue result ↔ Breaks lists.now Rule.Multi }
 {
-    let mut last = [0; NUMBERS];
+    let mut last = [0; VERTEX_NUMBERS];
     for place in 0..lists.count() {
         if names_twice(lists.at(place), place + 1, &mut last) {
             return true;

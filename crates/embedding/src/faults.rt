@@ -1,12 +1,12 @@
-//! Why a record gives no graph.
+//! Why lists give no graph.
 
 use crate::rules::Rule;
 use thiserror::Error;
 
-/// The reason why the graph of a record was not read.
+/// The reason why the graph of lists was not read.
 #[derive(Debug, Clone, Copy, PartialEq, Eq, Error)]
 pub enum ReadFault {
-    /// The first rule that the record breaks. `Graph::read` tests the first seven.
+    /// The first rule that the lists break. `Graph::read` tests the first seven.
     #[error("the graph breaks rule {}", .0.word())]
     Rule(Rule),
     /// Memory ran out for the graph.

@@ -14,7 +14,7 @@ use crate::rules::Rule;
 use crate::tables::write_rotation;
 use crate::writing::{
     FEW_ENTRIES, FEW_STARTS, RECORD_ENTRIES, RECORD_STARTS, SOME_ENTRIES, WIDE_STARTS, find_starts,
-    size_of, write_lists,
+    entry_count, write_lists,
 };
 use planar_code::{Record, WideRecord};
 
@@ -64,7 +64,7 @@ fn broken_within<const ENTRIES: usize, const STARTS: usize>(rec: &Record) -> Opt
 {
     let mut room = [0u16; ENTRIES];
     let mut starts = [0u16; STARTS];
-    let entries = &mut room[..size_of(rec)];
+    let entries = &mut room[..entry_count(rec)];
     let count = write_lists(rec, entries, &mut starts);
     let lists = Lists::new(entries, &starts, count);
     broken_by_lists(&lists)
@@ -78,7 +78,7 @@ pub fn broken_rule(rec: &Record) -> Option<Rule>
     ensures { MatchOption result (KeepsBefore (lists_of rec.now) 9)
         (λ rule. FirstBroken (lists_of rec.now) rule) }
 {
-    let size = size_of(rec);
+    let size = entry_count(rec);
     let order = usize::from(rec.order());
     if size <= FEW_ENTRIES && order < FEW_STARTS {
         broken_within::<FEW_ENTRIES, FEW_STARTS>(rec)

@@ -19,7 +19,7 @@ use crate::scratch::Scratch;
 use crate::tables::darts_in;
 use crate::writing::{
     FEW_ENTRIES, FEW_STARTS, RECORD_ENTRIES, RECORD_STARTS, SOME_ENTRIES, WIDE_STARTS, find_starts,
-    size_of, write_lists,
+    entry_count, write_lists,
 };
 use common::MAX_VERTICES;
 use planar_code::{Record, WideRecord};
@@ -90,7 +90,7 @@ impl Graph {
         ensures rules { OnOk result (KeepsBefore (lists_of rec.now) 8) }
         ensures fault { IfErr result (IsReadFault (lists_of rec.now)) }
     {
-        let size = size_of(rec);
+        let size = entry_count(rec);
         let order = usize::from(rec.order());
         if size <= FEW_ENTRIES && order < FEW_STARTS {
             Graph::read_within::<FEW_ENTRIES, FEW_STARTS>(alloc, scratch, rec)
@@ -119,10 +119,10 @@ impl Graph {
     {
         let mut room = [0u16; ENTRIES];
         let mut starts = [0u16; STARTS];
-        let entries = &mut room[..size_of(rec)];
+        let entries = &mut room[..entry_count(rec)];
         let count = write_lists(rec, entries, &mut starts);
         let lists = Lists::new(entries, &starts, count);
-        Graph::read_lists(alloc, scratch, &lists)
+        Graph::read_lists(alloc, scratch, lists)
     }
 
     /// The graph of a wide record. The time is linear in its entries if no list has more than four or there are at most
@@ -180,24 +180,24 @@ impl Graph {
         let entries = &rec.entries()[1..];
         find_starts(entries, &mut starts);
         let lists = Lists::new(entries, &starts, rec.order());
-        Graph::read_lists(alloc, scratch, &lists)
+        Graph::read_lists(alloc, scratch, lists)
     }
 
     /// The graph of lists.
     fn read_lists(
         alloc: Global,
         scratch: &mut Scratch,
-        lists: &Lists<'_>,
+        lists: Lists<'_>,
     ) -> Result<Graph, ReadFault>
-        requires { length lists.now ≤ MAX_VERTICES }
-        ensures lists { IfOk result (λ graph. graph ≡ lists.now) }
-        ensures rules { OnOk result (KeepsBefore lists.now 8) }
-        ensures fault { IfErr result (IsReadFault lists.now) }
+        requires { length lists ≤ MAX_VERTICES }
+        ensures lists { IfOk result (λ graph. graph ≡ lists) }
+        ensures rules { OnOk result (KeepsBefore lists 8) }
+        ensures fault { IfErr result (IsReadFault lists) }
     {
-        if let Some(rule) = first_broken(lists) {
+        if let Some(rule) = first_broken(&lists) {
             return Err(ReadFault::Rule(rule));
         }
-        match Graph::of(alloc, scratch, lists) {
+        match Graph::of(alloc, scratch, &lists) {
             Ok(graph) => Ok(graph),
             Err(_) => Err(ReadFault::Memory),
         }

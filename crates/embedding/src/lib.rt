@@ -19,7 +19,6 @@ mod scratch;
 mod tables;
 mod writing;
 
-pub use common::MAX_VERTICES;
 pub use faults::ReadFault;
 pub use genus::{broken_rule, broken_wide_rule};
 pub use graphs::{Graph, MAX_DARTS, MAX_EDGES};

@@ -1,4 +1,4 @@
-//! The neighbour lists of a record, borrowed from its entries.
+//! Neighbour lists, borrowed from the entries that hold them.
 
 ghost use Rattle.std.specs.Prelude.{◌≡◌, ℕ, ◌<◌, ◌≤◌, List, length, slice_index, slice_index_or, [], Contains};
 ghost use Rattle.common.specs.declared.limits.TheConstants.{MAX_VERTICES};
@@ -12,7 +12,7 @@ use common::MAX_VERTICES;
 use std::marker::Model;
 
 /// How many numbers there are from 0 to the maximum number of vertices.
-pub(crate) const NUMBERS: usize = MAX_VERTICES + 1;
+pub(crate) const VERTEX_NUMBERS: usize = MAX_VERTICES + 1;
 
 /// The lists that entries hold, each ended by a 0, and where each of them begins.
 #[derive(Drop)]

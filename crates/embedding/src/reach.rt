@@ -1,25 +1,25 @@
 //! Breadth-first search (Moore 1959): which vertices are reached from the first one.
 
 ghost use Rattle.std.specs.Prelude.{◌≡◌, ℕ, ◌+◌, ◌<◌, ◌≤◌, ◌↔◌, ◌⊎◌, Bool, List, [], length, slice_index, slice_index_or, IsTrue, All, Contains};
-ghost use Rattle.embedding.specs.declared.lists.TheConstants.{NUMBERS};
+ghost use Rattle.embedding.specs.declared.lists.TheConstants.{VERTEX_NUMBERS};
 ghost use Rattle.embedding.specs.Lists.{list_of};
 ghost use Rattle.embedding.specs.Rules.{Breaks};
 ghost use Rattle.embedding.specs.Reached.{IsQueue, IsReached, Holds};
 
-use crate::lists::{Lists, NUMBERS};
+use crate::lists::{Lists, VERTEX_NUMBERS};
 use crate::rules::Rule;
 
 /// The vertices reached so far, as flags and in the order in which they were reached.
 #[derive(Drop)]
 struct ReachedVertices {
-    reached: [bool; NUMBERS],
-    queue: [u16; NUMBERS],
+    reached: [bool; VERTEX_NUMBERS],
+    queue: [u16; VERTEX_NUMBERS],
     found: usize,
 }
 
 /// Flags a vertex as reached.
 fn reach(vertices: &mut ReachedVertices, vertex: u16)
-    requires small { vertex < NUMBERS }
+    requires small { vertex < VERTEX_NUMBERS }
     requires queue { IsQueue vertices.old.reached vertices.old.queue vertices.old.found }
     ensures queue { IsQueue vertices.new.reached vertices.new.queue vertices.new.found }
     ensures reached { Holds vertices.new.reached vertex }
@@ -39,7 +39,7 @@ fn reach(vertices: &mut ReachedVertices, vertex: u16)
 
 /// Flags each entry of a list as reached.
 fn reach_all(vertices: &mut ReachedVertices, list: &[u16])
-    requires small { All (λ v. v < NUMBERS) list.now }
+    requires small { All (λ v. v < VERTEX_NUMBERS) list.now }
     requires queue { IsQueue vertices.old.reached vertices.old.queue vertices.old.found }
     ensures queue { IsQueue vertices.new.reached vertices.new.queue vertices.new.found }
     ensures reached { All (Holds vertices.new.reached) list.now }
@@ -56,13 +56,13 @@ fn reach_all(vertices: &mut ReachedVertices, list: &[u16])
 }
 
 /// The vertices that are reached from vertex 1 along the lists, each list read once.
-fn reached_from_first(lists: &Lists<'_>) -> [bool; NUMBERS]
+fn reached_from_first(lists: &Lists<'_>) -> [bool; VERTEX_NUMBERS]
     requires { ¬ Breaks lists.now Rule.Range }
     ensures { IsReached lists.now result }
 {
     let mut vertices = ReachedVertices {
-        reached: [false; NUMBERS],
-        queue: [0; NUMBERS],
+        reached: [false; VERTEX_NUMBERS],
+        queue: [0; VERTEX_NUMBERS],
         found: 0,
     };
     reach(&mut vertices, 1);

@@ -28,7 +28,7 @@ pub(crate) const RECORD_STARTS: usize = 256;
 pub(crate) const WIDE_STARTS: usize = MAX_VERTICES + 1;
 
 /// How many entries the lists of a record are written in, with the 0 that ends each.
-pub(crate) fn size_of(rec: &Record) -> usize
+pub(crate) fn entry_count(rec: &Record) -> usize
     ensures size { result + 1 ≡ length rec.now }
     ensures few { result ≤ RECORD_ENTRIES }
 {

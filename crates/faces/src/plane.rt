@@ -9,7 +9,8 @@ ghost use Rattle.faces.specs.Numbering.{Numbering, Numbering-prop};
 ghost use Rattle.faces.specs.Greatest.{IsFirstGreatest};
 
 use crate::scratch::Scratch;
-use embedding::{Graph, MAX_VERTICES};
+use common::MAX_VERTICES;
+use embedding::Graph;
 use std::alloc::Global;
 use std::marker::Model;
 use thiserror::Error;

@@ -45,7 +45,8 @@ impl Incumbent {
 /// Makes the best face the outer face; returns a least shape, with prices that prove it.
 ///
 /// The best face minimises bends, and has the least number among equals. Each face is tried, except those for which the
-/// potentials of an earlier one, or in a large plane the distances from it, prove that they are no better.
+/// potentials of an earlier one, or in a large plane the distances from it, prove that they are no better. Faces are
+/// tried on a walk across edges, so that each move of the outer face is short.
 ///
 /// # Errors
 ///

@@ -4,7 +4,7 @@ ghost use Rattle.std.specs.Prelude.{◌≡◌, ◌≤◌, ◌↔◌, IsTrue, len
 ghost use Rattle.ortho_rep.specs.declared.turn.TheConstants.{MAX_REPEATS};
 ghost use Rattle.ortho_rep.specs.Turns.{lefts, mirrored};
 
-use embedding::MAX_VERTICES;
+use common::MAX_VERTICES;
 
 /// A quarter turn of an edge, as seen when walking along a dart.
 #[derive(Clone, Copy, Debug, PartialEq, Eq)]

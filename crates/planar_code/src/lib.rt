@@ -5,7 +5,8 @@
 //! of plantri by Brinkmann and McKay; the bound on a list is this crate's: no simple graph on 255 vertices has a longer
 //! one.)
 //!
-//! A wide record is one such record with entries of 16 bits, for graphs of up to 1,200 vertices; no stream has any.
+//! A wide record is written likewise in entries of 16 bits, n from 1 to 1,200, and its lists may have any length. No
+//! stream has any.
 #![tactic(auto)]
 
 mod ending;

@@ -1,7 +1,8 @@
 //! Graphs of more than 255 vertices, which come from wide records.
 
 use crate::embedding_rules::RECORDS;
-use embedding::{Graph, MAX_DARTS, MAX_EDGES, MAX_VERTICES, ReadFault, Rule, broken_wide_rule};
+use common::MAX_VERTICES;
+use embedding::{Graph, MAX_DARTS, MAX_EDGES, ReadFault, Rule, broken_wide_rule};
 use faces::{MAX_FACES, Plane, TraceFault};
 use planar_code::WideRecord;
 use std::alloc::{AllocError, Global};

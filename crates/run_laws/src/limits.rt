@@ -7,7 +7,8 @@ ghost use Rattle.faces.specs.Planes.{PlaneModel, IsPlane, darts, vertices};
 ghost use Rattle.networks.specs.declared.network.TheConstants.{MAX_NODES, MAX_ARCS};
 ghost use Rattle.networks.specs.declared.fault.TheConstants.{MAX_SUPPLY};
 
-use embedding::{MAX_DARTS, MAX_EDGES, MAX_VERTICES};
+use common::MAX_VERTICES;
+use embedding::{MAX_DARTS, MAX_EDGES};
 use entries::MAX_FILES;
 use faces::MAX_FACES;
 use ortho_rep::{MAX_COORDINATE, MAX_TURNS};

@@ -19,7 +19,7 @@ use std::boxed::Box;
 
 /// The buffers of `straighten_in`, reused for the next shape. Their contents between two calls do not matter.
 ///
-/// It allocates nothing until a shape has a vertex that may be made straight, and 39 KB from then on.
+/// It allocates nothing until a shape has a vertex that may be made straight, and 38 KB from then on.
 #[derive(Drop)]
 pub struct Scratch {
     workspace: Option<Box<Workspace>>,

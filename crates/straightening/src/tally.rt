@@ -6,7 +6,7 @@ ghost use Rattle.ortho_rep.specs.Representation.{Rep, angles_around, turning_aro
 ghost use Rattle.straightening.specs.Flows.{angle_in, string_in};
 
 use crate::flow::ShapeFlow;
-use embedding::MAX_VERTICES;
+use common::MAX_VERTICES;
 use faces::{MAX_FACES, Plane};
 
 /// A sum for each vertex, numbered from 1.

@@ -1,22 +1,22 @@
 use Rattle.std.proofs.Common.{ℕ, ◌<◌, List, get_or, replicate, false, refl, sym, subst, arith}
 use Rattle.std.specs.List.{All}
-use Rattle.embedding.specs.declared.lists.TheConstants.{NUMBERS}
+use Rattle.embedding.specs.declared.lists.TheConstants.{VERTEX_NUMBERS}
 use Rattle.embedding.proofs.Ranges.{all_in_range}
 use Rattle.embedding.proofs.Reached.{queue_none, queue_short, blank_flags, walking_starts, walking_more, walking_ends}
 use Rattle.embedding.proofs.reach.reached_from_first.Goals as goal
 
 pub reach-requires-clause-queue : goal.reach-requires-clause-queue
 reach-requires-clause-queue c =
-    queue_none _ _ refl refl (blank_flags NUMBERS)
+    queue_none _ _ refl refl (blank_flags VERTEX_NUMBERS)
 
 pub reach_all-requires-clause-small : goal.reach_all-requires-clause-small
 reach_all-requires-clause-small c =
-    subst (λ (l : List ℕ). All (λ v. v < NUMBERS) l) (sym c.of_vertex.ensures.value)
-    (all_in_range c.args.lists.now c.requires NUMBERS (get_or c.loop-done.vertices.queue c.loop-done.done 0) (omega (arith, c.of_vertex.ensures.few)))
+    subst (λ (l : List ℕ). All (λ v. v < VERTEX_NUMBERS) l) (sym c.of_vertex.ensures.value)
+    (all_in_range c.args.lists.now c.requires VERTEX_NUMBERS (get_or c.loop-done.vertices.queue c.loop-done.done 0) (omega (arith, c.of_vertex.ensures.few)))
 
 pub loop-done-init : goal.loop-done-init
 loop-done-init c =
-    walking_starts c.args.lists.now (replicate NUMBERS false) (replicate NUMBERS 0) c.reach.new.vertices.reached c.reach.new.vertices.queue c.reach.new.vertices.found (blank_flags NUMBERS)
+    walking_starts c.args.lists.now (replicate VERTEX_NUMBERS false) (replicate VERTEX_NUMBERS 0) c.reach.new.vertices.reached c.reach.new.vertices.queue c.reach.new.vertices.found (blank_flags VERTEX_NUMBERS)
     (record {
       queue_is = c.reach.ensures.queue;
       here = c.reach.ensures.reached;

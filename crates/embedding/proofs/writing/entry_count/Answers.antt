@@ -1,7 +1,7 @@
 use Rattle.std.proofs.Common.{◌≡◌, ℕ, List, length, get_or, sym, ap, ◌∙◌, arith}
 use Rattle.planar_code.specs.Stream.{lists_of}
 use Rattle.embedding.proofs.WrittenLists.{written_few}
-use Rattle.embedding.proofs.writing.size_of.Goals as goal
+use Rattle.embedding.proofs.writing.entry_count.Goals as goal
 
 pub returns-clause-few : goal.returns-clause-few
 returns-clause-few c =
