@@ -61,7 +61,7 @@ IsOutcomeOf Is Unkept input outer drawing counts lists Wide = Unkept Wide
 -- the number of vertices is above the maximum
 IsOutcomeOf Is Unkept input outer drawing counts lists Large = IsTooLarge input
 
--- without conditions these four do not come
+-- without conditions `NoShape`, `NoEdge`, `NoOuter` and `Wide` do not come
 abbrev pub IsOutcome : Input → ℕ → ℕ → Counts → ListsModel → Outcome → Type 0
 IsOutcome input outer drawing counts lists outcome = IsOutcomeOf IsFound (λ _. ⊥) input outer drawing counts lists outcome
 
