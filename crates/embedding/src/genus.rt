@@ -13,8 +13,8 @@ use crate::numbering::count_faces;
 use crate::rules::Rule;
 use crate::tables::write_rotation;
 use crate::writing::{
-    FEW_ENTRIES, FEW_STARTS, RECORD_ENTRIES, RECORD_STARTS, SOME_ENTRIES, WIDE_STARTS, find_starts,
-    entry_count, write_lists,
+    FEW_ENTRIES, FEW_STARTS, RECORD_ENTRIES, RECORD_STARTS, SOME_ENTRIES, WIDE_STARTS, entry_count,
+    find_starts, write_lists,
 };
 use planar_code::{Record, WideRecord};
 

@@ -18,8 +18,8 @@ use crate::lists::Lists;
 use crate::scratch::Scratch;
 use crate::tables::darts_in;
 use crate::writing::{
-    FEW_ENTRIES, FEW_STARTS, RECORD_ENTRIES, RECORD_STARTS, SOME_ENTRIES, WIDE_STARTS, find_starts,
-    entry_count, write_lists,
+    FEW_ENTRIES, FEW_STARTS, RECORD_ENTRIES, RECORD_STARTS, SOME_ENTRIES, WIDE_STARTS, entry_count,
+    find_starts, write_lists,
 };
 use common::MAX_VERTICES;
 use planar_code::{Record, WideRecord};
