@@ -190,9 +190,9 @@ impl Graph {
         lists: Lists<'_>,
     ) -> Result<Graph, ReadFault>
         requires { length lists ≤ MAX_VERTICES }
-        ensures lists { IfOk result (λ graph. graph ≡ lists) }
-        ensures rules { OnOk result (KeepsBefore lists 8) }
-        ensures fault { IfErr result (IsReadFault lists) }
+        ensures lists { IfOk result (λ graph. graph ≡ lists.entry) }
+        ensures rules { OnOk result (KeepsBefore lists.entry 8) }
+        ensures fault { IfErr result (IsReadFault lists.entry) }
     {
         if let Some(rule) = first_broken(&lists) {
             return Err(ReadFault::Rule(rule));
