@@ -1,4 +1,4 @@
-"""Reads DOT by Graphviz's own parser: `dot -Tcanon` writes out what it read, and `gvpr` lists its nodes and edges."""
+"""Reads DOT by Graphviz's own parser: `nop` writes out what it read, and `gvpr` lists its nodes and edges."""
 from __future__ import annotations
 
 import re
@@ -42,6 +42,11 @@ BEGIN {
   string value(string s) { if (ishtml(s)) return "h" + quoted(s); return quoted(s); }
 }
 """
+SPACE = rb"\s|//[^\n]*|/\*.*?\*/|^#[^\n]*"  # with comments and lines of a preprocessor
+NAME = rb'[\w.\x80-\xff-]|"(?:[^"\\]|\\.)*"|<[^<>]*>|\+'  # a letter of a name, or a piece of it
+HEAD = re.compile(rb"(?:%b)*(?i:(?:strict(?:%b)+)?(?:di)?graph)(?:%b|%b)*\{" % (SPACE, SPACE, SPACE, NAME),
+                  re.S | re.M)  # of a file, to the first brace
+DEFAULT = rb'node [label="\N"]'  # the label of a node of which nothing is said
 VALUE = re.compile(r'(h?)"([^"]*)"')
 COUNTED = re.compile(r'(?:^|\n)([gne]) ((?:[01] )?)((?:h?"[^"]*" ?)+)')
 SYNTAX = re.compile(r"Error: .*?: (syntax error) in line (\d+)(.*)|Error: (.*)")
@@ -59,7 +64,9 @@ def read_dot(data: bytes) -> Graph:
     that is empty. Arrows are by `dir`, `arrowhead` and `arrowtail`. A `Fault` is raised if Graphviz is missing, refuses the
     text (with its line), or finds no graph or several. What else the file says about nodes, edges and the whole is their look.
     """
-    canonical = run([program("dot", PACKAGE), "-Tcanon"], data)
+    head = HEAD.match(data)
+    labelled = data[:head.end()] + DEFAULT + data[head.end():] if head else data
+    canonical = run([program("nop", PACKAGE)], labelled)  # `dot -Tcanon` would lay the graph out
     entries = list(listed(run([program("gvpr", PACKAGE), FUNCTIONS + LISTING], canonical)))
     graphs = [entry for entry in entries if entry.kind == "g"]
     if len(graphs) != 1:
