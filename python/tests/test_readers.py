@@ -110,7 +110,7 @@ class Dot(Case):
         self.assertEqual(labels(of('graph { charset=latin1; a [label="\xe4"] }'.encode("latin-1"))), ["\xe4"])
 
     def test_beginnings(self) -> None:
-        for begin in ("graph", "/* { */ GRAPH // {\n", '# 1 "{"\nstrict graph g', 'graph "{ {"', "strict\ngraph<{>", "graph -1.5"):
+        for begin in ("graph", "/* { */ GRAPH // {\n", '# 1 "{"\nstrict graph g', 'graph "{" + "b{"', "strict\ngraph<{>", "graph -1.5"):
             graph = of(begin + '{ a -- b; b [label=""]; a [color=red] }')
             self.assertEqual(labels(graph), ["a", ""], begin)
 

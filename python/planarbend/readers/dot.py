@@ -11,6 +11,7 @@ from planarbend.readers import texts
 from planarbend.readers.attributes import EDGE_KEYS, GRAPH_KEYS, NODE_KEYS, Attributes, palette_of
 from planarbend.readers.building import Builder
 from planarbend.readers.fault import Fault, program
+from planarbend.readers.forms import DOT
 
 PACKAGE = "graphviz"
 LABEL_KEYS = ("label", "xlabel", "headlabel", "taillabel")
@@ -42,10 +43,6 @@ BEGIN {
   string value(string s) { if (ishtml(s)) return "h" + quoted(s); return quoted(s); }
 }
 """
-SPACE = rb"\s|//[^\n]*|/\*.*?\*/|^#[^\n]*"  # with comments and lines of a preprocessor
-NAME = rb'[\w.\x80-\xff-]|"(?:[^"\\]|\\.)*"|<[^<>]*>|\+'  # a letter of a name, or a piece of it
-HEAD = re.compile(rb"(?:%b)*(?i:(?:strict(?:%b)+)?(?:di)?graph)(?:%b|%b)*\{" % (SPACE, SPACE, SPACE, NAME),
-                  re.S | re.M)  # of a file, to the first brace
 DEFAULT = rb'node [label="\N"]'  # the label of a node of which nothing is said
 VALUE = re.compile(r'(h?)"([^"]*)"')
 COUNTED = re.compile(r'(?:^|\n)([gne]) ((?:[01] )?)((?:h?"[^"]*" ?)+)')
@@ -64,7 +61,7 @@ def read_dot(data: bytes) -> Graph:
     that is empty. Arrows are by `dir`, `arrowhead` and `arrowtail`. A `Fault` is raised if Graphviz is missing, refuses the
     text (with its line), or finds no graph or several. What else the file says about nodes, edges and the whole is their look.
     """
-    head = HEAD.match(data)
+    head = DOT.match(data)
     labelled = data[:head.end()] + DEFAULT + data[head.end():] if head else data
     canonical = run([program("nop", PACKAGE)], labelled)  # `dot -Tcanon` would lay the graph out
     entries = list(listed(run([program("gvpr", PACKAGE), FUNCTIONS + LISTING], canonical)))
