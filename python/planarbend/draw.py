@@ -25,7 +25,7 @@ BETWEEN = 18.0  # pixels between components
 MOST_EMBEDDINGS = 4  # that are tried while some box would not be a rectangle
 HELP = "--split draws vertices with many edges as flags"
 MOST_LAID = 30_000  # vertices, by an engine that keeps no conditions (four seconds), in search of boxes that are rectangles
-LIBRARY = "the library libplanarbend, which `./planarbend --build` builds if PLANARBEND is not set, may find one"
+LIBRARY = "libplanarbend may find one: `./planarbend --build` builds it, and PLANARBEND must not be set; or "
 MOST_BROKEN = 4  # if more boxes than this are not rectangles, no further embedding is tried
 BEND_WEIGHT = 2.5  # of bends per edge, when shapes are compared by area
 COMPACT_WEIGHT = 0.25  # the same for a compact drawing
@@ -115,8 +115,7 @@ def part_of(graph: Graph, vertices: list[int], edges: list[int], options: Option
     sheet = best_sheet(inner, options, engine)
     if sheet.shape.broken:
         names = ", ".join(inner.vertices[vertex].name for vertex in sheet.shape.broken)
-        more = "" if engine.keeps else f"{LIBRARY}; or "
-        raise DrawError(f"no drawing was found in which these boxes are rectangles: {names} ({more}try another --seed, or"
+        raise DrawError(f"no drawing was found in which these boxes are rectangles: {names} ({'' if engine.keeps else LIBRARY}try another --seed, or"
                         " --split with the nets that join most)")
     return Part(vertices, edges, sheet)
 
