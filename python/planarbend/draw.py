@@ -115,8 +115,8 @@ def part_of(graph: Graph, vertices: list[int], edges: list[int], options: Option
     sheet = best_sheet(inner, options, engine)
     if sheet.shape.broken:
         names = ", ".join(inner.vertices[vertex].name for vertex in sheet.shape.broken)
-        raise DrawError(f"no drawing was found in which these boxes are rectangles: {names} ({'' if engine.keeps else LIBRARY}try another --seed, or"
-                        " --split with the nets that join most)")
+        raise DrawError(f"no drawing was found in which these boxes are rectangles: {names} ({'' if engine.keeps else LIBRARY}try"
+                        " another --seed, or --split with the nets that join most)")
     return Part(vertices, edges, sheet)
 
 
