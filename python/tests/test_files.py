@@ -12,6 +12,8 @@ from pathlib import Path
 from typing import Any
 
 import support
+from planarbend.draw import draw
+from planarbend.readers import read
 from svg_reader import SVG
 from test_attributes import EVERYTHING
 
@@ -90,6 +92,18 @@ class ByGraphviz(unittest.TestCase):
             if name != "everything.dot":
                 self.assertEqual(sorted(map(len, lines)), sorted(len(edge["points"]) for edge in told["edges"]))
                 self.assertEqual(meetings(lines), len(told["crossings"]))
+
+    def test_arrows(self) -> None:
+        """Each head is drawn at its own end, with the tip where the drawing's line ends."""
+        made = draw(read(b"digraph { a -> b [dir=back]; b -> c; c -> d [dir=both]; d -> e [dir=none] }", "it.gv"))
+        ran = subprocess.run(["neato", "-n2", "-Tsvg"], input=made.text("dot").encode(), capture_output=True, check=True)
+        groups = {one.findtext(SVG + "title"): one for one in xml.fromstring(ran.stdout).iter(SVG + "g") if one.get("class") == "edge"}
+        for (pair, ends), line in zip((("a->b", [0]), ("b->c", [-1]), ("c->d", [0, -1]), ("d->e", [])), made.lines, strict=True):
+            path, *heads = [extent([one]) for kind in ("path", "polygon") for one in groups[pair].iter(SVG + kind)]
+            self.assertEqual(len(heads), len(ends), pair)
+            across = [abs(line[0][axis] - line[-1][axis]) for axis in (0, 1)]
+            found = [path[2] - path[0], path[3] - path[1]]
+            self.assertAlmostEqual(sum(across) - sum(found), 8 * len(ends), delta=2.5, msg=pair)
 
     def test_labels(self) -> None:
         ran = subprocess.run(["dot", "-Tjson0", "-Kneato", "-n2"], input=WRITTEN["odd.dot", "gv"].encode(),

@@ -127,6 +127,7 @@ class Dot(Case):
         self.refused("graph { a -> b }", "syntax error", 1)
         self.refused("graph { a -- b", "syntax error", 1, "plan.gv")
         self.refused("nonsense", "syntax error", 1, "plan.dot")
+        self.refused('graph { "\xe4'.encode("latin-1"), "syntax error .*missing endquote", 1)
         self.refused("graph {a} graph {b}", "2 graphs; only one can be drawn")
 
     def test_without_graphviz(self) -> None:

@@ -43,8 +43,7 @@ def way_of(sheet: Sheet, key: tuple[int, bool]) -> tuple[int, int, int]:
     """Return the axis along the piece of a label at an end, and the coordinates of the near end and of the far end."""
     piece, is_at_last = sheet.piece_at(*key)
     axis = 1 - piece.across
-    ends = piece.low[axis], piece.high[axis]
-    return axis, ends[is_at_last], ends[not is_at_last]
+    return axis, *((piece.high[axis], piece.low[axis]) if is_at_last else (piece.low[axis], piece.high[axis]))
 
 
 def return_label(sheet: Sheet, key: tuple[int, bool], most: float) -> bool:
@@ -81,8 +80,8 @@ def hold_labels(sheet: Sheet) -> bool:
     for key in found:
         axis, near, far = way_of(sheet, key)
         value, number = sheet.axes[axis].value, sheet.end_labels[key].low[axis]
-        pair = (number, far) if value[near] < value[far] else (far, number)
-        sheet.within[axis].append((*pair, abs(value[number] - value[near]) + 1))
+        low, high = sorted((number, far), key=value.__getitem__)
+        sheet.within[axis].append((low, high, abs(value[number] - value[near]) + 1))
     return bool(found)
 
 

@@ -46,7 +46,7 @@ BEGIN {
 DEFAULT = rb'node [label="\N"]'  # the label of a node of which nothing is said
 VALUE = re.compile(r'(h?)"([^"]*)"')
 COUNTED = re.compile(r'(?:^|\n)([gne]) ((?:[01] )?)((?:h?"[^"]*" ?)+)')
-SYNTAX = re.compile(r"Error: .*?: (syntax error) in line (\d+)(.*)|Error: (.*)")
+SYNTAX = re.compile(r"Error: .*?: (syntax error) in line (\d+)(.*)")
 ARROWS = {"forward": (False, True), "back": (True, False), "both": (True, True), "none": (False, False)}
 ARROW = {(False, False): Arrow.NONE, (False, True): Arrow.FORWARD, (True, False): Arrow.BACK, (True, True): Arrow.BOTH}
 LATIN = ("latin1", "latin-1", "l1", "iso-8859-1", "iso_8859-1", "iso8859-1", "iso-ir-100")
@@ -80,10 +80,8 @@ def run(words: list[str], data: bytes) -> bytes:
     """Return the output of a program of Graphviz for these bytes."""
     ran = subprocess.run(words, input=data, capture_output=True, check=False)
     for error in map(SYNTAX.match, ran.stderr.decode(errors="replace").splitlines()):
-        if error and error[1]:
+        if error:
             raise Fault(f"Graphviz: {error[1]}{error[3]}", int(error[2]))
-        if error and ran.returncode:
-            raise Fault(f"Graphviz: {error[4]}")
     if ran.returncode:
         raise Fault(f"Graphviz's {words[0]} ended with status {ran.returncode}")
     return ran.stdout
