@@ -103,6 +103,8 @@ class ByGraphviz(unittest.TestCase):
         found = self.said(WRITTEN["everything.dot", "gv"])
         rounded = {name for name in "acnoqr" if "rounded" in found[name]["style"]}
         self.assertEqual(rounded, {"o", "r"})  # style=rounded, and Mrecord
+        self.assertEqual(sum(bool(one.get("tooltip")) for one in found.values()), EVERYTHING.count("tooltip=") - 1)  # one of an edge
+        self.assertIn('tooltip="<dots>"', WRITTEN["everything.dot", "gv"])
 
     def test_nets(self) -> None:
         """Nets are lines and points of the same size."""
