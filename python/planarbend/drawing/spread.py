@@ -17,7 +17,7 @@ PASSES = 2
 SAME = 1e-3  # pixels, by which distances may differ
 NARROW = 4.0  # pixels, between a label at an end of an edge and others, if it cannot be nearer to this end otherwise
 MOST_HELD = 3  # times that lines are made longer for labels at their ends
-CLOSE = 20.0  # pixels, from an end of a line to a label that needs not be nearer to it than to the other end
+CLOSE = 20.0  # pixels, from an end of a line to a label that need not be nearer to it than to the other end
 
 
 def spread(sheet: Sheet) -> None:
