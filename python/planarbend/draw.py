@@ -12,7 +12,7 @@ from planarbend.drawing.drawn import Box, Crossing, Drawing, Point
 from planarbend.drawing.items import Sheet
 from planarbend.drawing.planarization import Planarization
 from planarbend.drawing.planarize import TooManyCrossings, planarize
-from planarbend.drawing.plans import Options
+from planarbend.drawing.plans import Budget, Options
 from planarbend.drawing.shape import Shape, lone
 from planarbend.drawing.spread import spread
 from planarbend.graph import Edge, Graph, Partition
@@ -24,6 +24,8 @@ MARGIN = 10.0  # pixels around the whole
 BETWEEN = 18.0  # pixels between components
 MOST_EMBEDDINGS = 4  # that are tried while some box would not be a rectangle
 HELP = "--split draws vertices with many edges as flags"
+MOST_LAID = 30_000  # vertices, by an engine that keeps no conditions (four seconds), in search of boxes that are rectangles
+LIBRARY = "libplanarbend may find one: `./planarbend --build` builds it, and PLANARBEND must not be set; or "
 MOST_BROKEN = 4  # if more boxes than this are not rectangles, no further embedding is tried
 BEND_WEIGHT = 2.5  # of bends per edge, when shapes are compared by area
 COMPACT_WEIGHT = 0.25  # the same for a compact drawing
@@ -113,18 +115,18 @@ def part_of(graph: Graph, vertices: list[int], edges: list[int], options: Option
     sheet = best_sheet(inner, options, engine)
     if sheet.shape.broken:
         names = ", ".join(inner.vertices[vertex].name for vertex in sheet.shape.broken)
-        raise DrawError(f"no drawing was found in which these boxes are rectangles: {names} (try another --seed, or --split"
-                        " with the nets that join most)")
+        raise DrawError(f"no drawing was found in which these boxes are rectangles: {names} ({'' if engine.keeps else LIBRARY}try"
+                        " another --seed, or --split with the nets that join most)")
     return Part(vertices, edges, sheet)
 
 
 def best_sheet(graph: Graph, options: Options, engine: Engine) -> Sheet:
     """Return the best drawing of a component."""
     weight = COMPACT_WEIGHT if options.compact else BEND_WEIGHT
-    best = None
+    best, budget = None, Budget() if engine.keeps else Budget(MOST_LAID * max(1, options.effort))
     for attempt in range(MOST_EMBEDDINGS):
         try:
-            shapes = shapes_of(embedded(graph, options, attempt, engine.most_vertices), graph, options, engine)
+            shapes = shapes_of(embedded(graph, options, attempt, engine.most_vertices), graph, options, engine, budget)
         except DrawError as fault:
             if best is None and not (isinstance(fault, NotStraight) and attempt + 1 < MOST_EMBEDDINGS):
                 raise
@@ -134,7 +136,7 @@ def best_sheet(graph: Graph, options: Options, engine: Engine) -> Sheet:
             price = len(shape.broken), price_of(sheet, len(graph.edges), weight)
             if best is None or price < best[0]:
                 best = price, sheet
-        if best is not None and not 0 < best[0][0] <= MOST_BROKEN:
+        if best is not None and (not 0 < best[0][0] <= MOST_BROKEN or budget.left < 0):
             break
     assert best is not None, "a component has a shape"
     return best[1]
@@ -158,12 +160,12 @@ def embedded(graph: Graph, options: Options, attempt: int, most: int) -> Planari
                         f" vertices and crossings; {HELP}") from None
 
 
-def shapes_of(planar: Planarization, graph: Graph, options: Options, engine: Engine) -> list[Shape]:
+def shapes_of(planar: Planarization, graph: Graph, options: Options, engine: Engine, budget: Budget) -> list[Shape]:
     """Return good shapes of an embedded component; raise a `DrawError` if it takes too many vertices, or no shape was found
     with all of `outer` on one face, or with straight edges."""
     stage(f"{len(graph.vertices)} vertices, {len(graph.edges)} edges, {planar.crossings} crossings: searching for few bends")
     try:
-        return choose(planar, engine, options)
+        return choose(planar, engine, options, budget)
     except TooLarge as fault:
         raise DrawError(f"a component has {len(graph.vertices)} vertices, {len(graph.edges)} edges and {planar.crossings}"
                         f" crossings, which takes {fault} vertices of degree 4; the limit is"

@@ -150,6 +150,17 @@ def run(words: Sequence[str], text: str | bytes) -> bytes:
     return subprocess.run(words, input=data, capture_output=True, check=True).stdout
 
 
+def said_in(text: bytes) -> tuple[dict[str, Any], bool]:
+    """What a DOT text says, and whether `dot` lays it out without an error; otherwise it is read by `neato`, if necessary.
+
+    dot 2.43 ends by an assertion of its own (`lblenclosing`) on some files with labels at ends of edges, which are valid."""
+    for engine in ("dot", "neato"):
+        ran = subprocess.run(["dot", "-Tjson0", f"-K{engine}"], input=text, capture_output=True, check=False)
+        if ran.returncode >= 0 and ran.stdout.endswith(b"}\n"):
+            return json.loads(decoded(ran.stdout), strict=False), engine == "dot" and not ran.returncode
+    raise ValueError(f"Graphviz ended with status {ran.returncode}")
+
+
 def decoded(data: bytes) -> str:
     """A text that is UTF-8 or else Latin-1."""
     try:
@@ -241,7 +252,7 @@ class Judge:
 
     def __init__(self, text: bytes, svg: str, drawing: dict[str, Any], warnings: str = "") -> None:
         """Reads a DOT text, the picture and the JSON of the same drawing, and what was said on standard error."""
-        self.said: dict[str, Any] = json.loads(decoded(run(["dot", "-Tjson0"], text)), strict=False)
+        self.said, self.is_laid_out = said_in(text)
         self.elements, self.drawing, self.warnings = elements_of(xml.fromstring(svg)), drawing, warnings
         self.verdict = Verdict()
         self.ends: list[Point] = []  # of the edge that is looked at, at the sides of boxes

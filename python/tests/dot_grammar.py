@@ -172,12 +172,13 @@ def main() -> int:
     numbers = [int(word) for word in sys.argv[1:3]]
     first, count = (*numbers, *(1, 2000)[len(numbers):])
     folder = Path(sys.argv[3]) if len(sys.argv) > 3 else None
-    whole, right, neither = Verdict(), 0, 0
+    whole, right, neither, alone = Verdict(), 0, 0, 0
     for seed in range(first, first + count):
         text = Grammar(seed).file()
         try:
             svg, drawing, warnings, written = drawn(text.encode())
-            found = Judge(text.encode(), svg, drawing, warnings).judged()
+            judge = Judge(text.encode(), svg, drawing, warnings)
+            found = judge.judged()
             faults = found.faults + shown_alike(drawing, written)
         except Exception as error:  # each is a fault of the drawing, unless Graphviz refuses the file too
             if refused(text):
@@ -190,8 +191,10 @@ def main() -> int:
             (folder / f"{seed}.gv").write_text(text, encoding="utf-8")
         whole.add(found)
         right += not faults
+        alone += not faults and not judge.is_laid_out
     print("\n".join(table(whole)))
-    print(f"{count} files: {right} drawn and right, {neither} refused by Graphviz, {count - right - neither} not")
+    print(f"{count} files: {right} drawn and right, of which dot itself fails on {alone}; {neither} refused by Graphviz too,"
+          f" {count - right - neither} not")
     return 0 if 40 * right >= 39 * count else 1
 
 

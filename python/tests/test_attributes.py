@@ -2,7 +2,9 @@
 own reading, `dot -Tjson0`."""
 from __future__ import annotations
 
+import itertools
 import json
+import random
 import re
 import subprocess
 import tempfile
@@ -12,9 +14,12 @@ from pathlib import Path
 from typing import Any
 
 import support
+from planarbend.draw import draw
+from planarbend.drawing.drawn import Drawing
 from planarbend.readers import read
 from svg_reader import SVG
 
+SEEDS = (8, 27, 30, 42, 45, 57)
 XLINK = "{http://www.w3.org/1999/xlink}"
 EVERYTHING = r"""digraph "G<&>" {
   label="All <of> \"it\""; bgcolor="#fffff0"; fontcolor=navy; fontsize=17;
@@ -366,6 +371,34 @@ class OtherFormats(unittest.TestCase):
         fills = [one.own["fill"] for one in self.drawn(GEPHI) if one.kind == "rect" and "rx" in one.own]
         self.assertEqual(len(fills), 2)
         self.assertIn("#990010", fills)
+
+
+class AtEnds(unittest.TestCase):
+    """Labels at ends of edges are nearer to these ends than to the others, or close to them, and cover nothing."""
+
+    TEXTS = ("0", "0..1", "some words", "two\\nlines", "a long label of some words")
+
+    def drawn(self, seed: int) -> Drawing:
+        dice, lines = random.Random(seed), list[str]()
+        for _ in range(14):
+            tail, head, text = *dice.choices("abcdefghij", k=2), dice.choice(self.TEXTS)
+            label = dice.choice(("", "", "ab", "long label"))
+            size = dice.choice((10, 24))
+            lines.append(f'{tail} -> {head} [{dice.choice(("head", "tail"))}label="{text}", label="{label}", fontsize={size}]')
+        return draw(read("\n".join(["digraph {", *lines, "}"]).encode(), "it.gv"))
+
+    def test_places(self) -> None:
+        for seed in SEEDS:
+            drawing = self.drawn(seed)
+            for (number, is_head), box in drawing.end_boxes.items():
+                line, edge = drawing.lines[number], drawing.graph.edges[number]
+                far = [max(box[0] - x, x - box[2], box[1] - y, y - box[3]) for x, y in (line[0], line[-1])]
+                if edge.tail != edge.head:
+                    self.assertLess(far[is_head], max(25, far[not is_head]), (seed, number, is_head))
+            labels = [*drawing.end_boxes.values(), *drawing.label_boxes.values()]
+            for one, other in [*itertools.combinations(labels, 2), *itertools.product(labels, drawing.boxes)]:
+                is_clear = any(one[2 + axis] <= other[axis] or other[2 + axis] <= one[axis] for axis in (0, 1))
+                self.assertTrue(is_clear, (seed, one, other))
 
 
 if __name__ == "__main__":

@@ -7,10 +7,11 @@ import subprocess
 import sys
 import unittest
 from collections.abc import Sequence
+from unittest import mock
 
 import support
 from drawing_checker import check
-from planarbend.draw import Options, draw
+from planarbend.draw import DrawError, Options, draw
 from planarbend.drawing.choose import Search
 from planarbend.drawing.expand import Expansion
 from planarbend.drawing.incremental import incremental_embedding
@@ -18,11 +19,12 @@ from planarbend.drawing.mend import corners_of, ways_round_cage
 from planarbend.drawing.nets import dots_of, pieces_of
 from planarbend.drawing.numbering import Contraction, form_of, path_of, put_back
 from planarbend.drawing.planarize import planarize
-from planarbend.drawing.plans import Plan
+from planarbend.drawing.plans import Budget, Plan
 from planarbend.drawing.shape import Shape
 from planarbend.graph import Edge, Graph, Kind, Vertex
 from planarbend.layout import library
-from planarbend.layout.engine import ProcessEngine, default_engine
+from planarbend.layout.engine import Answer, ProcessEngine, default_engine
+from planarbend.layout.planar_code import Lists
 
 # From (0, 0) to the right and round, y downwards: a square of side 4 from which the quarter at the lower left is cut away.
 STEP = [[(0, 0), (4, 0)], [(4, 0), (4, 4)], [(4, 4), (2, 4)], [(2, 4), (2, 2), (0, 2)], [(0, 2), (0, 0)]]
@@ -93,6 +95,29 @@ class Mended(unittest.TestCase):
             graph = Graph([Vertex(str(number), str(number), kind) for number in range(count)], [Edge(*edge) for edge in edges])
             with self.subTest(seed=seed, kind=kind):
                 checked(graph, edges)
+
+
+    def test_a_long_search_ends(self) -> None:
+        """When no more vertices may be laid out, boxes stay as they are, and the message says what would help."""
+        count, edges = hubs(7)
+        graph = Graph([Vertex(str(number), str(number)) for number in range(count)], [Edge(*edge) for edge in edges])
+        with mock.patch("planarbend.draw.MOST_LAID", 0), mock.patch("planarbend.drawing.choose.MOVES", ()):
+            with self.assertRaisesRegex(DrawError, r"rectangles: .* \(libplanarbend may find one: .*; or try another "):
+                draw(graph, engine=ProcessEngine())
+            engine, budget = Counting(), Budget(10 ** 6)
+            found = Search(planarize(count, edges), engine, Options(), budget).run()
+        self.assertFalse(min(found, key=Shape.price).broken)
+        self.assertEqual(budget.left, 10 ** 6 - engine.count)
+
+
+class Counting(ProcessEngine):
+    """The program, with the number of vertices that it laid out."""
+
+    count = 0
+
+    def lay(self, graphs: Sequence[Lists], outer: str) -> list[Answer]:
+        self.count += sum(map(len, graphs))
+        return super().lay(graphs, outer)
 
 
 def checked(graph: Graph, edges: Sequence[tuple[int, int]], options: Options = Options()) -> None:

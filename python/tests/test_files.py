@@ -12,6 +12,9 @@ from pathlib import Path
 from typing import Any
 
 import support
+from planarbend.draw import draw
+from planarbend.graph import Kind
+from planarbend.readers import read
 from svg_reader import SVG
 from test_attributes import EVERYTHING
 
@@ -90,6 +93,44 @@ class ByGraphviz(unittest.TestCase):
             if name != "everything.dot":
                 self.assertEqual(sorted(map(len, lines)), sorted(len(edge["points"]) for edge in told["edges"]))
                 self.assertEqual(meetings(lines), len(told["crossings"]))
+
+    def said(self, text: str) -> dict[str, dict[str, str]]:
+        """The attributes of each node as Graphviz reads them."""
+        ran = subprocess.run(["dot", "-Tjson0", "-Kneato", "-n2"], input=text.encode(), capture_output=True, check=True)
+        return {one["name"]: one for one in json.loads(ran.stdout)["objects"]}
+
+    def test_styles(self) -> None:
+        found = self.said(WRITTEN["everything.dot", "gv"])
+        rounded = {name for name in "acnoqr" if "rounded" in found[name]["style"]}
+        self.assertEqual(rounded, {"o", "r"})  # style=rounded, and Mrecord
+        self.assertEqual(sum(bool(one.get("tooltip")) for one in found.values()), EVERYTHING.count("tooltip=") - 1)  # one of an edge
+        self.assertIn('tooltip="<dots>"', WRITTEN["everything.dot", "gv"])
+
+    def test_nets(self) -> None:
+        """Nets are lines and points of the same size."""
+        made = draw(read(support.GRAPHS["flasher.kicad_pcb"].read_bytes(), "flasher.kicad_pcb"))
+        found = self.said(made.text("dot"))
+        lengths = set()
+        for vertex, (left, top, right, bottom) in zip(made.graph.vertices, made.boxes):
+            if vertex.kind is Kind.NET:
+                wide, high = (72 * float(found[vertex.name][key]) for key in ("width", "height"))
+                self.assertEqual("point" == found[vertex.name].get("shape"), (left, top) == (right, bottom))
+                self.assertLess(max(wide - (right - left), high - (bottom - top)), 7)
+                self.assertGreater(min(wide - (right - left), high - (bottom - top)), -.5)
+                lengths.add(round(max(wide, high)))
+        self.assertGreater(max(lengths), 20)
+
+    def test_arrows(self) -> None:
+        """Each head is drawn at its own end, with the tip where the drawing's line ends."""
+        made = draw(read(b"digraph { a -> b [dir=back]; b -> c; c -> d [dir=both]; d -> e [dir=none] }", "it.gv"))
+        ran = subprocess.run(["neato", "-n2", "-Tsvg"], input=made.text("dot").encode(), capture_output=True, check=True)
+        groups = {one.findtext(SVG + "title"): one for one in xml.fromstring(ran.stdout).iter(SVG + "g") if one.get("class") == "edge"}
+        for (pair, ends), line in zip((("a->b", [0]), ("b->c", [-1]), ("c->d", [0, -1]), ("d->e", [])), made.lines, strict=True):
+            path, *heads = [extent([one]) for kind in ("path", "polygon") for one in groups[pair].iter(SVG + kind)]
+            self.assertEqual(len(heads), len(ends), pair)
+            across = [abs(line[0][axis] - line[-1][axis]) for axis in (0, 1)]
+            found = [path[2] - path[0], path[3] - path[1]]
+            self.assertAlmostEqual(sum(across) - sum(found), 8 * len(ends), delta=2.5, msg=pair)
 
     def test_labels(self) -> None:
         ran = subprocess.run(["dot", "-Tjson0", "-Kneato", "-n2"], input=WRITTEN["odd.dot", "gv"].encode(),

@@ -105,7 +105,14 @@ class Dot(Case):
         self.assertEqual(labels(graph), ["x\ny\nag<", ""])
         self.assertEqual([edge.label for edge in graph.edges], ["a to b", "x"])
         self.assertEqual(labels(of('graph { a [label="<b>no HTML</b>"] }')), ["<b>no HTML</b>"])
+        self.assertEqual(labels(of('graph { node [shape=record]; a [label="x<b|{y"]; b [label="<p> x|y>z"] }')), ["x<b | y", "x | yz"])
+        self.assertEqual(labels(of("graph { a [shape=nosuch]; b [label=<<nob>x</nob>>] }")), ["a", "x"])
         self.assertEqual(labels(of('graph { charset=latin1; a [label="\xe4"] }'.encode("latin-1"))), ["\xe4"])
+
+    def test_beginnings(self) -> None:
+        for begin in ("graph", "/* { */ GRAPH // {\n", '# 1 "{"\nstrict graph g', 'graph "{" + "b{"', "strict\ngraph<{>", "graph -1.5"):
+            graph = of(begin + '{ a -- b; b [label=""]; a [color=red] }')
+            self.assertEqual(labels(graph), ["a", ""], begin)
 
     def test_arrows(self) -> None:
         def arrows(text: str) -> list[str]:
@@ -120,12 +127,12 @@ class Dot(Case):
         self.refused("graph { a -> b }", "syntax error", 1)
         self.refused("graph { a -- b", "syntax error", 1, "plan.gv")
         self.refused("nonsense", "syntax error", 1, "plan.dot")
+        self.refused('graph { "\xe4'.encode("latin-1"), "syntax error .*missing endquote", 1)
         self.refused("graph {a} graph {b}", "2 graphs; only one can be drawn")
-        self.refused("graph { a [shape=nosuch]; b [label=<<nob>x</nob>>] }", "Graphviz: Unknown HTML element")
 
     def test_without_graphviz(self) -> None:
         with mock.patch.object(shutil, "which", return_value=None):
-            self.refused("graph { a -- b }", r"program dot is needed .*apt install graphviz")
+            self.refused("graph { a -- b }", r"program nop is needed .*apt install graphviz")
 
 
 @support.needs_networkx

@@ -18,7 +18,7 @@ from planarbend.drawing.items import PIECE, Item, Sheet
 from planarbend.drawing.mend import loosened, ways_round_spine
 from planarbend.drawing.numbering import conditions_of
 from planarbend.drawing.planarize import planarize
-from planarbend.drawing.plans import Plan
+from planarbend.drawing.plans import Budget, Plan
 from planarbend.drawing.shape import Shape, is_clockwise_rectangle, shape_of, without_straight
 from planarbend.graph import Edge, Graph, Kind, Vertex
 from planarbend.layout.engine import GridPoint, default_engine
@@ -121,7 +121,7 @@ class Mending(unittest.TestCase):
             return [Shape(by_plan(plans[0]), [], [], [], [len(rounds)], 0)]
 
         search: Any = Search.__new__(Search)
-        search.degree, search.options = [5] * 9, Options(outer=(0,))
+        search.degree, search.options, search.budget = [5] * 9, Options(outer=(0,)), Budget()
         with mock.patch.object(Search, "look", look):
             self.assertEqual(len(search.spined([found(broken=1)])), 3)
         self.assertEqual(rounds, [{0}, {0, 1}, {0, 1, 2}])

@@ -75,6 +75,14 @@ class Room(unittest.TestCase):
                 self.assertLessEqual(upper, size[1] / 2 - high / 2 + .1, outline)
                 self.assertGreaterEqual(lower, size[1] / 2 + high / 2 - .1, outline)
 
+    def test_proportions(self) -> None:
+        """A label is as far from the tab of a folder as from the border of a box; a diamond of one letter is upright."""
+        folder = room(Outline.FOLDER, (60, 14), (72, 22))
+        tab = min(y for x, y in border(Outline.FOLDER, (0.0, 0.0, *folder), folder) if x == 0)
+        self.assertEqual(folder[1] / 2 - 14 / 2 - tab, 4)
+        diamond = room(Outline.DIAMOND, (7, 14), (22, 22))
+        self.assertLess(diamond[0], diamond[1])
+
 
 if __name__ == "__main__":
     unittest.main()

@@ -15,7 +15,7 @@ from planarbend.drawing.expand import LEAST_CAGE, MOST_CONNECTIONS, Expansion, s
 from planarbend.drawing.mend import loosened, ways_round_cage, ways_round_spine
 from planarbend.drawing.numbering import Contraction, Form, conditions_of, form_of, outer_forms
 from planarbend.drawing.planarization import Planarization
-from planarbend.drawing.plans import Options, Plan
+from planarbend.drawing.plans import Budget, Options, Plan
 from planarbend.drawing.shape import Shape, shape_of
 from planarbend.layout.engine import Engine, NotKept
 
@@ -48,8 +48,9 @@ class NoStraightEdges(Exception):
 class Search:
     """Looks for a good shape of one embedded component: for each plan, it tries `NUMBERINGS` times the effort."""
 
-    def __init__(self, planar: Planarization, engine: Engine, options: Options) -> None:
-        """Return a search before its first shape."""
+    def __init__(self, planar: Planarization, engine: Engine, options: Options, budget: Budget | None = None) -> None:
+        """Return a search before its first shape. When the budget is spent, it makes do with what it has found."""
+        self.budget = budget or Budget()
         self.planar, self.engine, self.options, self.random = planar, engine, options, random.Random(options.seed)
         self.most = engine.most_vertices
         self.degree = [len(darts) for darts in planar.rotation[:planar.vertex_count]]
@@ -86,6 +87,7 @@ class Search:
         """Return the shape of each form; None if some edges must be straight, and cannot be."""
         if self.options.straight:
             return self.kept(forms, outer)
+        self.budget.left -= sum(len(form.lists) for form in forms)
         return list(map(shape_of, forms, self.engine.lay([form.lists for form in forms], outer)))
 
     def kept(self, forms: Iterable[Form], outer: str) -> list[Shape | None]:
@@ -150,7 +152,7 @@ class Search:
     def repaired(self, pool: list[Shape]) -> list[Shape]:
         """Return a pool with what `REPAIRS` add while its best shape has a box that is not a rectangle."""
         for moves in REPAIRS:
-            if not best_of(pool).broken:
+            if not best_of(pool).broken or self.budget.left < 0:
                 break
             pool = [*pool, *(found for move in moves for found in move(self, pool))]
         return pool
@@ -170,7 +172,7 @@ class Search:
 
     def elsewhere(self, best: Shape) -> list[Shape]:
         """Return shapes of another embedding, by the plan of the best one so far; none if a few moves find nothing better."""
-        if not any(best.price()[:2]) and len(best.expansion.rotation) < LARGE:
+        if not any(best.price()[:2]) and len(best.expansion.rotation) < LARGE or best.broken and self.budget.left < 0:
             return []
         from planarbend.drawing.moves import climbed  # slow to load, and often not needed
 
@@ -178,7 +180,7 @@ class Search:
                         rounds=ROUNDS * self.options.effort, width=WIDTH)
         if other is self.planar:
             return []
-        search = Search(other, self.engine, replace(self.options, seed=0, outer=()))
+        search = Search(other, self.engine, replace(self.options, seed=0, outer=()), self.budget)
         pool = search.shapes_of([replace(best.plan, loose=())])
         return search.repaired(pool) if pool else []
 
@@ -204,7 +206,7 @@ class Search:
         spines for all vertices above degree 4."""
         current, added = best_of(pool), list[Shape]()
         for _ in range(MOST_REPAIRS):
-            if not current.broken:
+            if not current.broken or self.budget.left < 0:
                 return added
             vertex, degree = current.broken[0], self.degree[current.broken[0]]
             if degree <= MOST_CONNECTIONS:
@@ -311,10 +313,10 @@ def best_of(pool: Iterable[Shape]) -> Shape:
     return min(pool, key=Shape.price)
 
 
-def choose(planar: Planarization, engine: Engine, options: Options) -> list[Shape]:
+def choose(planar: Planarization, engine: Engine, options: Options, budget: Budget | None = None) -> list[Shape]:
     """Return some good shapes of an embedded component, the one with the fewest bends first, or raise `TooLarge` (even with
     spines), `NoSuchFace` or `NoStraightEdges`."""
-    search = Search(planar, engine, options)
+    search = Search(planar, engine, options, budget)
     pool = search.run()
     if not options.outer:
         pool += search.elsewhere(best_of(pool))

@@ -93,7 +93,7 @@ class Expansion(Embedding):
 
     def _divided(self, loose: Mapping[int, int]) -> list[list[int]]:
         """Return the darts along each edge, after pieces were divided that are loose or join nodes already joined."""
-        joined = {frozenset(self.tail[dart:dart + 2]) for dart in range(len(self.planar.tail), len(self.tail), 2)}
+        joined = set[frozenset[int]]()
         found: list[list[int]] = []
         for chain in self.planar.chains:
             found.append([])

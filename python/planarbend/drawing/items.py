@@ -57,7 +57,7 @@ class Item:
     owns: tuple[bool, bool] = (True, True)  # along which axes it is kept apart from others
     before: list[float] = field(default_factory=lambda: [0.0, 0.0])  # pixels
     after: list[float] = field(default_factory=lambda: [0.0, 0.0])
-    host: tuple[int, ...] = ()  # the box itself; the boxes at the ends of a piece; for a label its edge as -1 - number
+    host: tuple[int, ...] = ()  # the boxes at the ends of a piece; for a label its edge as -1 - number
 
     @property
     def across(self) -> int:
@@ -140,7 +140,7 @@ class Sheet:
             high.append(low[-1] if place is not None else self.axes[axis].add(last, 1.0))
             if place is None:
                 self.within[axis].append((low[-1], high[-1], self.sizes[number][axis]))
-        self.boxes.append(Item(BOX, low, high, [(left, right + LOOPS), (top, bottom + LOOPS)], host=(number,)))
+        self.boxes.append(Item(BOX, low, high, [(left, right + LOOPS), (top, bottom + LOOPS)]))
         self.items.append(self.boxes[-1])
 
     def _add_line(self, number: int) -> None:

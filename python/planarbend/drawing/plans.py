@@ -1,10 +1,18 @@
 """How to draw a graph, and plans of a component: which vertices become boxes, and how."""
 from __future__ import annotations
 
+import math
 from collections.abc import Iterable, Sequence
 from dataclasses import dataclass, replace
 
 from planarbend.drawing.mend import Loose
+
+
+@dataclass(slots=True)
+class Budget:
+    """How many more vertices may be laid out before a search for rectangles ends."""
+
+    left: float = math.inf
 
 
 @dataclass(frozen=True, slots=True)

@@ -200,5 +200,4 @@ class Solver:
         size = max(least, end - start)
         middle = (start + end) / 2
         begin = min(max(middle - size / 2, first), last - size)
-        begin = max(min(begin, start), end - size, first) if inner else max(begin, first)
         self.value[low], self.value[high] = begin, begin + size

@@ -6,6 +6,8 @@ then what shortens lines.
 """
 from __future__ import annotations
 
+import math
+
 from planarbend.drawing.constraints import GAP, apart, lengths_of, reach_of
 from planarbend.drawing.items import BOX, LABEL, Sheet
 from planarbend.drawing.solver import Solver
@@ -13,31 +15,74 @@ from planarbend.graph import Kind
 
 PASSES = 2
 SAME = 1e-3  # pixels, by which distances may differ
+NARROW = 4.0  # pixels, between a label at an end of an edge and others, if it cannot be nearer to this end otherwise
+MOST_HELD = 3  # times that lines are made longer for labels at their ends
+CLOSE = 20.0  # pixels, from an end of a line to a label that need not be nearer to it than to the other end
 
 
 def spread(sheet: Sheet) -> None:
     """Settle all coordinates."""
     for step in range(PASSES):
-        for axis in (0, 1):
-            settle(sheet, axis, step)
-        return_labels(sheet)
+        settle_both(sheet, step)
+    for _ in range(MOST_HELD):
+        if not hold_labels(sheet):
+            return
+        settle_both(sheet, PASSES - 1)
 
 
-def return_labels(sheet: Sheet) -> None:
-    """Move labels at ends of edges beside these ends, past other items, where the place there is free."""
-    for key, label in sheet.end_labels.items():
-        piece, is_at_last = sheet.piece_at(*key)
-        axis = 1 - piece.across
-        value, number = sheet.axes[axis].value, label.low[axis]
-        far = GAP[BOX][LABEL] + label.after[axis]
-        before, wanted = value[number], value[piece.high[axis]] - far if is_at_last else value[piece.low[axis]] + far
-        others = [(GAP[item.kind][LABEL] - SAME, sheet.extent(item)) for item in sheet.items
-                  if item is not label and item is not piece]
-        value[number] = wanted
-        left, top, right, bottom = sheet.extent(label)
-        if any(left - gap < box[2] and box[0] < right + gap and top - gap < box[3] and box[1] < bottom + gap
-               for gap, box in others):
-            value[number] = before
+def settle_both(sheet: Sheet, step: int) -> None:
+    """Settle the coordinates along both axes, and move labels to ends of edges."""
+    for axis in (0, 1):
+        settle(sheet, axis, step)
+    for key in sheet.end_labels:
+        if not return_label(sheet, key, math.inf):
+            return_label(sheet, key, NARROW)
+
+
+def way_of(sheet: Sheet, key: tuple[int, bool]) -> tuple[int, int, int]:
+    """Return the axis along the piece of a label at an end, and the coordinates of the near end and of the far end."""
+    piece, is_at_last = sheet.piece_at(*key)
+    axis = 1 - piece.across
+    return axis, *((piece.high[axis], piece.low[axis]) if is_at_last else (piece.low[axis], piece.high[axis]))
+
+
+def return_label(sheet: Sheet, key: tuple[int, bool], most: float) -> bool:
+    """Move a label at an end of an edge towards this end, past other items, to the nearest place that is free; gaps are at most
+    `most` pixels wide. Return whether it is near the end."""
+    label, (piece, is_at_last), (axis, near, _) = sheet.end_labels[key], sheet.piece_at(*key), way_of(sheet, key)
+    value, number = sheet.axes[axis].value, label.low[axis]
+    half, sign, held = label.after[axis], -1 if is_at_last else 1, value[number]
+    others = [(min(GAP[item.kind][LABEL], most) - SAME, sheet.extent(item)) for item in sheet.items
+              if item is not label and item is not piece]
+    low, high = sheet.along(label, 1 - axis)
+    beside = [(box[axis] - gap - half, box[2 + axis] + gap + half) for gap, box in others
+              if low - gap < box[3 - axis] and box[1 - axis] < high + gap]
+    places = [value[near] + sign * (GAP[BOX][LABEL] + half), *(pair[sign > 0] + sign * SAME for pair in beside)]
+    for place in sorted(places, key=lambda place: sign * place):
+        if sign * (place - places[0]) >= 0 and not any(begin < place < end for begin, end in beside):
+            value[number] = place if sign * place < sign * held else held
+            break
+    return is_near(sheet, key)
+
+
+def is_near(sheet: Sheet, key: tuple[int, bool]) -> bool:
+    """Return whether a label at an end of an edge is close to this end, or nearer to it than to the far end."""
+    label, (axis, near, far) = sheet.end_labels[key], way_of(sheet, key)
+    value = sheet.axes[axis].value
+    distance = abs(value[label.low[axis]] - value[near])
+    return distance - label.after[axis] < CLOSE or 2 * distance < abs(value[far] - value[near])
+
+
+def hold_labels(sheet: Sheet) -> bool:
+    """Demand that each label that is not near the end where it should be gets farther from the far end than it is from the
+    near one. Return whether there are any."""
+    found = [key for key in sheet.end_labels if not is_near(sheet, key)]
+    for key in found:
+        axis, near, far = way_of(sheet, key)
+        value, number = sheet.axes[axis].value, sheet.end_labels[key].low[axis]
+        low, high = sorted((number, far), key=value.__getitem__)
+        sheet.within[axis].append((low, high, abs(value[number] - value[near]) + 1))
+    return bool(found)
 
 
 def settle(sheet: Sheet, axis: int, step: int) -> None:

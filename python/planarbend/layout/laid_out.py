@@ -273,6 +273,25 @@ def refuse_single(graphs: Any) -> None:
         raise TypeError("layouts takes an iterable of graphs, not a single graph: pass [graph], or call layout_of")
 
 
+Answers = Iterator[tuple[Record, Answer | Refusal]]
+
+
+def answers_of(words: list[str], records: Iterator[Record], most: int, runs: list[Run]) -> Answers:
+    """Yield the answers of one run after another; the list has the run that goes on."""
+    is_last = False
+    while not is_last:
+        runs.append(Run(words, records, most))
+        for record, line in runs[0].lines():
+            yield record, laid_in(line, record.lists)
+        is_last = runs.pop().is_last
+
+
+def answers_by(found: library.Library, records: Iterator[Record], outer: str, drawing: str) -> Answers:
+    """Yield the answers of the library."""
+    for record in records:
+        yield record, found.laid(library.any_record_of(record.lists), outer, drawing)
+
+
 class Layouts:
     """An iterator over the layouts of a stream of graphs, by runs of the program. After a `GraphError`, it continues with the
     next graph."""
@@ -280,23 +299,13 @@ class Layouts:
     def __init__(self, graphs: Iterable[Any], outer: str = "first", words: Iterable[str] = (), most: int = MOST_RECORDS) -> None:
         """Return an iterator, as `layouts`, with at most this many graphs in one run."""
         refuse_single(graphs)
-        self.records: Iterator[Record] = map(Record.of, graphs)
         self.number = 0
-        self.run: Run | None = None
-        self.answers = self._answers(outer, words, most)
+        self.runs: list[Run] = []  # the one that goes on, if there is one
+        self.answers = self._answers(map(Record.of, graphs), outer, words, most)
 
-    def _answers(self, outer: str, words: Iterable[str], most: int) -> Iterator[tuple[Record, Answer | Refusal]]:
+    def _answers(self, records: Iterator[Record], outer: str, words: Iterable[str], most: int) -> Answers:
         """Return the answers for all records, each with its record."""
-        return self._runs([program(), "layout", "--json", "--outer", outer, *words, "-"], most)
-
-    def _runs(self, words: list[str], most: int) -> Iterator[tuple[Record, Answer | Refusal]]:
-        """Yield the answers of one run after another."""
-        is_last = False
-        while not is_last:
-            self.run = Run(words, self.records, most)
-            for record, line in self.run.lines():
-                yield record, laid_in(line, record.lists)
-            is_last, self.run = self.run.is_last, None
+        return answers_of([program(), "layout", "--json", "--outer", outer, *words, "-"], records, most, self.runs)
 
     def __iter__(self) -> Layouts:
         """Return this iterator."""
@@ -307,7 +316,7 @@ class Layouts:
         try:
             record, answer = next(self.answers)
         except BaseException:
-            self.run = None
+            self.runs.clear()
             self.close()
             raise
         self.number += 1
@@ -316,9 +325,8 @@ class Layouts:
     def close(self) -> None:
         """Stop; no layouts follow."""
         self.answers = iter(())
-        if self.run is not None:
-            self.run.stop()
-            self.run = None
+        while self.runs:
+            self.runs.pop().stop()
 
     def __enter__(self) -> Layouts:
         """Return this iterator."""
@@ -330,7 +338,7 @@ class Layouts:
 
     def __del__(self) -> None:
         """Stop, if a run goes on."""
-        if getattr(self, "run", None) is not None:
+        if getattr(self, "runs", None):
             self.close()
 
 
@@ -343,11 +351,10 @@ class LibraryLayouts(Layouts):
         self.library = library.Library()
         super().__init__(graphs, outer, [drawing])
 
-    def _answers(self, outer: str, words: Iterable[str], most: int) -> Iterator[tuple[Record, Answer | Refusal]]:
-        """Yield the answers for all records, each with its record."""
+    def _answers(self, records: Iterator[Record], outer: str, words: Iterable[str], most: int) -> Answers:
+        """Return the answers for all records, each with its record."""
         drawing, = words
-        for record in self.records:
-            yield record, self.library.laid(library.any_record_of(record.lists), outer, drawing)
+        return answers_by(self.library, records, outer, drawing)
 
     def close(self) -> None:
         """Stop, and free the library's memory; no layouts follow."""

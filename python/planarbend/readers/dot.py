@@ -1,4 +1,4 @@
-"""Reads DOT by Graphviz's own parser: `dot -Tcanon` writes out what it read, and `gvpr` lists its nodes and edges."""
+"""Reads DOT by Graphviz's own parser: `nop` writes out what it read, and `gvpr` lists its nodes and edges."""
 from __future__ import annotations
 
 import re
@@ -11,6 +11,7 @@ from planarbend.readers import texts
 from planarbend.readers.attributes import EDGE_KEYS, GRAPH_KEYS, NODE_KEYS, Attributes, palette_of
 from planarbend.readers.building import Builder
 from planarbend.readers.fault import Fault, program
+from planarbend.readers.forms import DOT
 
 PACKAGE = "graphviz"
 LABEL_KEYS = ("label", "xlabel", "headlabel", "taillabel")
@@ -42,9 +43,10 @@ BEGIN {
   string value(string s) { if (ishtml(s)) return "h" + quoted(s); return quoted(s); }
 }
 """
+DEFAULT = rb'node [label="\N"]'  # the label of a node of which nothing is said
 VALUE = re.compile(r'(h?)"([^"]*)"')
 COUNTED = re.compile(r'(?:^|\n)([gne]) ((?:[01] )?)((?:h?"[^"]*" ?)+)')
-SYNTAX = re.compile(r"Error: .*?: (syntax error) in line (\d+)(.*)|Error: (.*)")
+SYNTAX = re.compile(r"Error: .*?: (syntax error) in line (\d+)(.*)")
 ARROWS = {"forward": (False, True), "back": (True, False), "both": (True, True), "none": (False, False)}
 ARROW = {(False, False): Arrow.NONE, (False, True): Arrow.FORWARD, (True, False): Arrow.BACK, (True, True): Arrow.BOTH}
 LATIN = ("latin1", "latin-1", "l1", "iso-8859-1", "iso_8859-1", "iso8859-1", "iso-ir-100")
@@ -59,7 +61,9 @@ def read_dot(data: bytes) -> Graph:
     that is empty. Arrows are by `dir`, `arrowhead` and `arrowtail`. A `Fault` is raised if Graphviz is missing, refuses the
     text (with its line), or finds no graph or several. What else the file says about nodes, edges and the whole is their look.
     """
-    canonical = run([program("dot", PACKAGE), "-Tcanon"], data)
+    head = DOT.match(data)
+    labelled = data[:head.end()] + DEFAULT + data[head.end():] if head else data
+    canonical = run([program("nop", PACKAGE)], labelled)  # `dot -Tcanon` would lay the graph out
     entries = list(listed(run([program("gvpr", PACKAGE), FUNCTIONS + LISTING], canonical)))
     graphs = [entry for entry in entries if entry.kind == "g"]
     if len(graphs) != 1:
@@ -76,10 +80,8 @@ def run(words: list[str], data: bytes) -> bytes:
     """Return the output of a program of Graphviz for these bytes."""
     ran = subprocess.run(words, input=data, capture_output=True, check=False)
     for error in map(SYNTAX.match, ran.stderr.decode(errors="replace").splitlines()):
-        if error and error[1]:
+        if error:
             raise Fault(f"Graphviz: {error[1]}{error[3]}", int(error[2]))
-        if error and ran.returncode:
-            raise Fault(f"Graphviz: {error[4]}")
     if ran.returncode:
         raise Fault(f"Graphviz's {words[0]} ended with status {ran.returncode}")
     return ran.stdout

@@ -45,8 +45,9 @@ FOREIGN_OBJECTS = [
     ({"meta", "project"}, "a project or settings of KiCad"), ({"cells", "nbformat"}, "a Jupyter notebook"),
 ]
 
-SPACE = rb"(?:\s+|/\*.*?\*/|//[^\n]*(?:\n|$)|(?:^|(?<=\n))#[^\n]*(?:\n|$))*"
-IDENTIFIER = rb'(?:"(?:[^"\\]|\\.)*"|[A-Za-z_0-9.\x80-\xff-]+|<[^<>]*>)'
+SPACE = rb"(?:\s|/\*.*?\*/|//[^\n]*(?:\n|$)|(?:^|(?<=\n))#[^\n]*(?:\n|$))*"
+QUOTED = rb'"(?:[^"\\]|\\.)*"'
+IDENTIFIER = rb"(?:" + QUOTED + rb"(?:" + SPACE + rb"\+" + SPACE + QUOTED + rb")*|[A-Za-z_0-9.\x80-\xff-]+|<[^<>]*>)"
 DOT = re.compile(SPACE + rb"(?:strict" + SPACE + rb")?(?:di)?graph\b" + SPACE + rb"(?:" + IDENTIFIER + SPACE + rb")?\{", re.I | re.S)
 GML = re.compile(rb'(?:\s+|#[^\n]*\n|(?!graph\b)[A-Za-z]\w*[ \t]+(?:"[^"]*"|[^\s\["]+)[ \t]*\r?\n)*graph\s*\[')
 XML = re.compile(rb"(?:\s+|<\?.*?\?>|<!--.*?-->|<!DOCTYPE[^>\[]*(?:\[.*?\]\s*)?>)*<(?:[\w.-]+:)?([\w.-]+)", re.S | re.I)

@@ -27,7 +27,7 @@ def of_record(label: str, names: dict[str, str]) -> str:
         if letter == "\\" and place + 1 < len(label):
             place += 1
             text += "" if port else escape(label[place], names)
-        elif letter in "<>":
+        elif letter == ">" or letter == "<" and ">" in label[place:]:
             port = letter == "<"
         elif letter in "|{}" and not port:
             fields.append(text)
