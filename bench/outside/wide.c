@@ -1,0 +1,106 @@
+/*
+ * How long, with how much stack and memory, the library answers graphs of up to 1,200 vertices.
+ *
+ *     wide OUTER DRAWING ROUNDS < GRAPHS
+ *
+ * OUTER and DRAWING are numbers of planarbend.h. GRAPHS are whole numbers of 16 bits: for each graph how many entries its record
+ * has, and these. It prints the nanoseconds of the processor that a graph takes on average, each the least of ROUNDS calls with
+ * one object; the longest of these times; the sum of all bends; the greatest stack of a call; and the memory that the object
+ * then keeps, both in bytes.
+ */
+#define _GNU_SOURCE
+#include <malloc.h>
+#include <pthread.h>
+#include <stdio.h>
+#include <stdlib.h>
+#include <string.h>
+#include <time.h>
+
+#include "planarbend.h"
+
+enum {
+    EDGES = 2 * PLANARBEND_WIDE_MAX_VERTICES,
+    DARTS = 2 * EDGES,
+    BENDS = 6 * PLANARBEND_WIDE_MAX_VERTICES + 4,
+    STACK = 1 << 20,
+    FILLED = 0xA5
+};
+
+static planarbend_turns turns[DARTS];
+static int32_t vertex_prices[PLANARBEND_WIDE_MAX_VERTICES], face_prices[PLANARBEND_WIDE_MAX_VERTICES + 2];
+static uint32_t corner_starts[EDGES + 1];
+static planarbend_point points[PLANARBEND_WIDE_MAX_VERTICES], corners[BENDS];
+static uint8_t angles[DARTS];
+static const planarbend_lists lists = {angles, DARTS, turns, DARTS, vertex_prices, PLANARBEND_WIDE_MAX_VERTICES, face_prices,
+                                       PLANARBEND_WIDE_MAX_VERTICES + 2, points, PLANARBEND_WIDE_MAX_VERTICES, corner_starts,
+                                       EDGES + 1, corners, BENDS};
+static uint16_t record[UINT16_MAX];
+static _Alignas(4096) unsigned char stack[STACK];
+static planarbend *object;
+static planarbend_counts counts;
+
+static double nanoseconds(void) {
+    struct timespec now;
+    clock_gettime(CLOCK_THREAD_CPUTIME_ID, &now);
+    return 1e9 * (double)now.tv_sec + (double)now.tv_nsec;
+}
+
+static size_t allocated(void) {
+    struct mallinfo2 seen = mallinfo2();
+    return seen.uordblks + seen.hblkhd;
+}
+
+static void *call(void *request) {
+    double start = nanoseconds(), *took = malloc(sizeof *took);
+    if (planarbend_layout_wide(object, request, &counts, &lists, NULL) != PLANARBEND_OK) exit(3);
+    if (took != NULL) *took = nanoseconds() - start;
+    return took;
+}
+
+/* Calls on a stack that was filled, and returns how much of it was written. */
+static size_t stack_of(planarbend_wide_request *request) {
+    pthread_t thread;
+    pthread_attr_t options;
+    void *took;
+    memset(stack, FILLED, STACK);
+    pthread_attr_init(&options);
+    pthread_attr_setstack(&options, stack, STACK);
+    if (pthread_create(&thread, &options, call, request) != 0 || pthread_join(thread, &took) != 0) exit(2);
+    free(took);
+    size_t unused = 0;
+    while (unused < STACK && stack[unused] == FILLED) unused++;
+    return STACK - unused;
+}
+
+static double time_of(planarbend_wide_request *request, int rounds) {
+    double least = 1e18;
+    while (rounds-- > 0) {
+        double *took = call(request);
+        if (took == NULL) exit(2);
+        if (*took < least) least = *took;
+        free(took);
+    }
+    return least;
+}
+
+int main(int count, char **words) {
+    uint16_t entries;
+    unsigned long graphs = 0, bends = 0;
+    double sum = 0, longest = 0;
+    size_t most_stack = 0, before = allocated();
+    if (count != 4 || planarbend_new(&object) != PLANARBEND_OK) return 2;
+    for (; fread(&entries, sizeof entries, 1, stdin) == 1; graphs++) {
+        if (fread(record, sizeof *record, entries, stdin) != entries) return 2;
+        planarbend_wide_request request = {sizeof request, record, entries, atoi(words[1]), atoi(words[2]), NULL};
+        size_t used = atoi(words[3]) > 0 ? stack_of(&request) : 0;
+        double took = time_of(&request, atoi(words[3]) > 0 ? atoi(words[3]) : 1);
+        if (used > most_stack) most_stack = used;
+        if (took > longest) longest = took;
+        sum += took;
+        bends += counts.bends;
+    }
+    printf("took=%.0f longest=%.0f bends=%lu stack=%zu memory=%zu\n", sum / (double)graphs, longest, bends, most_stack,
+           allocated() - before);
+    planarbend_free(object);
+    return 0;
+}
