@@ -193,7 +193,7 @@ def main() -> int:
         right += not faults
         alone += not faults and not judge.is_laid_out
     print("\n".join(table(whole)))
-    print(f"{count} files: {right} drawn and right, of which dot itself fails on {alone}; {neither} refused by Graphviz too,"
+    print(f"{count} files: {right} drawn and right, of which dot itself fails on {alone}; {neither} that no program of Graphviz draws,"
           f" {count - right - neither} not")
     return 0 if 40 * right >= 39 * count else 1
 
