@@ -25,6 +25,7 @@ class Planarizer : public ogdf::SubgraphPlanarizer {
   ReturnType doCall(ogdf::PlanRep &plane, int part, const ogdf::EdgeArray<int> *cost, const ogdf::EdgeArray<bool> *forbidden,
                     const ogdf::EdgeArray<__uint32> *parts, int &crossings) override {
     const double start = milliseconds();
+    crossings = 0;  // it does not set them for a planar part
     const ReturnType result = ogdf::SubgraphPlanarizer::doCall(plane, part, cost, forbidden, parts, crossings);
     took += milliseconds() - start;
     return result;
