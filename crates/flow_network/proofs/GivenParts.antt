@@ -132,7 +132,7 @@ some_places turns n =
     ]
 
 -- the left turns of all darts are all turns of the lesser ones, and so are the right turns
-all_parts : (p : PlaneModel) (given : GivenModel) (one other : Option ℤ → ℕ) → HasEnds p → ((g : Option ℤ) → one (walked_back g) ≡ other g) → ((g : Option ℤ) → one g + other g ≡ nat_abs (lefts_given g)) →
+pub all_parts : (p : PlaneModel) (given : GivenModel) (one other : Option ℤ → ℕ) → HasEnds p → ((g : Option ℤ) → one (walked_back g) ≡ other g) → ((g : Option ℤ) → one g + other g ≡ nat_abs (lefts_given g)) →
     sum_below (darts p) (λ d. one (turns_given p given d)) ≤ turns_in_all given.turns
 all_parts p given one other ends back both =
     let n = darts p in
@@ -203,7 +203,7 @@ vertex_plain p v =
     let none : beyond_at_vertex p nothing_given v ≡ 0 = sum_below-none (darts p) (λ d. if head p d == v then beyond_first (angle_given nothing_given d) else 0) (λ d _. zero_or (head p d == v)) in
     less (vertex_degree p v) (beyond_at_vertex p nothing_given v) none
   where
-    zero_or : (c : Bool) → (if c then 0 else 0) ≡ 0
+    zero_or : (c : Bool) → ◌≡◌ {A = ℕ} (if c then 0 else 0) 0
     zero_or true = refl
     zero_or false = refl
 
@@ -219,7 +219,7 @@ face_plain p f =
     ∙ even (sum_below (darts p) (λ _. 0)) in
     less (if f == p.outer then negsuc 3 else pos 4) (degree p f) (beyond_in_face p nothing_given f) (lefts_in_face p nothing_given f) angles turns
   where
-    zero_or : (c : Bool) → (if c then 0 else 0) ≡ 0
+    zero_or : (c : Bool) → ◌≡◌ {A = ℕ} (if c then 0 else 0) 0
     zero_or true = refl
     zero_or false = refl
 
