@@ -1,49 +1,22 @@
 -- Supplies of nodes from which what is given is taken, dart by dart.
-use Rattle.std.proofs.Common.{◌≡◌, ◌≢◌, ℕ, ◌+◌, ◌-◌, ◌*◌, ◌<◌, ◌≤◌, ◌==◌, if◌then◌else◌, Bool, true, false, List, length, get_or, set, length-set, get_or-set_same, get_or-set_other, ◌∙◌, refl, sym, ap, subst, inl, inr, arith}
-use Rattle.std.specs.Prelude.{ℤ, pos, negsuc, ◌+ℤ◌, ◌-ℤ◌, ◌≤ℤ◌, nat_abs, Option, Some, None, slice_index_or}
-use Rattle.std.proofs.lemmas.Bool.{cases_eq, cases_lt, cases_Bool, eq-eqb, ne_eqb}
+use Rattle.std.proofs.Common.{◌≡◌, ◌≢◌, ℕ, ◌+◌, ◌-◌, ◌*◌, ◌^◌, ◌<◌, ◌≤◌, ◌==◌, if◌then◌else◌, Bool, true, false, List, length, get_or, set, length-set, get_or-set_same, get_or-set_other, ◌∙◌, refl, sym, ap, subst, inl, inr, arith}
+use mir.Syntax.{w32}
+use mir.Val.{SFits, of_z, to_z}
+use Rattle.std.specs.Prelude.{ℤ, pos, negsuc, ◌+ℤ◌, ◌-ℤ◌, ◌≤ℤ◌, nat_abs}
+use Rattle.std.proofs.lemmas.Bool.{cases_eq, cases_lt, eq-eqb, ne_eqb}
 use Rattle.std.proofs.lemmas.Int.{ints}
-use Rattle.std.proofs.lemmas.List.{get_or_past}
 use Rattle.common.specs.Sums.{sum_below}
-use Rattle.common.proofs.Sums.{sum_below-more, sum_below-same, sum_below-le, sum_below-none, sum_below-add, sum_below-constant, sum_below-member}
+use Rattle.common.proofs.Sums.{sum_below-more, sum_below-same, sum_below-le, sum_below-none, sum_below-add, sum_below-constant}
 use Rattle.embedding.specs.declared.graphs.TheConstants.{MAX_DARTS}
-use Rattle.embedding.specs.Lesser.{is_lesser_of}
-use Rattle.faces.specs.Planes.{PlaneModel, IsPlane, HasEnds, darts, vertices, head, reverse_dart, face_at, degree}
+use Rattle.faces.specs.Planes.{PlaneModel, IsPlane, HasEnds, darts, vertices, head, face_at, degree}
 use Rattle.faces.proofs.Ends.{plane_ends}
 use Rattle.faces.proofs.Degrees.{degree_few}
 use Rattle.flow_network.specs.declared.given.TheConstants.{MAX_GIVEN_TURNS}
-use Rattle.flow_network.specs.Given.{GivenModel, CanBeGiven, IsAngle, angle_given, turns_given, walked_back, beyond_first, lefts_given, turns_in_all}
+use Rattle.flow_network.specs.Given.{GivenModel, CanBeGiven, angle_given, turns_given, beyond_first, lefts_given}
 use Rattle.flow_network.specs.FaceNet.{vertex_degree, beyond_at_vertex, beyond_in_face, lefts_in_face, vertex_has_to_turn, face_has_to_turn}
-use Rattle.flow_network.proofs.GivenParts.{left_part, right_part, lefts_parts, both_parts, beyond_first_few, lefts_of_face, rights_of_face, face_parts}
+use Rattle.flow_network.proofs.GivenParts.{left_part, right_part, lefts_parts, both_parts, abs_le, beyond_first_few, turns_few, lefts_of_face, rights_of_face, face_parts}
 use Rattle.flow_network.proofs.OuterSet.{same_test}
 use Rattle.flow_network.proofs.VertexDegrees.{arrivals_most}
-
--- ---- how many turns are given along one dart
-
-abs_back : (g : Option ℤ) → nat_abs (lefts_given (walked_back g)) ≡ nat_abs (lefts_given g)
-abs_back None = refl
-abs_back (Some (pos zero)) = refl
-abs_back (Some (pos (suc n))) = omega arith
-abs_back (Some (negsuc n)) = omega arith
-
--- what stands at one place of a list is no more than what stands at all
-pub listed_few : (turns : List (Option ℤ)) → turns_in_all turns ≤ MAX_GIVEN_TURNS → (d : ℕ) → nat_abs (lefts_given (slice_index_or turns d None)) ≤ MAX_GIVEN_TURNS
-listed_few turns few d =
-    elim (cases_lt d (length turns)) [
-      | inl inside ↦ omega (arith, few, sum_below-member (length turns) d (λ e. nat_abs (lefts_given (slice_index_or turns e None))) inside)
-      | inr past ↦ subst (λ (g : Option ℤ). nat_abs (lefts_given g) ≤ MAX_GIVEN_TURNS) (sym (get_or_past turns d None past)) (omega arith)
-    ]
-
-pub turns_few : (p : PlaneModel) (given : GivenModel) → CanBeGiven given.angles given.turns → (d : ℕ) → nat_abs (lefts_given (turns_given p given d)) ≤ MAX_GIVEN_TURNS
-turns_few p given can d =
-    by_dart (is_lesser_of p.lists d) (slice_index_or given.turns d None) (slice_index_or given.turns (reverse_dart p d) None)
-    (listed_few given.turns can.few d) (listed_few given.turns can.few (reverse_dart p d))
-  where
-    by_dart : (c : Bool) (g h : Option ℤ) → nat_abs (lefts_given g) ≤ MAX_GIVEN_TURNS → nat_abs (lefts_given h) ≤ MAX_GIVEN_TURNS → nat_abs (lefts_given (if c then g else walked_back h)) ≤ MAX_GIVEN_TURNS
-    by_dart true g h one other = one
-    by_dart false g h one other = omega (arith, abs_back h, other)
-
--- ---- supplies, dart by dart
 
 -- what dart d adds to node k, and what it takes from it
 abbrev pub added_at : PlaneModel → GivenModel → ℕ → ℕ → ℕ
@@ -78,12 +51,12 @@ put xs j z x y k b is =
     ]
   where
     here : (w z a a' : ℤ) (c : Bool) (x y : ℕ) → c ≡ true → w ≡ z → z ≡ a +ℤ pos x -ℤ pos y → a' ≡ a → w ≡ a' +ℤ pos (if c then x else 0) -ℤ pos (if c then y else 0)
-    here w z a a' true x y yes e f g = omega (arith, ints)
-    here w z a a' false x y yes e f g = cc
+    here w z a a' true x y on e f g = omega (arith, ints)
+    here w z a a' false x y on e f g = cc
 
     there : (w a : ℤ) (c : Bool) (x y : ℕ) → c ≡ false → w ≡ a → w ≡ a +ℤ pos (if c then x else 0) -ℤ pos (if c then y else 0)
-    there w a true x y no e = cc
-    there w a false x y no e = omega (arith, ints)
+    there w a true x y off e = cc
+    there w a false x y off e = omega (arith, ints)
 
 -- one more dart
 pub taken_next : (p : PlaneModel) (given : GivenModel) (old xs : List ℤ) (n v f : ℕ) (y z : ℤ) → AreTaken p given old xs n → v < length xs → f < length xs →
@@ -191,6 +164,56 @@ taken_bound p given old xs n plane can plain taken k l =
         let high = near.1 in
         (omega (arith, ints), omega (arith, ints))
 
+-- ---- they fit 32 bits
+
+abbrev pub IsNear : ℤ → Type 0
+IsNear z = ((pos 0 -ℤ pos (2 ^ 30)) ≤ℤ z) × (z ≤ℤ pos (2 ^ 30))
+
+pub taken_near : (p : PlaneModel) (given : GivenModel) (old xs : List ℤ) (n : ℕ) → IsPlane p → CanBeGiven given.angles given.turns → ArePlain p old → AreTaken p given old xs n → n ≤ MAX_DARTS → (k : ℕ) → k < length xs → IsNear (get_or xs k (pos 0))
+taken_near p given old xs n plane can plain taken few k l = close (get_or xs k (pos 0)) n few (taken_bound p given old xs n plane can plain taken k l)
+  where
+    close : (z : ℤ) (n : ℕ) → n ≤ MAX_DARTS → ((pos 0 -ℤ pos (MAX_DARTS + 4 + n * (MAX_GIVEN_TURNS + 3))) ≤ℤ z) × (z ≤ℤ pos (4 + n * (MAX_GIVEN_TURNS + 3))) → IsNear z
+    close z n few (low, high) = (omega (arith, ints), omega (arith, ints))
+
+pub difference_fits : (a b : ℤ) (k : ℕ) → IsNear a → b ≡ pos k → k ≤ 3 → SFits w32 (to_z w32 (of_z w32 a) -ℤ to_z w32 (of_z w32 b))
+difference_fits a b k (low, high) is few = grind (arith, ints)
+
+pub difference_is : (a b : ℤ) (k : ℕ) → IsNear a → b ≡ pos k → k ≤ 3 → to_z w32 (of_z w32 (to_z w32 (of_z w32 a) -ℤ to_z w32 (of_z w32 b))) ≡ a -ℤ pos k
+difference_is a b k (low, high) is few = omega (arith, ints)
+
+-- right angles less turns
+pub gain_fits : (b t : ℤ) (k : ℕ) → b ≡ pos k → k ≤ 3 → nat_abs t ≤ MAX_GIVEN_TURNS → SFits w32 (to_z w32 (of_z w32 b) -ℤ to_z w32 (of_z w32 t))
+gain_fits b t k is few turns =
+    let low = (abs_le t MAX_GIVEN_TURNS turns).0 in
+    let high = (abs_le t MAX_GIVEN_TURNS turns).1 in
+    grind (arith, ints)
+
+pub sum_fits : (a b t : ℤ) (k : ℕ) → IsNear a → b ≡ pos k → k ≤ 3 → nat_abs t ≤ MAX_GIVEN_TURNS → SFits w32 (to_z w32 (of_z w32 a) +ℤ to_z w32 (of_z w32 (to_z w32 (of_z w32 b) -ℤ to_z w32 (of_z w32 t))))
+sum_fits a b t k (low, high) is few turns =
+    let least = (abs_le t MAX_GIVEN_TURNS turns).0 in
+    let most = (abs_le t MAX_GIVEN_TURNS turns).1 in
+    grind (arith, ints)
+
+pub sum_is : (a b t u : ℤ) (k : ℕ) → IsNear a → b ≡ pos k → k ≤ 3 → t ≡ u → nat_abs u ≤ MAX_GIVEN_TURNS →
+    to_z w32 (of_z w32 (to_z w32 (of_z w32 a) +ℤ to_z w32 (of_z w32 (to_z w32 (of_z w32 b) -ℤ to_z w32 (of_z w32 t))))) ≡ a +ℤ (pos k -ℤ u)
+sum_is a b t u k (low, high) is few same turns =
+    let least = (abs_le u MAX_GIVEN_TURNS turns).0 in
+    let most = (abs_le u MAX_GIVEN_TURNS turns).1 in
+    omega (arith, ints)
+
+-- the node of a vertex is none of a face
+pub written_near : (xs : List ℤ) (v f : ℕ) (y : ℤ) → v ≢ f → IsNear (get_or xs f (pos 0)) → IsNear (get_or (set xs v y) f (pos 0))
+written_near xs v f y apart near = subst IsNear (sym (get_or-set_other xs v f y (pos 0) (λ e. apart (sym e)))) near
+
+-- ---- what one vertex has to turn
+
+pub units_fit : (u b : ℤ) (k s n : ℕ) → u ≡ pos 4 -ℤ pos k -ℤ pos s → (pos 0 -ℤ pos (251 + 3 * n)) ≤ℤ u → n ≤ MAX_DARTS → pos 0 ≤ℤ b → b ≤ℤ pos 3 → SFits w32 (u -ℤ to_z w32 (of_z w32 b))
+units_fit u b k s n sum low few some most = grind (arith, ints)
+
+pub units_next : (u b : ℤ) (k s s' x n : ℕ) → u ≡ pos 4 -ℤ pos k -ℤ pos s → (pos 0 -ℤ pos (251 + 3 * n)) ≤ℤ u → n ≤ MAX_DARTS → b ≡ pos x → b ≤ℤ pos 3 → s' ≡ s + x →
+    (to_z w32 (of_z w32 (u -ℤ to_z w32 (of_z w32 b))) ≡ pos 4 -ℤ pos k -ℤ pos s') × ((pos 0 -ℤ pos (251 + 3 * (n + 1))) ≤ℤ to_z w32 (of_z w32 (u -ℤ to_z w32 (of_z w32 b))))
+units_next u b k s s' x n sum low few is most more = (omega (arith, ints), omega (arith, ints))
+
 -- ---- once all darts are taken
 
 pub taken_vertex : (p : PlaneModel) (given : GivenModel) (old xs : List ℤ) → HasEnds p → ArePlain p old → AreTaken p given old xs (darts p) → (v : ℕ) → 1 ≤ v → v ≤ vertices p →
@@ -209,16 +232,16 @@ taken_vertex p given old xs ends plain taken v some most =
     (taken.each k (omega (arith, plain.nodes, some, most))) (plain.at_vertex v some most) added took
   where
     nothing : (c : Bool) (x : ℕ) → c ≡ false → (if c then x else 0) ≡ 0
-    nothing true x no = cc
-    nothing false x no = refl
+    nothing true x off = cc
+    nothing false x off = refl
 
     only : (c e f : Bool) (b l : ℕ) → c ≡ e → f ≡ false → (if c then b else 0) + (if f then l else 0) ≡ (if e then b else 0)
-    only true true true b l same no = cc
-    only true true false b l same no = omega arith
-    only true false f b l same no = cc
-    only false true f b l same no = cc
-    only false false true b l same no = cc
-    only false false false b l same no = omega arith
+    only true true true b l same off = cc
+    only true true false b l same off = omega arith
+    only true false f b l same off = cc
+    only false true f b l same off = cc
+    only false false true b l same off = cc
+    only false false false b l same off = omega arith
 
     alike : (h v : ℕ) → 1 ≤ h → 1 ≤ v → (h - 1 == v - 1) ≡ (h == v)
     alike h v one some =
@@ -257,11 +280,11 @@ taken_face p given old xs ends plain taken f f_in =
     both false false b r same = refl
 
     only : (c f e : Bool) (b l : ℕ) → c ≡ false → f ≡ e → (if c then b else 0) + (if f then l else 0) ≡ (if e then l else 0)
-    only true f e b l no same = cc
-    only false true true b l no same = omega arith
-    only false true false b l no same = cc
-    only false false true b l no same = cc
-    only false false false b l no same = omega arith
+    only true f e b l off same = cc
+    only false true true b l off same = omega arith
+    only false true false b l off same = cc
+    only false false true b l off same = cc
+    only false false false b l off same = omega arith
 
     close : (z a turn t : ℤ) (k x y b l r : ℕ) → z ≡ a +ℤ pos x -ℤ pos y → a ≡ turn -ℤ pos k → x ≡ b + r → y ≡ l → t ≡ pos l -ℤ pos r → z ≡ turn -ℤ pos k +ℤ pos b -ℤ t
     close z a turn t k x y b l r e f g h i = omega (arith, ints)

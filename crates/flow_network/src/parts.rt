@@ -1,9 +1,9 @@
 //! Supplies and arcs of the flow network of a plane (Tamassia 1987).
 
-ghost use Rattle.std.specs.Prelude.{◌≡◌, ◌+◌, ◌-◌, ◌<◌, ◌≤◌, ◌==◌, if◌then◌else◌, ℕ, pos, negsuc, ◌-ℤ◌, IfOk, length, slice_index_or};
+ghost use Rattle.std.specs.Prelude.{◌≡◌, ◌+◌, ◌-◌, ◌<◌, ◌≤◌, ◌==◌, if◌then◌else◌, ℕ, pos, negsuc, ◌-ℤ◌, ◌≤ℤ◌, IfOk, length, slice_index_or};
 ghost use Rattle.faces.specs.Planes.{darts, vertices, head, reverse_dart, face_at, degree};
 ghost use Rattle.networks.specs.Networks.{no_arc};
-ghost use Rattle.flow_network.specs.Given.{CanBeGiven, angle_given, turns_given};
+ghost use Rattle.flow_network.specs.Given.{CanBeGiven, angle_given, turns_given, beyond_first};
 ghost use Rattle.flow_network.specs.FaceNet.{vertex_degree, vertex_has_to_turn, face_has_to_turn, corner_cap, crossing_cap};
 
 use crate::given::{Given, beyond, lefts};
@@ -41,11 +41,22 @@ pub fn vertex_to_turn(plane: &Plane, given: &Given<'_>, vertex: u16) -> i32
 {
     let mut units = 4 - i32::from(degree_of(plane, vertex));
     for dart in 0..plane.graph().darts() {
-        if plane.graph().head(dart) == vertex {
-            units -= beyond(given.angle(dart));
-        }
+        units -= beyond_at(plane, given, dart, vertex);
     }
     units
+}
+
+/// How many right angles beyond the first a dart's given angle has at a vertex: none if the dart does not arrive there.
+fn beyond_at(plane: &Plane, given: &Given<'_>, dart: u16, vertex: u16) -> i32
+    requires { dart < darts plane.now }
+    ensures value { result ≡ pos (if head plane.now dart == vertex then beyond_first (angle_given given.now dart) else 0) }
+    ensures few { result ≤ℤ pos 3 }
+{
+    if plane.graph().head(dart) == vertex {
+        beyond(given.angle(dart))
+    } else {
+        0
+    }
 }
 
 /// Returns the supply of each node of the plane's flow network: of all vertices, then of all faces.
@@ -63,9 +74,10 @@ pub fn supplies_of(
         → slice_index_or s.items (vertices plane.now + f) (pos 0) ≡ face_has_to_turn plane.now given.now f) }
 {
     let mut supplies = supplies_of_plane(old, plane)?;
-    if !given.is_nothing() {
-        take_given(&mut supplies, plane, given);
+    if given.is_nothing() {
+        return Ok(supplies);
     }
+    take_given(&mut supplies, plane, given);
     Ok(supplies)
 }
 

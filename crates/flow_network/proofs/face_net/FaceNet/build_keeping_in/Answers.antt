@@ -18,7 +18,7 @@ of_lists-requires c =
       at_vertex = c.in_ok-supplies.ensures.at_vertex;
       at_face = c.in_ok-supplies.ensures.at_face;
     } in
-    net_sound c.args.plane.now net c.graph.ensures.plane c.is_nothing.ensures.can is
+    net_sound c.args.plane.now net c.graph.ensures.plane c.is_nothing-is_nothing.ensures.can is
 
 pub returns-clause-flow : goal.returns-clause-flow
 returns-clause-flow c none =
