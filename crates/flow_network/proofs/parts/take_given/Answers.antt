@@ -29,7 +29,7 @@ overflow_sub-supplies-in-take c =
     let p = c.args.plane.now in
     let given = c.args.given.now in
     let d = c.take.dart in
-    gain_fits _ _ (beyond_first (angle_given given d)) (c.beyond-angle.ensures ∙ ap (λ (k : ℕ). pos k) (ap beyond_first c.angle.ensures.value)) (beyond_first_few given c.requires.can d)
+    gain_fits _ c.lefts.result (beyond_first (angle_given given d)) (c.beyond-angle.ensures ∙ ap (λ (k : ℕ). pos k) (ap beyond_first c.angle.ensures.value)) (beyond_first_few given c.requires.can d)
     (omega (arith, c.lefts.ensures ∙ ap lefts_given c.turns.ensures.value, turns_few p given c.requires.can d))
 
 pub overflow_add-supplies : goal.overflow_add-supplies
@@ -48,7 +48,7 @@ overflow_add-supplies c =
     let within : c.from-first_face.result + c.from.result < length c.take.supplies = omega (arith, face, ends.face_named d inside, c.take.invariant.size, c.requires.nodes) in
     let apart : c.from-vertex.result - 1 ≢ c.from-first_face.result + c.from.result = λ e. omega (arith, e, face, vertex, ends.head_from d inside, ends.head_to d inside) in
     let plain : ArePlain p c.args.supplies.now = record { nodes = c.requires.nodes; at_vertex = c.requires.at_vertex; at_face = c.requires.at_face } in
-    sum_fits _ _ _ (beyond_first (angle_given given d))
+    sum_fits _ _ c.lefts.result (beyond_first (angle_given given d))
     (written_near c.take.supplies _ _ _ apart (taken_near p given _ _ d plane c.requires.can plain c.take.invariant (omega (arith, inside, ends.few_darts)) _ within))
     (c.beyond-angle.ensures ∙ ap (λ (k : ℕ). pos k) (ap beyond_first c.angle.ensures.value)) (beyond_first_few given c.requires.can d)
     (omega (arith, c.lefts.ensures ∙ ap lefts_given c.turns.ensures.value, turns_few p given c.requires.can d))

@@ -12,13 +12,13 @@ use Rattle.flow_network.specs.FaceNet.{vertex_degree}
 use Rattle.flow_network.proofs.Taken.{units_fit, units_next}
 use Rattle.flow_network.proofs.parts.vertex_to_turn.Goals as goal
 
-pub overflow_sub-units : goal.overflow_sub-units
-overflow_sub-units c =
-    units_fit _ _ _ _ c.loop-dart.dart c.loop-dart.invariant.sum c.loop-dart.invariant.low (omega (arith, c.darts-dart-end.ensures.few)) (omega (arith, ints, c.beyond_at.ensures.value)) c.beyond_at.ensures.few
+pub overflow_sub-units-in-loop-dart : goal.overflow_sub-units-in-loop-dart
+overflow_sub-units-in-loop-dart c =
+    units_fit _ _ _ _ c.loop-dart.dart c.loop-dart.invariant.sum c.loop-dart.invariant.low (omega (arith, c.darts-dart-end.ensures.few)) (omega (arith, ints, c.beyond_at-units.ensures.value)) c.beyond_at-units.ensures.few
 
 pub loop-dart-preserved : goal.loop-dart-preserved
 loop-dart-preserved c =
-    let next = units_next _ _ _ _ _ _ c.loop-dart.dart c.loop-dart.invariant.sum c.loop-dart.invariant.low (omega (arith, c.darts-dart-end.ensures.few)) c.beyond_at.ensures.value c.beyond_at.ensures.few
+    let next = units_next _ _ _ _ _ _ c.loop-dart.dart c.loop-dart.invariant.sum c.loop-dart.invariant.low (omega (arith, c.darts-dart-end.ensures.few)) c.beyond_at-units.ensures.value c.beyond_at-units.ensures.few
     (sum_below-more c.loop-dart.dart (λ d. if head c.args.plane.now d == c.args.vertex then beyond_first (angle_given c.args.given.now d) else 0)) in
     record { sum = next.0; low = next.1 }
 
