@@ -62,11 +62,7 @@ fn beyond_at(plane: &Plane, given: &Given<'_>, dart: u16, vertex: u16) -> i32
 /// Returns the supply of each node of the plane's flow network: of all vertices, then of all faces.
 ///
 /// Each is what the vertex or the face has to turn besides what is given. Reuses the buffer of `old`.
-pub fn supplies_of(
-    old: Vec<i32>,
-    plane: &Plane,
-    given: &Given<'_>,
-) -> Result<Vec<i32>, AllocError>
+pub fn supplies_of(old: Vec<i32>, plane: &Plane, given: &Given<'_>) -> Result<Vec<i32>, AllocError>
     ensures nodes { IfOk result (λ s. length s.items ≡ vertices plane.now + plane.now.faces) }
     ensures at_vertex { IfOk result (λ s. (v : ℕ) → 1 ≤ v → v ≤ vertices plane.now
         → slice_index_or s.items (v - 1) (pos 0) ≡ vertex_has_to_turn plane.now given.now v) }

@@ -1,5 +1,5 @@
 use Rattle.std.proofs.Common.{◌≡◌, ◌+◌, ◌==◌, if◌then◌else◌, ℕ, ap, arith, subst}
-use Rattle.std.specs.Prelude.{ℤ, pos, ◌-ℤ◌}
+use Rattle.std.specs.Prelude.{pos, ◌-ℤ◌}
 use Rattle.std.proofs.lemmas.Int.{ints}
 use mir.Syntax.{w32}
 use mir.Val.{to_z}
