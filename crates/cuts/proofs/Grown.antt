@@ -1,7 +1,7 @@
 -- Marks that are pushed one after another.
 use Rattle.std.proofs.Common.{◌≡◌, ◌∙◌, ℕ, zero, suc, ◌+◌, ◌<◌, Bool, false, List, [], ◌∷◌, ◌++◌, length, ap, arith, inl, inr, subst, sym}
 use Rattle.std.proofs.lemmas.Bool.{cases_eq}
-use Rattle.flow_network.specs.Straight.{is_marked}
+use Rattle.flow_network.specs.Marks.{is_marked}
 use Rattle.flow_network.proofs.GrowingLists.{push_keeps}
 
 last_mark : (xs : List Bool) (x : Bool) (k : ℕ) → k ≡ length xs → is_marked (xs ++ x ∷ []) k ≡ x

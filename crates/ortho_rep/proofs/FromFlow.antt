@@ -24,35 +24,10 @@ use Rattle.ortho_rep.specs.OfFlow.{lefts_then_rights, angles_of, strings_of}
 use Rattle.ortho_rep.specs.Prices.{PricesModel, IsPricedKeeping, ProveKeeping, IsProofKeeping, vertex_price, face_price}
 use Rattle.ortho_rep.specs.Shapes.{ShapeModel, angle_at, turns_at}
 use Rattle.ortho_rep.proofs.FewTurns.{few_turns_keeping}
-use Rattle.ortho_rep.proofs.TurnCounts.{lefts-cons, rights-cons}
+use Rattle.ortho_rep.proofs.FlowStrings.{lefts-lefts_then_rights, rights-lefts_then_rights, mirrored-lefts_then_rights}
 use Rattle.ortho_rep.proofs.WeakDuality.{part_at, left_sums, right_sums, turning-split, least_keeping_by_prices}
 use Rattle.ortho_rep.proofs.Priced.{tight_of}
 use Rattle.ortho_rep.proofs.SameAtDarts.{rep-alike, prove_keeping-alike}
-
-pub lefts-lefts_then_rights : (l r : ℕ) → lefts (lefts_then_rights l r) ≡ l
-lefts-lefts_then_rights zero zero = refl
-lefts-lefts_then_rights zero (suc r) = omega (arith, lefts-cons Right (lefts_then_rights zero r), lefts-lefts_then_rights zero r)
-lefts-lefts_then_rights (suc l) r = omega (arith, lefts-cons Left (lefts_then_rights l r), lefts-lefts_then_rights l r)
-
-pub rights-lefts_then_rights : (l r : ℕ) → rights (lefts_then_rights l r) ≡ r
-rights-lefts_then_rights zero zero = refl
-rights-lefts_then_rights zero (suc r) = omega (arith, rights-cons Right (lefts_then_rights zero r), rights-lefts_then_rights zero r)
-rights-lefts_then_rights (suc l) r = omega (arith, rights-cons Left (lefts_then_rights l r), rights-lefts_then_rights l r)
-
-same-exchanged : (n : ℕ) (x : Turn) → map opposite (reverse (replicate n x)) ≡ replicate n (opposite x)
-same-exchanged zero x = refl
-same-exchanged (suc n) x =
-    ap (map opposite) (reverse-append (x ∷ []) (replicate n x))
-    ∙ (map-append opposite (reverse (replicate n x)) (x ∷ [])
-    ∙ (ap (λ (t : List Turn). t ++ opposite x ∷ []) (same-exchanged n x)
-    ∙ (replicate-append-replicate n 1 (opposite x) ∙ ap (λ (k : ℕ). replicate k (opposite x)) (add-one n))))
-
-pub mirrored-lefts_then_rights : (l r : ℕ) → mirrored (lefts_then_rights l r) ≡ lefts_then_rights r l
-mirrored-lefts_then_rights l r =
-    ap (map opposite) (reverse-append (replicate l Left) (replicate r Right))
-    ∙ (map-append opposite (reverse (replicate r Right)) (reverse (replicate l Left))
-    ∙ (ap (λ (t : List Turn). t ++ map opposite (reverse (replicate l Left))) (same-exchanged r Right)
-    ∙ ap (λ (t : List Turn). replicate r Left ++ t) (same-exchanged l Left)))
 
 pub length-lefts_then_rights : (l r : ℕ) → length (lefts_then_rights l r) ≡ l + r
 length-lefts_then_rights l r = omega (arith, length-append (replicate l Left) (replicate r Right), length-replicate l Left, length-replicate r Right)

@@ -17,7 +17,8 @@ use Rattle.ortho_rep.specs.Representation.{Rep, angles_around, turning_of, turni
 use Rattle.ortho_rep.specs.Keeping.{Keeps, HasNoneKeeping}
 use Rattle.ortho_rep.specs.OfFlow.{angles_of, strings_of}
 use Rattle.ortho_rep.proofs.WeakDuality.{rights_are}
-use Rattle.ortho_rep.proofs.FromFlow.{lefts-lefts_then_rights, rights-lefts_then_rights, vertex_balance, face_balance}
+use Rattle.ortho_rep.proofs.FlowStrings.{lefts-lefts_then_rights, rights-lefts_then_rights}
+use Rattle.ortho_rep.proofs.FromFlow.{vertex_balance, face_balance}
 
 -- what arc i carries
 abbrev pub units_of : PlaneModel → (ℕ → ℕ) → (ℕ → List Turn) → ℕ → ℕ

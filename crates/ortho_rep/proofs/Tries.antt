@@ -19,7 +19,8 @@ use Rattle.ortho_rep.specs.OfFlow.{angles_of, strings_of}
 use Rattle.ortho_rep.specs.Best.{HasRep, NeedsBends, IsBest}
 use Rattle.ortho_rep.specs.Tries.{IsIncumbent, IsNoWorse, IsNoBetter, AreBounds}
 use Rattle.ortho_rep.proofs.WeakDuality.{lefts_of, lengths-twice, least_by_prices, more_by_prices, all_keep}
-use Rattle.ortho_rep.proofs.FromFlow.{lefts-lefts_then_rights, rep_of_flow, prove_of_potentials}
+use Rattle.ortho_rep.proofs.FlowStrings.{lefts-lefts_then_rights}
+use Rattle.ortho_rep.proofs.FromFlow.{rep_of_flow, prove_of_potentials}
 
 -- a face that is no better than one is no better than a better one
 pub no_better_still : (p : PlaneModel) (bends face lower other f : ℕ) → lower ≤ bends → (lower ≡ bends → other ≤ face) → IsNoBetter p bends face f → IsNoBetter p lower other f

@@ -9,7 +9,7 @@ use Rattle.planarbend_c.specs.Sources.{Input, IsOneRecord, IsTooLarge, input_lis
 use Rattle.planarbend_c.specs.Faults.{IsKeepingFault}
 use Rattle.planarbend_c.specs.declared.counts.Counts.{Counts}
 use Rattle.planarbend_c.specs.declared.outcome.Outcome.{Outcome}
-use Rattle.planarbend_c.specs.declared.outcome.Outcome.TheVariants.{Laid, Refused, NotARecord, Memory, Room, Argument, NoShape, NoEdge, NoOuter, Wide, Large}
+use Rattle.planarbend_c.specs.declared.outcome.Outcome.TheVariants.{Laid, Refused, NotARecord, Memory, Room, Argument, NoShape, NoEdge, NoOuter, Wide, Large, Conflict}
 use Rattle.planarbend_c.specs.Requests.{choice_in, drawing_in}
 use Rattle.planarbend_c.specs.Held.{ListsModel}
 use Rattle.planarbend_c.specs.Found.{Finding, IsAsAsked, IsFound, IsFoundKeeping, AreCounts, HoldFinding, HaveRoom}
@@ -53,15 +53,16 @@ IsOutcomeOf Is Unkept input outer drawing counts lists NotARecord = (¬ IsOneRec
 -- nothing is said
 IsOutcomeOf Is Unkept input outer drawing counts lists Memory = ⊤
 IsOutcomeOf Is Unkept input outer drawing counts lists Room = LacksRoom Is input outer drawing counts lists
-IsOutcomeOf Is Unkept input outer drawing counts lists Argument = AsksNothing outer drawing
+IsOutcomeOf Is Unkept input outer drawing counts lists Argument = AsksNothing outer drawing ⊎ Unkept Argument
 IsOutcomeOf Is Unkept input outer drawing counts lists NoShape = Unkept NoShape
 IsOutcomeOf Is Unkept input outer drawing counts lists NoEdge = Unkept NoEdge
 IsOutcomeOf Is Unkept input outer drawing counts lists NoOuter = Unkept NoOuter
 IsOutcomeOf Is Unkept input outer drawing counts lists Wide = Unkept Wide
+IsOutcomeOf Is Unkept input outer drawing counts lists Conflict = Unkept Conflict
 -- the number of vertices is above the maximum
 IsOutcomeOf Is Unkept input outer drawing counts lists Large = IsTooLarge input
 
--- without conditions `NoShape`, `NoEdge`, `NoOuter` and `Wide` do not come
+-- without conditions these do not come
 abbrev pub IsOutcome : Input → ℕ → ℕ → Counts → ListsModel → Outcome → Type 0
 IsOutcome input outer drawing counts lists outcome = IsOutcomeOf IsFound (λ _. ⊥) input outer drawing counts lists outcome
 

@@ -118,7 +118,9 @@ fn unkept(fault: KeepFault, cut: &mut CutLists<'_>) -> Outcome
             put_cut(cut, &why);
             Outcome::NoShape
         }
+        KeepFault::NoAngle | KeepFault::TooManyTurns => Outcome::Argument,
         KeepFault::NoEdge => Outcome::NoEdge,
+        KeepFault::Conflict => Outcome::Conflict,
         KeepFault::NoOuter => Outcome::NoOuter,
         KeepFault::Memory => Outcome::Memory,
     }

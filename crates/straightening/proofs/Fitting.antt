@@ -8,7 +8,7 @@ use Rattle.faces.specs.Planes.{PlaneModel, darts, head, reverse_dart, face_at}
 use Rattle.ortho_rep.specs.declared.turn.Turn.{Turn}
 use Rattle.ortho_rep.specs.Turns.{lefts}
 use Rattle.ortho_rep.specs.Prices.{PricesModel, IsPriced, vertex_price, face_price}
-use Rattle.ortho_rep.proofs.FromFlow.{lefts-lefts_then_rights}
+use Rattle.ortho_rep.proofs.FlowStrings.{lefts-lefts_then_rights}
 use Rattle.straightening.specs.Flows.{Agree, string_in}
 
 -- of one dart

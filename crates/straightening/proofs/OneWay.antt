@@ -9,7 +9,8 @@ use Rattle.ortho_rep.specs.declared.turn.TheConstants.{MAX_REPEATS}
 use Rattle.ortho_rep.specs.Representation.{Rep}
 use Rattle.ortho_rep.specs.Prices.{PricesModel, vertex_price, face_price}
 use Rattle.ortho_rep.proofs.FewTurns.{few_turns}
-use Rattle.ortho_rep.proofs.FromFlow.{lefts-lefts_then_rights, length-lefts_then_rights}
+use Rattle.ortho_rep.proofs.FlowStrings.{lefts-lefts_then_rights}
+use Rattle.ortho_rep.proofs.FromFlow.{length-lefts_then_rights}
 use Rattle.straightening.specs.Flows.{angle_in, string_in, Agree}
 
 pub one_way : (p : PlaneModel) (angles lefts : List ℕ) (t : PricesModel) → HasEnds p → Agree p angles lefts t → (d : ℕ) → d < darts p → 0 < slice_index lefts d → slice_index lefts (reverse_dart p d) ≡ 0

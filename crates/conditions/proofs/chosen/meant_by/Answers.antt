@@ -1,6 +1,6 @@
 use Rattle.std.proofs.Common.{◌≡◌, List, Bool, true, inl, inr, subst}
 use Rattle.std.proofs.lemmas.Bool.{both_ways}
-use Rattle.flow_network.specs.Straight.{is_marked}
+use Rattle.flow_network.specs.Marks.{is_marked}
 use Rattle.conditions.proofs.chosen.meant_by.Goals as goal
 
 pub returns-then-not-are_darts-clause-fault : goal.returns-then-not-are_darts-clause-fault

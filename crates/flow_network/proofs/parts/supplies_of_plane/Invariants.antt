@@ -2,7 +2,7 @@ use Rattle.std.proofs.Common.{◌≡◌, ◌+◌, ◌<◌, ◌==◌, if◌then�
 use Rattle.std.specs.Prelude.{pos, negsuc, ◌-ℤ◌}
 use Rattle.faces.specs.Planes.{vertices, degree}
 use Rattle.flow_network.specs.FaceNet.{vertex_degree}
-use Rattle.flow_network.proofs.parts.supplies_of.Given as goal
+use Rattle.flow_network.proofs.parts.supplies_of_plane.Given as goal
 
 abbrev pub invariant-vertices : goal.invariant-vertices
 invariant-vertices l = record {

@@ -1,0 +1,65 @@
+-- What a flow carries and what is given, of one dart: an angle and its turns are the two together, since nothing flows where
+-- something is given.
+use Rattle.std.proofs.Common.{◌≡◌, ℕ, zero, suc, ◌+◌, ◌-◌, ◌≤◌, List, replicate, ◌∙◌, refl, sym, ap, arith}
+use Rattle.std.specs.Prelude.{ℤ, pos, negsuc, neg_ℤ, Option, Some, None}
+use Rattle.networks.specs.Flow.{IsWithinCap}
+use Rattle.ortho_rep.specs.declared.turn.Turn.{Turn}
+use Rattle.ortho_rep.specs.declared.turn.Turn.TheVariants.{Left, Right}
+use Rattle.flow_network.specs.Given.{IsAngle, walked_back, beyond_first}
+use Rattle.flow_network.specs.FaceNet.{corner_cap, crossing_cap}
+use Rattle.flow_network.proofs.GivenParts.{left_part, right_part}
+use Rattle.ortho_rep.specs.Turns.{mirrored, lefts, rights}
+use Rattle.ortho_rep.specs.Keeping.{one_way}
+use Rattle.ortho_rep.specs.OfFlow.{lefts_then_rights, angle_or, turns_or}
+use Rattle.ortho_rep.proofs.TurnCounts.{lefts-lefts_only, lefts-rights_only, rights-lefts_only, rights-rights_only}
+use Rattle.ortho_rep.proofs.FlowStrings.{same-exchanged, lefts-lefts_then_rights, rights-lefts_then_rights, mirrored-lefts_then_rights}
+
+-- an angle has one right angle, what its corner arc carries, and what is given beyond
+pub angle_units : (given : Option ℕ) (units : ℕ) → IsAngle given → IsWithinCap (corner_cap given) units → angle_or given units ≡ units + 1 + beyond_first given
+angle_units None units is within = omega arith
+angle_units (Some k) units is within =
+    let none : units ≤ 0 = within in
+    omega (arith, is.0, none)
+
+-- so it is 1 to 4
+pub angle_within : (given : Option ℕ) (units : ℕ) → IsAngle given → IsWithinCap (corner_cap given) units → (1 ≤ angle_or given units) × (angle_or given units ≤ 4)
+angle_within None units is within =
+    let few : units ≤ 3 = within in
+    (omega arith, omega (arith, few))
+angle_within (Some k) units is within = is
+
+-- a dart turns to the left what its crossing arc carries, and what is given
+pub left_units : (given : Option ℤ) (l r : ℕ) → IsWithinCap (crossing_cap given) l → lefts (turns_or given l r) ≡ l + left_part given
+left_units None l r within = omega (arith, lefts-lefts_then_rights l r)
+left_units (Some (pos n)) l r within =
+    let none : l ≤ 0 = within in
+    omega (arith, none, lefts-lefts_only n)
+left_units (Some (negsuc n)) l r within =
+    let none : l ≤ 0 = within in
+    omega (arith, none, lefts-rights_only (n + 1))
+
+-- and to the right what that of its reverse carries, and what is given
+pub right_units : (given : Option ℤ) (l r : ℕ) → IsWithinCap (crossing_cap (walked_back given)) r → rights (turns_or given l r) ≡ r + right_part given
+right_units None l r within = omega (arith, rights-lefts_then_rights l r)
+right_units (Some (pos n)) l r within =
+    let none : r ≤ 0 = within in
+    omega (arith, none, rights-lefts_only n)
+right_units (Some (negsuc n)) l r within =
+    let none : r ≤ 0 = within in
+    omega (arith, none, rights-rights_only (n + 1))
+
+-- turns one way are walked back the other way
+pub mirrored-one_way : (t : ℤ) → mirrored (one_way t) ≡ one_way (neg_ℤ t)
+mirrored-one_way (pos zero) = refl
+mirrored-one_way (pos (suc n)) = same-exchanged (suc n) Left ∙ ap (λ (k : ℕ). replicate k Right) (one_more n)
+  where
+    one_more : (n : ℕ) → suc n ≡ n + 1
+    one_more n = omega arith
+mirrored-one_way (negsuc n) = same-exchanged (n + 1) Right ∙ ap (λ (k : ℕ). replicate k Left) (one_less n)
+  where
+    one_less : (n : ℕ) → n + 1 ≡ suc n
+    one_less n = omega arith
+
+pub mirrored-turns_or : (given : Option ℤ) (l r : ℕ) → turns_or (walked_back given) r l ≡ mirrored (turns_or given l r)
+mirrored-turns_or None l r = sym (mirrored-lefts_then_rights l r)
+mirrored-turns_or (Some t) l r = sym (mirrored-one_way t)
