@@ -36,9 +36,7 @@ pub fn certify_keeping(plane: &Plane, given: &Given<'_>, shape: &Shape, prices: 
     ensures exact { IsTrue result ↔ IsProofKeeping plane.now given.now shape.now prices.now }
     ensures least { IsTrue result → IsShape plane.now shape.now → IsLeastKeeping plane.now given.now shape.now }
 {
-    has_darts(plane, shape)
-        && has_prices(plane, prices)
-        && are_priced(plane, given, shape, prices)
+    has_darts(plane, shape) && has_prices(plane, prices) && are_priced(plane, given, shape, prices)
 }
 
 /// Whether each vertex and each face has a price.
@@ -104,8 +102,11 @@ fn are_one_way(turns: &[Turn], lefts: i32) -> bool
     ensures { IsTrue result ↔ (turns.now ≡ one_way lefts) }
 {
     let count = lefts.unsigned_abs() as usize;
-    let turn = if lefts < 0 { Turn::Right } else { Turn::Left };
-    turns.len() == count && turns.iter().all(|made| *made == turn)
+    if turns.len() != count {
+        return false;
+    }
+    let made = count_lefts(turns);
+    if lefts < 0 { made == 0 } else { made == count }
 }
 
 /// Whether an angle agrees with the prices of its vertex and its face.
