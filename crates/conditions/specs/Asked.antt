@@ -1,9 +1,10 @@
 -- Which darts and faces are meant by names of vertices, and what is asked of them.
-use Rattle.std.specs.Prelude.{◌≡◌, ◌≢◌, ◌⊎◌, ℕ, ◌<◌, ◌≤◌, ◌↔◌, ℤ, pos, neg_ℤ, nat_abs, Bool, true, List, Some, All, Any, if◌then◌else◌}
+use Rattle.std.specs.Prelude.{◌≡◌, ◌≢◌, ◌⊎◌, ℕ, ◌<◌, ◌≤◌, ◌↔◌, ℤ, neg_ℤ, nat_abs, Bool, true, List, Some, All, Any, if◌then◌else◌}
 use Rattle.common.specs.Sums.{sum_below}
 use Rattle.embedding.specs.Lesser.{is_lesser_of}
 use Rattle.faces.specs.Planes.{PlaneModel, darts, tail, head, face_at, reverse_dart}
 use Rattle.flow_network.specs.Marks.{is_marked}
+use Rattle.flow_network.specs.declared.given.TheConstants.{MAX_GIVEN_TURNS}
 use Rattle.flow_network.specs.Given.{GivenModel, angle_given, turns_given, lefts_given}
 use Rattle.conditions.specs.declared.conditions.DartEnds.{DartEnds}
 use Rattle.conditions.specs.declared.conditions.AngleAt.{AngleAt}
@@ -22,9 +23,13 @@ pub record Names (p : PlaneModel) (d from to : ℕ) : Type 0 where
   pub tail : from ≡ tail p d
   pub head : to ≡ head p d
 
+-- dart d is among those of the list
+abbrev pub IsAmong : PlaneModel → List DartEnds → ℕ → Type 0
+IsAmong p list d = Any (λ ends. Names p d ends.from ends.to) list
+
 -- face f is on the left of a dart of the list
 abbrev pub IsLeftOf : PlaneModel → List DartEnds → ℕ → Type 0
-IsLeftOf p list f = (d : ℕ) × (d < darts p) × (face_at p d ≡ f) × Any (λ ends. Names p d ends.from ends.to) list
+IsLeftOf p list f = (d : ℕ) × (d < darts p) × (face_at p d ≡ f) × IsAmong p list d
 
 -- the marked faces are those on the left of darts of the list
 abbrev pub AreBarred : PlaneModel → List DartEnds → List Bool → Type 0
@@ -79,8 +84,11 @@ pub record IsGivenFor (p : PlaneModel) (conditions : Conditions) (given : GivenM
 abbrev pub turns_of_edges : PlaneModel → GivenModel → ℕ
 turns_of_edges p given = sum_below (darts p) (λ d. if is_lesser_of p.lists d then nat_abs (lefts_given (turns_given p given d)) else 0)
 
--- all names are of darts, what is asked for is given, and the marked faces are those that are to stay inside
+-- angles are 1 to 4, names are of darts, what is asked for can be given and is, and the marked faces are those that are to
+-- stay inside
 pub record IsAsked (p : PlaneModel) (conditions : Conditions) (given : GivenModel) (barred : List Bool) : Type 0 where
+  pub angles_are : HasAngles conditions
   pub darts : AreDarts p conditions
   pub given_for : IsGivenFor p conditions given
+  pub few : turns_of_edges p given ≤ MAX_GIVEN_TURNS
   pub inner : AreBarred p conditions.inner.now barred

@@ -1,5 +1,5 @@
 -- The chosen outer face among those that may be outside, and least shapes that keep what is given.
-use Rattle.std.specs.Prelude.{◌≡◌, ◌⊎◌, ℕ, ◌<◌, ◌≤◌, Bool, true, List, Option, Some, None, All, ⊤}
+use Rattle.std.specs.Prelude.{◌≡◌, ◌⊎◌, ℕ, ◌<◌, ◌≤◌, Bool, true, List, Option, Some, None, ⊤}
 use Rattle.common.specs.declared.choice.Choice.{Choice}
 use Rattle.common.specs.declared.choice.Choice.TheVariants.{First, Best}
 use Rattle.faces.specs.Planes.{PlaneModel, degree, with_outer}

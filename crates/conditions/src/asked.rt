@@ -1,9 +1,9 @@
 //! What is asked of the darts of a plane, as lists of what is given.
 
-ghost use Rattle.std.specs.Prelude.{◌≡◌, ◌⊎◌, ◌<◌, ◌≤◌, ◌↔◌, Some, IsTrue, IsFalse, IfOk, IfErr, All, length, slice_set};
+ghost use Rattle.std.specs.Prelude.{◌≡◌, ◌⊎◌, ◌<◌, ◌≤◌, ◌↔◌, ◌^◌, neg_ℤ, nat_abs, IsTrue, IsFalse, IfOk, IfErr, All, length};
 ghost use Rattle.faces.specs.Planes.{darts};
-ghost use Rattle.conditions.specs.Asked.{IsDart, HasAngles, AreDarts, AnglesDiffer, TurnsDiffer};
-ghost use Rattle.conditions.specs.Asking.{AreAngles, AreTurns, dart_named, IsPutAt, IsPutAlong, HoldsOther, HoldsOtherAlong};
+ghost use Rattle.conditions.specs.Asked.{Names, IsDart, HasAngles, AreDarts, AnglesDiffer, TurnsDiffer};
+ghost use Rattle.conditions.specs.Asking.{AreAngles, AreTurns, AreFew, lesser_of, along_lesser, IsPut, HoldsOther};
 
 use crate::conditions::{AngleAt, Conditions, TurnsAlong};
 use crate::fault::KeepFault;
@@ -40,6 +40,20 @@ pub(crate) fn are_darts(plane: &Plane, conditions: &Conditions<'_>) -> bool
             .all(|ends| is_dart(plane, ends.from, ends.to))
 }
 
+/// The dart that leads from one vertex to another.
+fn dart_of(plane: &Plane, from: u16, to: u16) -> u16
+    requires { IsDart plane.now from to }
+    ensures inside { result < darts plane.now }
+    ensures named { Names plane.now result from to }
+{
+    for dart in 0..plane.graph().darts() {
+        if is_named(plane, dart, from, to) {
+            return dart;
+        }
+    }
+    unreachable!()
+}
+
 /// The angles that are asked for, by darts.
 ///
 /// # Errors
@@ -59,35 +73,27 @@ pub(crate) fn angles_of(
     let Ok(mut found) = filled(Vec::new(alloc), usize::from(darts), None) else {
         return Err(KeepFault::Memory);
     };
-    for asked in list.iter() {
-        if !put_angle(plane, &mut found, *asked) {
+    for asked in list {
+        let dart = dart_of(plane, asked.from, asked.to);
+        if !put_angle(&mut found, dart, asked.angle as u8) {
             return Err(KeepFault::Conflict);
         }
     }
     Ok(found)
 }
 
-/// Puts an angle at its dart, and returns whether no other one was there.
-fn put_angle(plane: &Plane, found: &mut [Option<u8>], asked: AngleAt) -> bool
-    requires size { length found.old ≡ darts plane.now }
-    requires angle { asked.angle ≤ 4 }
-    requires dart { IsDart plane.now asked.from asked.to }
-    ensures size { length found.new ≡ darts plane.now }
-    ensures put { IsTrue result → IsPutAt plane.now (dart_named plane.now asked.from asked.to) (Some asked.angle) found.old found.new }
-    ensures other { IsFalse result → HoldsOther (dart_named plane.now asked.from asked.to) (Some asked.angle) found.old }
+/// Puts an angle at a dart, and returns whether no other one was there.
+fn put_angle(found: &mut [Option<u8>], dart: u16, angle: u8) -> bool
+    requires { dart < length found.old }
+    ensures put { IsTrue result → IsPut dart angle found.old found.new }
+    ensures other { IsFalse result → HoldsOther dart angle found.old }
 {
-    let angle = asked.angle as u8;
-    for dart in 0..plane.graph().darts() {
-        if is_named(plane, dart, asked.from, asked.to) {
-            let place = usize::from(dart);
-            if let Some(held) = found[place] {
-                return held == angle;
-            }
-            found[place] = Some(angle);
-            return true;
-        }
+    let place = usize::from(dart);
+    if let Some(held) = found[place] {
+        return held == angle;
     }
-    unreachable!()
+    found[place] = Some(angle);
+    true
 }
 
 /// The turns that are asked for, at the lesser darts of edges.
@@ -108,41 +114,56 @@ pub(crate) fn turns_of(
     let Ok(mut found) = filled(Vec::new(alloc), usize::from(darts), None) else {
         return Err(KeepFault::Memory);
     };
-    for asked in list.iter() {
-        if !put_turns(plane, &mut found, *asked) {
+    for asked in list {
+        let dart = dart_of(plane, asked.from, asked.to);
+        if !put_along(plane, &mut found, dart, asked.turns) {
             return Err(KeepFault::Conflict);
         }
     }
     Ok(found)
 }
 
-/// Puts turns at the lesser dart of their edge, and returns whether no others were there.
-fn put_turns(plane: &Plane, found: &mut [Option<i32>], asked: TurnsAlong) -> bool
+/// Puts turns along a dart at the lesser dart of its edge, and returns whether no others were there.
+fn put_along(plane: &Plane, found: &mut [Option<i32>], dart: u16, turns: i16) -> bool
     requires size { length found.old ≡ darts plane.now }
-    requires dart { IsDart plane.now asked.from asked.to }
-    ensures size { length found.new ≡ darts plane.now }
-    ensures put { IsTrue result → IsPutAlong plane.now (dart_named plane.now asked.from asked.to) asked.turns found.old found.new }
-    ensures other { IsFalse result → HoldsOtherAlong plane.now (dart_named plane.now asked.from asked.to) asked.turns found.old }
+    requires few { All AreFew found.old }
+    requires dart { dart < darts plane.now }
+    ensures few { All AreFew found.new }
+    ensures put { IsTrue result → IsPut (lesser_of plane.now dart) (along_lesser plane.now dart turns) found.old found.new }
+    ensures other { IsFalse result → HoldsOther (lesser_of plane.now dart) (along_lesser plane.now dart turns) found.old }
 {
-    let turns = i32::from(asked.turns);
-    for dart in 0..plane.graph().darts() {
-        if is_named(plane, dart, asked.from, asked.to) {
-            let reverse = plane.graph().reverse(dart);
-            return if dart < reverse {
-                put(found, dart, turns)
-            } else {
-                put(found, reverse, -turns)
-            };
-        }
+    let reverse = plane.graph().reverse(dart);
+    if dart < reverse {
+        put_turns(found, dart, forth(turns))
+    } else {
+        put_turns(found, reverse, back(turns))
     }
-    unreachable!()
+}
+
+/// The same turns, with room for more.
+fn forth(turns: i16) -> i32
+    ensures value { result ≡ turns }
+    ensures few { nat_abs result ≤ 2 ^ 15 }
+{
+    i32::from(turns)
+}
+
+/// The same turns, met in walking the other way.
+fn back(turns: i16) -> i32
+    ensures value { result ≡ neg_ℤ turns }
+    ensures few { nat_abs result ≤ 2 ^ 15 }
+{
+    -i32::from(turns)
 }
 
 /// Puts turns at a dart, and returns whether no others were there.
-fn put(found: &mut [Option<i32>], dart: u16, turns: i32) -> bool
-    requires { dart < length found.old }
-    ensures put { IsTrue result → found.new ≡ slice_set found.old dart (Some turns) }
-    ensures other { IsFalse result → HoldsOther dart (Some turns) found.old }
+fn put_turns(found: &mut [Option<i32>], dart: u16, turns: i32) -> bool
+    requires dart { dart < length found.old }
+    requires few { All AreFew found.old }
+    requires turns { nat_abs turns ≤ 2 ^ 15 }
+    ensures few { All AreFew found.new }
+    ensures put { IsTrue result → IsPut dart turns found.old found.new }
+    ensures other { IsFalse result → HoldsOther dart turns found.old }
 {
     let place = usize::from(dart);
     if let Some(held) = found[place] {

@@ -85,7 +85,6 @@ struct Meaning {
 }
 
 impl Model for Meaning {
-    ghost use Rattle.std.specs.Prelude.{length};
     ghost use Rattle.flow_network.specs.Given.{CanBeGiven};
     ghost use Rattle.conditions.specs.Meanings.{MeaningModel};
 
@@ -111,6 +110,8 @@ fn meant_by(alloc: Global, plane: &Plane, conditions: &Conditions<'_>) -> Result
     ensures greatest { IfOk result (λ meant. IsGreatestOpen plane.now meant.barred meant.greatest) }
     ensures fault { IfErr result (λ fault. (choice : Choice) → IsKeepFault conditions.now choice plane.now fault) }
 {
+    // Only the proof needs this: `graph` says that the plane is one.
+    let _graph = plane.graph();
     if !are_angles(conditions) {
         return Err(KeepFault::NoAngle);
     }

@@ -1,8 +1,8 @@
 //! Which faces are meant by pairs of vertices.
 
-ghost use Rattle.std.specs.Prelude.{◌≡◌, ◌<◌, ◌↔◌, true, false, if◌then◌else◌, IsTrue, IfOk, Any, length, replicate, slice_set};
+ghost use Rattle.std.specs.Prelude.{◌≡◌, ◌<◌, ◌↔◌, true, false, if◌then◌else◌, IsTrue, IfOk, length, replicate, slice_set};
 ghost use Rattle.faces.specs.Planes.{darts};
-ghost use Rattle.conditions.specs.Asked.{Names, IsDart, AreBarred};
+ghost use Rattle.conditions.specs.Asked.{Names, IsAmong, IsDart, AreBarred};
 
 use crate::conditions::DartEnds;
 use common::filled;
@@ -33,7 +33,7 @@ pub(crate) fn is_dart(plane: &Plane, from: u16, to: u16) -> bool
 /// Whether a dart is among those of the list.
 fn is_among(plane: &Plane, list: &[DartEnds], dart: u16) -> bool
     requires { dart < darts plane.now }
-    ensures { IsTrue result ↔ Any (λ ends. Names plane.now dart ends.from ends.to) list.now }
+    ensures { IsTrue result ↔ IsAmong plane.now list.now dart }
 {
     list.iter()
         .any(|ends| is_named(plane, dart, ends.from, ends.to))

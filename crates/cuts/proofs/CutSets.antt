@@ -136,18 +136,18 @@ node_no_more {given} p net s vs fs plane is made v l =
           (no_more (s v) (is_marked vs v) (supply_at net v) (outflow net (limit_of net s) v)
           (λ on. some_supply (supply_at net v) (vertex_has_to_turn p given (v + 1)) supply (made.some v on))
           (λ left_out held. elim (made.outside v vertex left_out) [
-          | inl none ↦ none_supply (supply_at net v) (vertex_has_to_turn p given (v + 1)) (outflow net (limit_of net s) v) supply none
-          | inr (d, b, at, free, out) ↦
-          let ends = plane_ends p plane in
-          let corner = is.corner d b in
-          let starts : (arc_at net d).from ≡ head p d - 1 = ap (λ (a : Arc). a.from) corner in
-          let from : (arc_at net d).from ≡ v = omega (arith, starts, at) in
-          let to : (arc_at net d).to ≡ n + face_at p d = ap (λ (a : Arc). a.to) corner in
-          let cap : units_of (arc_at net d).cap ≡ 3 = ap (λ (a : Arc). units_of a.cap) corner ∙ ap (λ (g : Option ℕ). units_of (corner_cap g)) free in
-          let away : s (arc_at net d).to ≡ false = ap s to ∙ (sym (made.faces (face_at p d) (ends.face_named d b)) ∙ out) in
-          let limit : limit_of net s d ≡ 3 = cond-true {A = ℕ} (leads_out net s d) (units_of (arc_at net d).cap) 0 (leads (s (arc_at net d).from) (s (arc_at net d).to) (ap s from ∙ held) away) ∙ cap in
-          few_supply (supply_at net v) (vertex_degree p (v + 1)) (beyond_at_vertex p given (v + 1)) (limit_of net s d) (outflow net (limit_of net s) v) supply
-          (subst (λ (u : ℕ). 1 ≤ vertex_degree p u) at (arrivals_some p d b)) limit (starts_here net s d v (omega (arith, is.arcs)) from)
+            | inl none ↦ none_supply (supply_at net v) (vertex_has_to_turn p given (v + 1)) (outflow net (limit_of net s) v) supply none
+            | inr (d, b, at, free, out) ↦
+                let ends = plane_ends p plane in
+                let corner = is.corner d b in
+                let starts : (arc_at net d).from ≡ head p d - 1 = ap (λ (a : Arc). a.from) corner in
+                let from : (arc_at net d).from ≡ v = omega (arith, starts, at) in
+                let to : (arc_at net d).to ≡ n + face_at p d = ap (λ (a : Arc). a.to) corner in
+                let cap : units_of (arc_at net d).cap ≡ 3 = ap (λ (a : Arc). units_of a.cap) corner ∙ ap (λ (g : Option ℕ). units_of (corner_cap g)) free in
+                let away : s (arc_at net d).to ≡ false = ap s to ∙ (sym (made.faces (face_at p d) (ends.face_named d b)) ∙ out) in
+                let limit : limit_of net s d ≡ 3 = cond-true {A = ℕ} (leads_out net s d) (units_of (arc_at net d).cap) 0 (leads (s (arc_at net d).from) (s (arc_at net d).to) (ap s from ∙ held) away) ∙ cap in
+                few_supply (supply_at net v) (vertex_degree p (v + 1)) (beyond_at_vertex p given (v + 1)) (limit_of net s d) (outflow net (limit_of net s) v) supply
+                (subst (λ (u : ℕ). 1 ≤ vertex_degree p u) at (arrivals_some p d b)) limit (starts_here net s d v (omega (arith, is.arcs)) from)
           ]))
       | inr face ↦
           let f : ℕ = v - n in

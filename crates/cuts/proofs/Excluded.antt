@@ -38,7 +38,7 @@ crossing_for p given d = record { from = vertices p + face_at p d; to = vertices
 abbrev arc_for : PlaneModel → GivenModel → ℕ → Arc
 arc_for p given i = cond (ltb i (darts p)) (corner_for p given i) (crossing_for p given (i - darts p))
 
-abbrev net_for : PlaneModel → GivenModel → NetworkModel
+abbrev pub net_for : PlaneModel → GivenModel → NetworkModel
 net_for p given = net_of (map (supply_for p given) (range_with_len 0 (vertices p + p.faces))) (map (arc_for p given) (range_with_len 0 (darts p + darts p)))
 
 supply_here : (p : PlaneModel) (given : GivenModel) (k : ℕ) → k < vertices p + p.faces → supply_at (net_for p given) k ≡ supply_for p given k

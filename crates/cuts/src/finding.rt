@@ -2,7 +2,7 @@
 //! 1957, Tamassia 1987).
 
 ghost use Rattle.std.specs.Prelude.{◌≡◌, ◌+◌, ◌-◌, ◌<◌, ◌≤◌, ℕ, pos, ◌<ℤ◌, Bool, List, true, false, IfOk, IfSome, IfNone, length};
-ghost use Rattle.faces.specs.Planes.{PlaneModel, IsPlane, darts, vertices, head, face_at};
+ghost use Rattle.faces.specs.Planes.{PlaneModel, IsPlane, darts, vertices, head};
 ghost use Rattle.flow_network.specs.Marks.{is_marked};
 ghost use Rattle.flow_network.specs.Given.{GivenModel};
 ghost use Rattle.flow_network.specs.FaceNet.{vertex_has_to_turn};
@@ -34,8 +34,9 @@ pub fn cut_keeping(
     ensures shown { IfOk result (λ found. IfSome found (λ cut. ShowsNone plane.now given.now cut.vertices.items cut.faces.items)) }
     ensures none { IfOk result (λ found. IfNone found ((a : ℕ → ℕ) × (s : ℕ → List Turn) × Rep plane.now a s × Keeps plane.now given.now a s)) }
 {
-    // Only the proof needs this: `graph` says that the plane is one.
+    // Only the proof needs these: they say that the plane is one, and how much can be given.
     let _graph = plane.graph();
+    let _is_nothing = given.is_nothing();
     let mut lists = flow_network::Scratch::empty(alloc);
     let net = FaceNet::build_keeping_in(alloc, &mut lists, plane, given)?;
     let mut solver = min_cost_flow::Scratch::empty(alloc);
@@ -76,12 +77,23 @@ fn vertices_of(
     let vertices = plane.graph().vertices();
     let mut marks = emptied(Vec::new(alloc), usize::from(vertices))?;
     for place in 0..vertices {
-        let vertex = place + 1;
-        let is_in = vertex_to_turn(plane, given, vertex) > 0
-            && has_faces_in(plane, given, faces, vertex);
-        marks.push(is_in)?;
+        marks.push(is_one_of(plane, given, faces, place + 1))?;
     }
     Ok(marks)
+}
+
+/// Whether a vertex has something to turn, and all its angles that are not given lie in these faces.
+fn is_one_of(plane: &Plane, given: &Given<'_>, faces: &[bool], vertex: u16) -> bool
+    requires some { 0 < vertex }
+    requires within { vertex ≤ vertices plane.now }
+    ensures some { result ≡ true → pos 0 <ℤ vertex_has_to_turn plane.now given.now vertex }
+    ensures inside { result ≡ true → HasFacesIn plane.now given.now faces.now vertex }
+    ensures outside { result ≡ false → IsLeftOut plane.now given.now faces.now vertex }
+{
+    if vertex_to_turn(plane, given, vertex) <= 0 {
+        return false;
+    }
+    has_faces_in(plane, given, faces, vertex)
 }
 
 /// Whether the face of each angle of a vertex that is not given is marked.

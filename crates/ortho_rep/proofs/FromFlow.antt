@@ -25,7 +25,7 @@ use Rattle.ortho_rep.specs.Prices.{PricesModel, IsAngleKept, AreTurnsKept, Prove
 use Rattle.ortho_rep.specs.Shapes.{ShapeModel, angle_at, turns_at}
 use Rattle.ortho_rep.proofs.FewTurns.{short_one_way}
 use Rattle.ortho_rep.proofs.FlowStrings.{lefts-lefts_then_rights, rights-lefts_then_rights}
-use Rattle.ortho_rep.proofs.GivenFlow.{angle_can, angle_units, angle_within, left_units, right_units, mirrored-turns_or}
+use Rattle.ortho_rep.proofs.GivenFlow.{AnglesCan, angle_can, angle_units, angle_within, left_units, right_units, mirrored-turns_or}
 use Rattle.ortho_rep.proofs.WeakDuality.{part_at, left_sums, right_sums, turning-split, least_keeping_by_prices}
 use Rattle.ortho_rep.proofs.SameAtDarts.{rep-alike, prove_keeping-alike}
 
@@ -97,8 +97,8 @@ pub crossing_within : {given : GivenModel} (p : PlaneModel) (net : NetworkModel)
 crossing_within p net x is within d b = subst (λ (arc : Arc). IsWithinCap arc.cap (x (darts p + d))) (is.crossing d b) (within (darts p + d) (omega (arith, is.arcs)))
 
 -- an angle is one right angle, what its corner arc carries and what is given beyond
-pub angle_is : {given : GivenModel} (p : PlaneModel) (net : NetworkModel) (x : ℕ → ℕ) → CanBeGiven given.angles given.turns → IsKeepingNet p given net → KeepsCaps net x → (d : ℕ) → d < darts p → angles_of given x d ≡ x d + 1 + beyond_first (angle_given given d)
-angle_is {given} p net x can is within d b = angle_units (angle_given given d) (x d) (angle_can given can d) (corner_within p net x is within d b)
+pub angle_is : {given : GivenModel} (p : PlaneModel) (net : NetworkModel) (x : ℕ → ℕ) → AnglesCan p given → IsKeepingNet p given net → KeepsCaps net x → (d : ℕ) → d < darts p → angles_of given x d ≡ x d + 1 + beyond_first (angle_given given d)
+angle_is {given} p net x can is within d b = angle_units (angle_given given d) (x d) (can d b) (corner_within p net x is within d b)
 
 -- turns are what crossing arcs carry and what is given
 pub left_is : {given : GivenModel} (p : PlaneModel) (net : NetworkModel) (x : ℕ → ℕ) → IsKeepingNet p given net → KeepsCaps net x → (d : ℕ) → d < darts p → lefts (strings_of p given x d) ≡ x (darts p + d) + left_part (turns_given p given d)
@@ -111,7 +111,7 @@ right_is {given} p net x ends is within d b =
     (subst (λ (g : Option ℤ). IsWithinCap (crossing_cap g) (x (darts p + r))) (turns_back p given d ends b) (crossing_within p net x is within r (ends.reverse_dart_in_range d b)))
 
 -- at a vertex: its corners carry what the angles have beyond 1, but for what is given
-pub vertex_balance : {given : GivenModel} (p : PlaneModel) (net : NetworkModel) (x : ℕ → ℕ) (v : ℕ) → HasEnds p → CanBeGiven given.angles given.turns → IsKeepingNet p given net → KeepsCaps net x → 1 ≤ v → v ≤ vertices p →
+pub vertex_balance : {given : GivenModel} (p : PlaneModel) (net : NetworkModel) (x : ℕ → ℕ) (v : ℕ) → HasEnds p → AnglesCan p given → IsKeepingNet p given net → KeepsCaps net x → 1 ≤ v → v ≤ vertices p →
     pos (angles_around p (angles_of given x) v) ≡ net_outflow net x (v - 1) +ℤ pos (vertex_degree p v) +ℤ pos (beyond_at_vertex p given v)
 vertex_balance {given} p net x v ends can is within from to =
     let n = darts p in
@@ -134,13 +134,13 @@ vertex_balance {given} p net x v ends can is within from to =
 around_vertex : {given : GivenModel} (p : PlaneModel) (net : NetworkModel) (x : ℕ → ℕ) (v : ℕ) → HasEnds p → CanBeGiven given.angles given.turns → IsKeepingNet p given net → Flow net x → 1 ≤ v → v ≤ vertices p → angles_around p (angles_of given x) v ≡ 4
 around_vertex {given} p net x v ends can is flow from to =
     let meets : net_outflow net x (v - 1) ≡ vertex_has_to_turn p given v = flow.meets (v - 1) (omega (arith, is.nodes)) ∙ is.at_vertex v from to in
-    left (net_outflow net x (v - 1)) (angles_around p (angles_of given x) v) (vertex_degree p v) (beyond_at_vertex p given v) (vertex_balance p net x v ends can is flow.within from to) meets
+    left (net_outflow net x (v - 1)) (angles_around p (angles_of given x) v) (vertex_degree p v) (beyond_at_vertex p given v) (vertex_balance p net x v ends (λ d _. angle_can given can d) is flow.within from to) meets
   where
     left : (out : ℤ) (angles degree more : ℕ) → pos angles ≡ out +ℤ pos degree +ℤ pos more → out ≡ pos 4 -ℤ pos degree -ℤ pos more → angles ≡ 4
     left out angles degree more balance meets = omega (arith, ints)
 
 -- at a face: its turning is what its corners and crossings carry, and what is given
-pub face_balance : {given : GivenModel} (p : PlaneModel) (net : NetworkModel) (x : ℕ → ℕ) (f : ℕ) → HasEnds p → CanBeGiven given.angles given.turns → IsKeepingNet p given net → KeepsCaps net x → f < p.faces →
+pub face_balance : {given : GivenModel} (p : PlaneModel) (net : NetworkModel) (x : ℕ → ℕ) (f : ℕ) → HasEnds p → AnglesCan p given → IsKeepingNet p given net → KeepsCaps net x → f < p.faces →
     turning_around p (angles_of given x) (strings_of p given x) f ≡ net_outflow net x (vertices p + f) +ℤ pos (degree p f) -ℤ pos (beyond_in_face p given f) +ℤ lefts_in_face p given f
 face_balance {given} p net x f ends can is within below =
     let n = darts p in
@@ -196,7 +196,7 @@ face_balance {given} p net x f ends can is within below =
 around_face : {given : GivenModel} (p : PlaneModel) (net : NetworkModel) (x : ℕ → ℕ) (f : ℕ) → HasEnds p → CanBeGiven given.angles given.turns → IsKeepingNet p given net → Flow net x → f < p.faces → turning_around p (angles_of given x) (strings_of p given x) f ≡ whole_turn p f
 around_face {given} p net x f ends can is flow below =
     let meets : net_outflow net x (vertices p + f) ≡ face_has_to_turn p given f = flow.meets (vertices p + f) (omega (arith, is.nodes)) ∙ is.at_face f below in
-    face_balance p net x f ends can is flow.within below ∙ back (net_outflow net x (vertices p + f)) (whole_turn p f) (lefts_in_face p given f) (degree p f) (beyond_in_face p given f) meets
+    face_balance p net x f ends (λ d _. angle_can given can d) is flow.within below ∙ back (net_outflow net x (vertices p + f)) (whole_turn p f) (lefts_in_face p given f) (degree p f) (beyond_in_face p given f) meets
   where
     back : (out turn turns : ℤ) (k more : ℕ) → out ≡ turn -ℤ pos k +ℤ pos more -ℤ turns → out +ℤ pos k -ℤ pos more +ℤ turns ≡ turn
     back out turn turns k more e = omega (arith, ints)

@@ -8,6 +8,7 @@ use Rattle.std.proofs.lemmas.List.{get_or_past, length-replicate}
 use Rattle.networks.specs.Flow.{IsWithinCap}
 use Rattle.ortho_rep.specs.declared.turn.Turn.{Turn}
 use Rattle.ortho_rep.specs.declared.turn.Turn.TheVariants.{Left, Right}
+use Rattle.faces.specs.Planes.{PlaneModel, darts}
 use Rattle.flow_network.specs.Given.{GivenModel, CanBeGiven, IsAngle, nothing_given, angle_given, walked_back, beyond_first}
 use Rattle.flow_network.specs.FaceNet.{corner_cap, crossing_cap}
 use Rattle.flow_network.proofs.GivenParts.{left_part, right_part}
@@ -24,6 +25,10 @@ angle_can given can d =
       | inl inside ↦ can.are_angles d None inside
       | inr past ↦ subst IsAngle (sym (get_or_past given.angles d None past)) tt
     ]
+
+-- each given angle of the plane's darts is 1 to 4 right angles
+abbrev pub AnglesCan : PlaneModel → GivenModel → Type 0
+AnglesCan p given = (d : ℕ) → d < darts p → IsAngle (angle_given given d)
 
 -- nothing can be given
 pub nothing_can : CanBeGiven nothing_given.angles nothing_given.turns

@@ -9,7 +9,7 @@ use Rattle.faces.specs.Planes.{PlaneModel, HasEnds, darts, vertices, head, rever
 use Rattle.networks.specs.declared.arc.Arc.{Arc}
 use Rattle.networks.specs.Networks.{NetworkModel, node_count, arc_at, supply_at}
 use Rattle.networks.specs.Flow.{Flow, HasNoFlow, IsWithinCap, net_outflow}
-use Rattle.flow_network.specs.Given.{GivenModel, CanBeGiven, angle_given, turns_given, walked_back}
+use Rattle.flow_network.specs.Given.{GivenModel, IsAngle, angle_given, turns_given, walked_back}
 use Rattle.flow_network.specs.FaceNet.{IsKeepingNet, vertex_degree, beyond_at_vertex, beyond_in_face, lefts_in_face, corner_cap, crossing_cap}
 use Rattle.flow_network.proofs.GivenParts.{turns_back}
 use Rattle.ortho_rep.specs.declared.turn.Turn.{Turn}
@@ -19,6 +19,7 @@ use Rattle.ortho_rep.specs.Keeping.{one_way, Keeps, HasNoneKeeping}
 use Rattle.ortho_rep.specs.OfFlow.{angle_or, angles_of, turns_or, strings_of}
 use Rattle.ortho_rep.proofs.WeakDuality.{rights_are}
 use Rattle.ortho_rep.proofs.FlowStrings.{lefts-lefts_then_rights, rights-lefts_then_rights}
+use Rattle.ortho_rep.proofs.GivenFlow.{AnglesCan}
 use Rattle.ortho_rep.proofs.FromFlow.{KeepsCaps, vertex_balance, face_balance}
 
 -- what the arcs of a dart carry: nothing where something is given
@@ -111,7 +112,7 @@ angles_alike p given a s rep keeps v =
     (λ d b. ap (λ (k : ℕ). cond (eqb (head p d) v) k 0) (angle_alike p given a s rep keeps d b))
 
 -- each node sends out its supply
-meets_supplies : {given : GivenModel} (p : PlaneModel) (net : NetworkModel) (a : ℕ → ℕ) (s : ℕ → List Turn) → HasEnds p → CanBeGiven given.angles given.turns → IsKeepingNet p given net → Rep p a s → Keeps p given a s → (k : ℕ) → k < node_count net → net_outflow net (units_of p given a s) k ≡ supply_at net k
+meets_supplies : {given : GivenModel} (p : PlaneModel) (net : NetworkModel) (a : ℕ → ℕ) (s : ℕ → List Turn) → HasEnds p → AnglesCan p given → IsKeepingNet p given net → Rep p a s → Keeps p given a s → (k : ℕ) → k < node_count net → net_outflow net (units_of p given a s) k ≡ supply_at net k
 meets_supplies {given} p net a s ends can is rep keeps k l =
     let x = units_of p given a s in
     let within = within_caps p net a s is rep in
@@ -140,12 +141,20 @@ meets_supplies {given} p net a s ends can is rep keeps k l =
     sent out supply turn turns degree more balance is = omega (arith, ints)
 
 -- a representation is a flow
-pub flow_of_rep : {given : GivenModel} (p : PlaneModel) (net : NetworkModel) (a : ℕ → ℕ) (s : ℕ → List Turn) → HasEnds p → CanBeGiven given.angles given.turns → IsKeepingNet p given net → Rep p a s → Keeps p given a s → Flow net (units_of p given a s)
+pub flow_of_rep : {given : GivenModel} (p : PlaneModel) (net : NetworkModel) (a : ℕ → ℕ) (s : ℕ → List Turn) → HasEnds p → AnglesCan p given → IsKeepingNet p given net → Rep p a s → Keeps p given a s → Flow net (units_of p given a s)
 flow_of_rep p net a s ends can is rep keeps = record {
   within = within_caps p net a s is rep;
   meets = meets_supplies p net a s ends can is rep keeps;
 }
 
+-- angles that a representation keeps are 1 to 4
+angles_kept : (p : PlaneModel) (given : GivenModel) (a : ℕ → ℕ) (s : ℕ → List Turn) → Rep p a s → Keeps p given a s → AnglesCan p given
+angles_kept p given a s rep keeps = λ d b. in_range (angle_given given d) (a d) (rep.angles d b) (keeps.angles d b)
+  where
+    in_range : (g : Option ℕ) (angle : ℕ) → (1 ≤ angle) × (angle ≤ 4) → ((k : ℕ) → g ≡ Some k → angle ≡ k) → IsAngle g
+    in_range None angle bounds kept = tt
+    in_range (Some k) angle bounds kept = subst (λ (n : ℕ). (1 ≤ n) × (n ≤ 4)) (kept k refl) bounds
+
 -- if there is no flow, no representation keeps what is given
-pub none_without_flow : {given : GivenModel} (p : PlaneModel) (net : NetworkModel) → HasEnds p → CanBeGiven given.angles given.turns → IsKeepingNet p given net → HasNoFlow net → HasNoneKeeping p given
-none_without_flow {given} p net ends can is no_flow = λ a s rep keeps. no_flow (units_of p given a s) (flow_of_rep p net a s ends can is rep keeps)
+pub none_without_flow : {given : GivenModel} (p : PlaneModel) (net : NetworkModel) → HasEnds p → IsKeepingNet p given net → HasNoFlow net → HasNoneKeeping p given
+none_without_flow {given} p net ends is no_flow = λ a s rep keeps. no_flow (units_of p given a s) (flow_of_rep p net a s ends (angles_kept p given a s rep keeps) is rep keeps)

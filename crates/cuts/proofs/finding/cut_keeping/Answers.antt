@@ -17,7 +17,7 @@ returns-in_default-clause-none c =
     let is : IsKeepingNet p c.args.given.now net = c.in_ok-net.ensures.net.network in
     let (y, flow) = rw c.in_default.is at c.in_ok-nodes.ensures.none in
     let flows : Flow net y = subst (λ (n : NetworkModel). Flow n y) c.network.ensures flow in
-    (angles_of c.args.given.now y, strings_of p c.args.given.now y, rep_of_flow p net y c.graph-graph.ensures.ends is flows, keeps_of_flow p net y c.graph-graph.ensures.ends is flows)
+    (angles_of c.args.given.now y, strings_of p c.args.given.now y, rep_of_flow p net y c.graph-graph.ensures.ends c.is_nothing-is_nothing.ensures.can is flows, keeps_of_flow p c.args.given.now y)
 
 pub returns-clause-shown : goal.returns-clause-shown
 returns-clause-shown c =
@@ -31,7 +31,7 @@ returns-clause-shown c =
       vertices_size = c.in_ok-vertices.ensures.size;
       faces_size = c.in_ok-faces.ensures.size;
       faces = rw c.deref.ensures.value at c.in_ok-faces.ensures.each;
-      some = rw c.deref-2.ensures.value at c.in_ok-vertices.ensures.some;
+      some = c.in_ok-vertices.ensures.some;
       inside = rw c.deref-2.ensures.value at c.in_ok-vertices.ensures.inside;
       outside = rw c.deref-2.ensures.value at c.in_ok-vertices.ensures.outside;
     } in
