@@ -283,7 +283,7 @@ class Library:
         """
         result = self._called(record, outer, drawing, conditions)
         self._look_whether_kept(result)
-        return self._found(result)
+        return self._found(result, drawing != "none")
 
     def answer(self, record: Record, outer: str, conditions: Conditions = FREE) -> Answer:
         """Return the bends, points and corners of a record, for `planarbend.draw`; raise `NotKept` if the conditions cannot be
