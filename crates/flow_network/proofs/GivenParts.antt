@@ -107,7 +107,7 @@ none_at d = refl
 pub beyond_first_few : (given : GivenModel) → CanBeGiven given.angles given.turns → (d : ℕ) → beyond_first (angle_given given d) ≤ 3
 beyond_first_few given can d =
     elim (cases_lt d (length given.angles)) [
-      | inl inside ↦ few (angle_given given d) (can.angles d None inside)
+      | inl inside ↦ few (angle_given given d) (can.are_angles d None inside)
       | inr past ↦ few (angle_given given d) (subst IsAngle (sym (get_or_past given.angles d None past)) tt)
     ]
   where

@@ -50,5 +50,5 @@ turns_in_all turns = sum_below (length turns) (λ d. nat_abs (lefts_given (slice
 
 -- angles and turns that can be given
 pub record CanBeGiven (angles : List (Option ℕ)) (turns : List (Option ℤ)) : Type 0 where
-  pub angles : All IsAngle angles
+  pub are_angles : All IsAngle angles
   pub few : turns_in_all turns ≤ MAX_GIVEN_TURNS
