@@ -212,51 +212,51 @@ void planarbend_free(planarbend *object) {
 /* ---- the call */
 
 /* Takes a list of the caller, or `nothing` for one of length 0, which is neither read nor written; false if it is null. */
-#define TAKE(list, count, given, given_count, nothing) \
-    (((count) = (given_count)) > 0 ? ((list) = (given)) != NULL : ((list) = (nothing)) != NULL)
+#define TAKE(list, count, from, from_count, nothing) \
+    (((count) = (from_count)) > 0 ? ((list) = (from)) != NULL : ((list) = (nothing)) != NULL)
 
 /* These take over what the caller gives; false if a size or a number is unknown, or a null pointer is not allowed. */
 
-static bool take_source(struct source *own, const planarbend_request *given) {
+static bool take_source(struct source *own, const planarbend_request *theirs) {
     static const uint16_t nothing;
-    own->is_wide = given->record16_count > 0;
-    return (given->record8_count == 0 || given->record16_count == 0)
-        && TAKE(own->bytes, own->byte_count, given->record8, given->record8_count, (const uint8_t *)&nothing)
-        && TAKE(own->entries, own->entry_count, given->record16, given->record16_count, &nothing);
+    own->is_wide = theirs->record16_count > 0;
+    return (theirs->record8_count == 0 || theirs->record16_count == 0)
+        && TAKE(own->bytes, own->byte_count, theirs->record8, theirs->record8_count, (const uint8_t *)&nothing)
+        && TAKE(own->entries, own->entry_count, theirs->record16, theirs->record16_count, &nothing);
 }
 
-static bool take_conditions(struct conditions *own, const planarbend_request *given) {
+static bool take_conditions(struct conditions *own, const planarbend_request *theirs) {
     static const planarbend_turns_along no_turns;
     static const planarbend_angle_at no_angle;
     static const planarbend_dart no_dart;
-    return TAKE(own->turns, own->turns_count, given->turns, given->turns_count, &no_turns)
-        && TAKE(own->angles, own->angles_count, given->angles, given->angles_count, &no_angle)
-        && TAKE(own->inner, own->inner_count, given->inner, given->inner_count, &no_dart);
+    return TAKE(own->turns, own->turns_count, theirs->turns, theirs->turns_count, &no_turns)
+        && TAKE(own->angles, own->angles_count, theirs->angles, theirs->angles_count, &no_angle)
+        && TAKE(own->inner, own->inner_count, theirs->inner, theirs->inner_count, &no_dart);
 }
 
-static bool take_request(struct request *own, const planarbend_request *given) {
-    if (given == NULL || given->size != sizeof *given || given->outer < 0 || given->drawing < 0) return false;
-    own->outer = (uint32_t)given->outer;
-    own->drawing = (uint32_t)given->drawing;
-    return take_source(&own->source, given) && take_conditions(&own->conditions, given);
+static bool take_request(struct request *own, const planarbend_request *theirs) {
+    if (theirs == NULL || theirs->size != sizeof *theirs || theirs->outer < 0 || theirs->drawing < 0) return false;
+    own->outer = (uint32_t)theirs->outer;
+    own->drawing = (uint32_t)theirs->drawing;
+    return take_source(&own->source, theirs) && take_conditions(&own->conditions, theirs);
 }
 
-#define TAKE_LIST(list) TAKE(own->list, own->list##_room, given->list, given->list##_room, nothing)
+#define TAKE_LIST(list) TAKE(own->list, own->list##_room, theirs->list, theirs->list##_room, nothing)
 
-static bool take_lists(struct lists *own, const planarbend_lists *given) {
+static bool take_lists(struct lists *own, const planarbend_lists *theirs) {
     static const planarbend_lists none = {.size = sizeof none};
     void *nothing = own;
-    if (given == NULL) given = &none;
-    return given->size == sizeof *given && TAKE_LIST(angles) && TAKE_LIST(turns) && TAKE_LIST(vertex_prices)
+    if (theirs == NULL) theirs = &none;
+    return theirs->size == sizeof *theirs && TAKE_LIST(angles) && TAKE_LIST(turns) && TAKE_LIST(vertex_prices)
         && TAKE_LIST(face_prices) && TAKE_LIST(points) && TAKE_LIST(corner_starts) && TAKE_LIST(corners);
 }
 
-static bool take_cut(struct cut_lists *own, const planarbend_cut *given) {
+static bool take_cut(struct cut_lists *own, const planarbend_cut *theirs) {
     static const planarbend_cut none = {.size = sizeof none};
     void *nothing = own;
-    if (given == NULL) given = &none;
+    if (theirs == NULL) theirs = &none;
     own->outer_face = 0;
-    return given->size == sizeof *given && TAKE_LIST(vertices) && TAKE_LIST(faces);
+    return theirs->size == sizeof *theirs && TAKE_LIST(vertices) && TAKE_LIST(faces);
 }
 
 int planarbend_layout(planarbend *object, const planarbend_request *request, planarbend_counts *counts,
