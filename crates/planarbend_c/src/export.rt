@@ -117,7 +117,6 @@ fn answer_plain(
     ensures rest { AreSameAfter counts.new (contents lists.old) (contents lists.new) }
     ensures undrawn { drawing_in request.now.drawing ≡ Some None → HaveSamePoints (contents lists.old) (contents lists.new) }
     ensures uncounted { ¬ (result ≡ Outcome.Laid) → ¬ (result ≡ Outcome.Room) → counts.new ≡ counts.old }
-    ensures shaped { ¬ (result ≡ Outcome.NoShape) }
 {
     let Some(choice) = choice_of(request.outer) else {
         return Outcome::Argument;
