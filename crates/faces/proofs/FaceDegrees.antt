@@ -54,9 +54,9 @@ degree_at_most p plane f b =
     let each : sum_below m (λ _. 2) ≤ sum_below m g = sum_below-le m (λ _. 2) g (λ k l. some p plane f k l) in
     omega (arith, changed, two, each, sum_below-constant m 2, degrees_sum (darts p) m (face_at p) ends.face_named, plane.euler)
   where
-    some : (p : PlaneModel) → IsPlane p → (f k : ℕ) → k < p.faces → 2 ≤ cond (eqb f k) 2 (degree p k)
-    some p plane f k l = two_or (eqb f k) (degree p k) (degree_some p plane k l)
-
     two_or : (c : Bool) (n : ℕ) → 2 ≤ n → 2 ≤ cond c 2 n
     two_or true n h = omega arith
     two_or false n h = h
+
+    some : (p : PlaneModel) → IsPlane p → (f k : ℕ) → k < p.faces → 2 ≤ cond (eqb f k) 2 (degree p k)
+    some p plane f k l = two_or (eqb f k) (degree p k) (degree_some p plane k l)

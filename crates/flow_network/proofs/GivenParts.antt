@@ -6,7 +6,7 @@ use Rattle.std.proofs.lemmas.Bool.{cases_lt, cases_eq, cases_Bool, eq-eqb, ne_eq
 use Rattle.std.proofs.lemmas.Int.{ints}
 use Rattle.std.proofs.lemmas.List.{get_or_past}
 use Rattle.common.specs.Sums.{sum_below, total_below}
-use Rattle.common.proofs.Sums.{sum_below-same, sum_below-le, sum_below-add, sum_below-none, sum_below-split, sum_below-turned, exchanged, total_below-parts}
+use Rattle.common.proofs.Sums.{sum_below-same, sum_below-le, sum_below-add, sum_below-none, sum_below-member, sum_below-split, sum_below-turned, exchanged, total_below-parts}
 use Rattle.embedding.specs.Lesser.{is_lesser_of}
 use Rattle.faces.specs.Planes.{PlaneModel, IsPlane, HasEnds, darts, vertices, head, reverse_dart, face_at, degree}
 use Rattle.faces.proofs.Ends.{plane_ends}
@@ -104,19 +104,43 @@ pub none_at : (d : ℕ) → angle_given nothing_given d ≡ None
 none_at d = refl
 
 -- an angle that can be given has three right angles beyond the first at most
+pub angle_few : (g : Option ℕ) → IsAngle g → beyond_first g ≤ 3
+angle_few None is = omega arith
+angle_few (Some k) is = omega (arith, is.1)
+
 pub beyond_first_few : (given : GivenModel) → CanBeGiven given.angles given.turns → (d : ℕ) → beyond_first (angle_given given d) ≤ 3
 beyond_first_few given can d =
     elim (cases_lt d (length given.angles)) [
-      | inl inside ↦ few (angle_given given d) (can.are_angles d None inside)
-      | inr past ↦ few (angle_given given d) (subst IsAngle (sym (get_or_past given.angles d None past)) tt)
+      | inl inside ↦ angle_few (angle_given given d) (can.are_angles d None inside)
+      | inr past ↦ angle_few (angle_given given d) (subst IsAngle (sym (get_or_past given.angles d None past)) tt)
     ]
+
+-- walked back they are as many
+pub abs_back : (g : Option ℤ) → nat_abs (lefts_given (walked_back g)) ≡ nat_abs (lefts_given g)
+abs_back None = refl
+abs_back (Some (pos zero)) = refl
+abs_back (Some (pos (suc n))) = omega arith
+abs_back (Some (negsuc n)) = omega arith
+
+-- what stands at one place of a list is no more than what stands at all
+pub listed_few : (turns : List (Option ℤ)) → turns_in_all turns ≤ MAX_GIVEN_TURNS → (d : ℕ) → nat_abs (lefts_given (slice_index_or turns d None)) ≤ MAX_GIVEN_TURNS
+listed_few turns few d =
+    elim (cases_lt d (length turns)) [
+      | inl inside ↦ omega (arith, few, sum_below-member (length turns) d (λ e. nat_abs (lefts_given (slice_index_or turns e None))) inside)
+      | inr past ↦ subst (λ (g : Option ℤ). nat_abs (lefts_given g) ≤ MAX_GIVEN_TURNS) (sym (get_or_past turns d None past)) (omega arith)
+    ]
+
+pub turns_few : (p : PlaneModel) (given : GivenModel) → CanBeGiven given.angles given.turns → (d : ℕ) → nat_abs (lefts_given (turns_given p given d)) ≤ MAX_GIVEN_TURNS
+turns_few p given can d =
+    by_dart (is_lesser_of p.lists d) (slice_index_or given.turns d None) (slice_index_or given.turns (reverse_dart p d) None)
+    (listed_few given.turns can.few d) (listed_few given.turns can.few (reverse_dart p d))
   where
-    few : (g : Option ℕ) → IsAngle g → beyond_first g ≤ 3
-    few None is = omega arith
-    few (Some k) is = omega (arith, is.1)
+    by_dart : (c : Bool) (g h : Option ℤ) → nat_abs (lefts_given g) ≤ MAX_GIVEN_TURNS → nat_abs (lefts_given h) ≤ MAX_GIVEN_TURNS → nat_abs (lefts_given (if c then g else walked_back h)) ≤ MAX_GIVEN_TURNS
+    by_dart true g h one other = one
+    by_dart false g h one other = omega (arith, abs_back h, other)
 
 -- the first n places of a list have no more turns than all
-some_places : (turns : List (Option ℤ)) (n : ℕ) → sum_below n (λ d. nat_abs (lefts_given (slice_index_or turns d None))) ≤ turns_in_all turns
+pub some_places : (turns : List (Option ℤ)) (n : ℕ) → sum_below n (λ d. nat_abs (lefts_given (slice_index_or turns d None))) ≤ turns_in_all turns
 some_places turns n =
     let f : ℕ → ℕ = λ d. nat_abs (lefts_given (slice_index_or turns d None)) in
     let m = length turns in
@@ -132,7 +156,7 @@ some_places turns n =
     ]
 
 -- the left turns of all darts are all turns of the lesser ones, and so are the right turns
-all_parts : (p : PlaneModel) (given : GivenModel) (one other : Option ℤ → ℕ) → HasEnds p → ((g : Option ℤ) → one (walked_back g) ≡ other g) → ((g : Option ℤ) → one g + other g ≡ nat_abs (lefts_given g)) →
+pub all_parts : (p : PlaneModel) (given : GivenModel) (one other : Option ℤ → ℕ) → HasEnds p → ((g : Option ℤ) → one (walked_back g) ≡ other g) → ((g : Option ℤ) → one g + other g ≡ nat_abs (lefts_given g)) →
     sum_below (darts p) (λ d. one (turns_given p given d)) ≤ turns_in_all given.turns
 all_parts p given one other ends back both =
     let n = darts p in
@@ -203,7 +227,7 @@ vertex_plain p v =
     let none : beyond_at_vertex p nothing_given v ≡ 0 = sum_below-none (darts p) (λ d. if head p d == v then beyond_first (angle_given nothing_given d) else 0) (λ d _. zero_or (head p d == v)) in
     less (vertex_degree p v) (beyond_at_vertex p nothing_given v) none
   where
-    zero_or : (c : Bool) → (if c then 0 else 0) ≡ 0
+    zero_or : (c : Bool) → ◌≡◌ {A = ℕ} (if c then 0 else 0) 0
     zero_or true = refl
     zero_or false = refl
 
@@ -219,7 +243,7 @@ face_plain p f =
     ∙ even (sum_below (darts p) (λ _. 0)) in
     less (if f == p.outer then negsuc 3 else pos 4) (degree p f) (beyond_in_face p nothing_given f) (lefts_in_face p nothing_given f) angles turns
   where
-    zero_or : (c : Bool) → (if c then 0 else 0) ≡ 0
+    zero_or : (c : Bool) → ◌≡◌ {A = ℕ} (if c then 0 else 0) 0
     zero_or true = refl
     zero_or false = refl
 

@@ -5,3 +5,4 @@ pub mod WrittenLists
 pub mod Faultless
 pub mod OuterSet
 pub mod GivenParts
+pub mod Taken

@@ -25,7 +25,7 @@ untouched true c s s' h k e = cc
 untouched false true s s' h k e = cc
 untouched false false s s' h k e = omega (arith, ints)
 
-same_test : (n f g : ℕ) → eqb (n + f) (n + g) ≡ eqb f g
+pub same_test : (n f g : ℕ) → eqb (n + f) (n + g) ≡ eqb f g
 same_test n f g = elim (cases_eq f g) [
   | inl e ↦ eq-eqb (n + f) (n + g) (omega arith) ∙ sym (eq-eqb f g e)
   | inr ne ↦ ne_eqb (n + f) (n + g) (λ e. ne (omega arith)) ∙ sym (ne_eqb f g ne)

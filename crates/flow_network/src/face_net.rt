@@ -100,6 +100,8 @@ impl FaceNet {
         ensures net { IfOk result (IsKeepingNetOf plane.now given.now) }
         ensures flow { given.now ≡ nothing_given → IfOk result (λ n. (y : ℕ → ℕ) × Flow n.network y) }
     {
+        // Only the proof needs this: `is_nothing` says how much can be given.
+        let _is_nothing = given.is_nothing();
         let lent = mem::replace(&mut scratch.supplies, Vec::new(alloc));
         let supplies = supplies_of(lent, plane, given)?;
         let arcs = arcs_of(

@@ -61,7 +61,8 @@ impl<'a> Given<'a> {
 
     /// Whether both lists are empty.
     pub fn is_nothing(&self) -> bool
-        ensures { IsTrue result ↔ (self.now ≡ nothing_given) }
+        ensures nothing { IsTrue result ↔ (self.now ≡ nothing_given) }
+        ensures can { CanBeGiven self.now.angles self.now.turns }
     {
         self.angles.is_empty() && self.turns.is_empty()
     }

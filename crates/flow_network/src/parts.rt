@@ -1,11 +1,10 @@
 //! Supplies and arcs of the flow network of a plane (Tamassia 1987).
 
-ghost use Rattle.std.specs.Prelude.{◌≡◌, ◌+◌, ◌-◌, ◌<◌, ◌≤◌, ◌==◌, if◌then◌else◌, ℕ, pos, negsuc, ◌+ℤ◌, ◌-ℤ◌, ◌≤ℤ◌, IfOk, length, slice_index_or};
-ghost use Rattle.embedding.specs.declared.graphs.TheConstants.{MAX_DARTS};
+ghost use Rattle.std.specs.Prelude.{◌≡◌, ◌+◌, ◌-◌, ◌<◌, ◌≤◌, ◌==◌, if◌then◌else◌, ℕ, pos, negsuc, ◌-ℤ◌, ◌≤ℤ◌, IfOk, length, slice_index_or};
 ghost use Rattle.faces.specs.Planes.{darts, vertices, head, reverse_dart, face_at, degree};
 ghost use Rattle.networks.specs.Networks.{no_arc};
-ghost use Rattle.flow_network.specs.Given.{angle_given, turns_given};
-ghost use Rattle.flow_network.specs.FaceNet.{vertex_degree, beyond_at_vertex, beyond_in_face, lefts_in_face, vertex_has_to_turn, face_has_to_turn, corner_cap, crossing_cap};
+ghost use Rattle.flow_network.specs.Given.{CanBeGiven, angle_given, turns_given, beyond_first};
+ghost use Rattle.flow_network.specs.FaceNet.{vertex_degree, vertex_has_to_turn, face_has_to_turn, corner_cap, crossing_cap};
 
 use crate::given::{Given, beyond, lefts};
 use common::emptied;
@@ -42,11 +41,22 @@ pub fn vertex_to_turn(plane: &Plane, given: &Given<'_>, vertex: u16) -> i32
 {
     let mut units = 4 - i32::from(degree_of(plane, vertex));
     for dart in 0..plane.graph().darts() {
-        if plane.graph().head(dart) == vertex {
-            units -= beyond(given.angle(dart));
-        }
+        units -= beyond_at(plane, given, dart, vertex);
     }
     units
+}
+
+/// How many right angles beyond the first a dart's given angle has at a vertex: none if the dart does not arrive there.
+fn beyond_at(plane: &Plane, given: &Given<'_>, dart: u16, vertex: u16) -> i32
+    requires { dart < darts plane.now }
+    ensures value { result ≡ pos (if head plane.now dart == vertex then beyond_first (angle_given given.now dart) else 0) }
+    ensures few { result ≤ℤ pos 3 }
+{
+    if plane.graph().head(dart) == vertex {
+        beyond(given.angle(dart))
+    } else {
+        0
+    }
 }
 
 /// Returns the supply of each node of the plane's flow network: of all vertices, then of all faces.
@@ -64,9 +74,10 @@ pub fn supplies_of(
         → slice_index_or s.items (vertices plane.now + f) (pos 0) ≡ face_has_to_turn plane.now given.now f) }
 {
     let mut supplies = supplies_of_plane(old, plane)?;
-    if !given.is_nothing() {
-        take_given(&mut supplies, plane, given);
+    if given.is_nothing() {
+        return Ok(supplies);
     }
+    take_given(&mut supplies, plane, given);
     Ok(supplies)
 }
 
@@ -91,17 +102,20 @@ fn supplies_of_plane(old: Vec<i32>, plane: &Plane) -> Result<Vec<i32>, AllocErro
     Ok(supplies)
 }
 
-/// Takes what is given from the supplies of vertices and faces.
+/// Takes what is given from the supplies of vertices and faces where nothing is given.
 fn take_given(supplies: &mut [i32], plane: &Plane, given: &Given<'_>)
+    requires can { CanBeGiven given.now.angles given.now.turns }
     requires nodes { length supplies.old ≡ vertices plane.now + plane.now.faces }
-    requires low { (k : ℕ) → k < length supplies.old → (pos 0 -ℤ pos (MAX_DARTS + 4)) ≤ℤ slice_index_or supplies.old k (pos 0) }
-    requires high { (k : ℕ) → k < length supplies.old → slice_index_or supplies.old k (pos 0) ≤ℤ pos 4 }
+    requires at_vertex { (v : ℕ) → 1 ≤ v → v ≤ vertices plane.now
+        → slice_index_or supplies.old (v - 1) (pos 0) ≡ pos 4 -ℤ pos (vertex_degree plane.now v) }
+    requires at_face { (f : ℕ) → f < plane.now.faces
+        → slice_index_or supplies.old (vertices plane.now + f) (pos 0)
+        ≡ (if f == plane.now.outer then negsuc 3 else pos 4) -ℤ pos (degree plane.now f) }
     ensures nodes { length supplies.new ≡ vertices plane.now + plane.now.faces }
     ensures at_vertex { (v : ℕ) → 1 ≤ v → v ≤ vertices plane.now
-        → slice_index_or supplies.new (v - 1) (pos 0) ≡ slice_index_or supplies.old (v - 1) (pos 0) -ℤ pos (beyond_at_vertex plane.now given.now v) }
+        → slice_index_or supplies.new (v - 1) (pos 0) ≡ vertex_has_to_turn plane.now given.now v }
     ensures at_face { (f : ℕ) → f < plane.now.faces
-        → slice_index_or supplies.new (vertices plane.now + f) (pos 0)
-        ≡ slice_index_or supplies.old (vertices plane.now + f) (pos 0) +ℤ pos (beyond_in_face plane.now given.now f) -ℤ lefts_in_face plane.now given.now f }
+        → slice_index_or supplies.new (vertices plane.now + f) (pos 0) ≡ face_has_to_turn plane.now given.now f }
 {
     let graph = plane.graph();
     let first_face = usize::from(graph.vertices());
