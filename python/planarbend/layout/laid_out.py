@@ -83,6 +83,10 @@ class GraphUnkept(GraphError):
                            walks[fault.cut.outer])
 
 
+Found = Answer | Refusal | GraphUnkept
+Answered = tuple["Record", Found]
+
+
 class GraphUndrawn(GraphError):
     """The graph has no drawing, which is proved never to occur: `cause` is the word for the cause."""
 
@@ -184,7 +188,7 @@ class Layout:
         return [self.points[tail], *self.corners[tail, head], self.points[head]]
 
     @staticmethod
-    def of(number: int, record: Record, answer: Answer | Refusal | GraphUnkept) -> Layout:
+    def of(number: int, record: Record, answer: Found) -> Layout:
         """Return the layout of a record, or raise a `GraphError` if the answer is none."""
         if isinstance(answer, GraphUnkept):
             raise answer
@@ -317,11 +321,11 @@ class Layouts:
         self.run: Run | None = None
         self.answers = self._answers(outer, words, most)
 
-    def _answers(self, outer: str, words: Iterable[str], most: int) -> Iterator[tuple[Record, Answer | Refusal | GraphUnkept]]:
+    def _answers(self, outer: str, words: Iterable[str], most: int) -> Iterator[Answered]:
         """Return the answers for all records, each with its record."""
         return self._runs([program(), "layout", "--json", "--outer", outer, *words, "-"], most)
 
-    def _runs(self, words: list[str], most: int) -> Iterator[tuple[Record, Answer | Refusal | GraphUnkept]]:
+    def _runs(self, words: list[str], most: int) -> Iterator[Answered]:
         """Yield the answers of one run after another."""
         is_last = False
         while not is_last:
@@ -377,13 +381,13 @@ class LibraryLayouts(Layouts):
         self.conditions = conditions
         super().__init__(graphs, outer, [drawing])
 
-    def _answers(self, outer: str, words: Iterable[str], most: int) -> Iterator[tuple[Record, Answer | Refusal | GraphUnkept]]:
+    def _answers(self, outer: str, words: Iterable[str], most: int) -> Iterator[Answered]:
         """Yield the answers for all records, each with its record."""
         drawing, = words
         for number, record in enumerate(self.records, 1):
             yield record, self._answer(number, record, outer, drawing)
 
-    def _answer(self, number: int, record: Record, outer: str, drawing: str) -> Answer | Refusal | GraphUnkept:
+    def _answer(self, number: int, record: Record, outer: str, drawing: str) -> Found:
         """Return the answer for a record, the one with this number in the stream."""
         given = library.any_record_of(record.lists)
         if not self.conditions:

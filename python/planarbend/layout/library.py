@@ -230,7 +230,8 @@ class Library:
 
     def _call(self) -> int:
         """Return the result of a call with the request as it is."""
-        return int(self._layout(self._object, *map(ctypes.addressof, (self._request, self._counts, self._lists, self._marks))))
+        structures = self._request, self._counts, self._lists, self._marks
+        return int(self._layout(self._object, *map(ctypes.addressof, structures)))
 
     def _cut(self) -> Cut:
         """Return the cut that the last call wrote: the marked vertices and faces, and the outer face."""
@@ -238,7 +239,8 @@ class Library:
         return Cut(vertices, tuple(face for face, mark in enumerate(self._held["faces"]) if mark), self._marks.outer_face)
 
     def line(self, record: Record, outer: str = "first", drawing: str = "short", straight: Iterable[Dart] = (),
-             inner: Iterable[Dart] = (), angles: Mapping[Dart, int] = NOTHING, turns: Mapping[Dart, int] = NOTHING) -> dict[str, Any]:
+             inner: Iterable[Dart] = (), angles: Mapping[Dart, int] = NOTHING,
+             turns: Mapping[Dart, int] = NOTHING) -> dict[str, Any]:
         """Return the line of `planarbend layout --json` for a record, without "file" and "graph".
 
         Parameters
