@@ -224,6 +224,13 @@ static void look_at_passing(planarbend *object) {
     request.record8 = BYTES, request.record16 = ENTRIES;
     LOOK(planarbend_layout(object, &request, NULL, NULL, NULL) == PLANARBEND_NOT_A_RECORD);
     LOOK(last.request.source.byte_count == 0 && last.request.source.entry_count == 0);
+    for (int is_wide = 0; is_wide < 2; is_wide++) { /* the other pointer is not null, and its count is 0 */
+        request = request_of(is_wide);
+        if (is_wide) request.record8 = BYTES;
+        else request.record16 = ENTRIES;
+        LOOK(planarbend_layout(object, &request, NULL, NULL, NULL) == PLANARBEND_NOT_A_RECORD);
+        look_at_source(is_wide);
+    }
 }
 
 /* ---- calls that are refused before the proved one */
