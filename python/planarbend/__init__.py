@@ -12,11 +12,12 @@ from planarbend.graph import Arrow, Edge, Graph, Kind, Vertex
 from planarbend.programs import NoProgram, PlanarbendError, RunFailed, program
 
 if TYPE_CHECKING:
-    from planarbend.layout.laid_out import (GraphError, GraphLost, GraphRefused, GraphUndrawn, Layout, Layouts, Record,
-                                            layout_of, layouts)
+    from planarbend.layout.laid_out import (GraphError, GraphLost, GraphRefused, GraphUndrawn, GraphUnkept, Layout, Layouts,
+                                            Record, layout_of, layouts)
 
-__all__ = ["Arrow", "Edge", "Graph", "GraphError", "GraphLost", "GraphRefused", "GraphUndrawn", "Kind", "Layout", "Layouts",
-           "NoProgram", "PlanarbendError", "Record", "RunFailed", "Vertex", "layout_of", "layouts", "program"]
+__all__ = ["Arrow", "Edge", "Graph", "GraphError", "GraphLost", "GraphRefused", "GraphUndrawn", "GraphUnkept", "Kind",
+           "Layout", "Layouts", "NoProgram", "PlanarbendError", "Record", "RunFailed", "Vertex", "layout_of", "layouts",
+           "program"]
 
 
 def __getattr__(name: str) -> Any:

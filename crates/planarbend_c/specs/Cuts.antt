@@ -1,4 +1,4 @@
--- What C is told of why no shape keeps the edges straight.
+-- What C is told of why no shape keeps the angles and turns.
 use Rattle.std.specs.Prelude.{◌≡◌, ℕ, ◌<◌, Bool, List, length, slice_index, if◌then◌else◌}
 use Rattle.flow_network.specs.Marks.{is_marked}
 use Rattle.conditions.specs.declared.fault.Unkept.{Unkept}

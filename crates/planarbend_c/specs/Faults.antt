@@ -36,7 +36,7 @@ pub record IsTooWide (conditions : Conditions) (choice : Choice) (g : List (List
   pub kept : IsKept conditions choice plane shape prices
   pub shown : IsCause plane shape cause.Wide
 
--- no shape keeps what is asked for, and the vertices and faces that show it stand in the lists of the cut
+-- no shape keeps the angles and turns, and the vertices and faces that show it stand in the lists of the cut
 pub record HasCut (conditions : Conditions) (choice : Choice) (g : List (List ℕ)) (cut : CutModel) : Type 0 where
   pub why : Unkept
   pub shown : IsUnkept conditions choice g (keep.NoShape why)
@@ -45,11 +45,11 @@ pub record HasCut (conditions : Conditions) (choice : Choice) (g : List (List �
 -- what an outcome shows of them where conditions are to be kept
 abbrev pub IsKeepingFault : Conditions → Choice → List (List ℕ) → CutModel → Outcome → Type 0
 IsKeepingFault conditions choice g cut NoShape = HasCut conditions choice g cut
--- an angle is none, or all edges together are to have more turns than can be given
-IsKeepingFault conditions choice g cut Argument = IsUnkept conditions choice g keep.NoAngle ⊎ IsUnkept conditions choice g keep.TooManyTurns
 IsKeepingFault conditions choice g cut NoEdge = IsUnkept conditions choice g keep.NoEdge
-IsKeepingFault conditions choice g cut NoOuter = IsUnkept conditions choice g keep.NoOuter
 IsKeepingFault conditions choice g cut Conflict = IsUnkept conditions choice g keep.Conflict
+-- some angle is none, or there are more turns than can be given
+IsKeepingFault conditions choice g cut Argument = IsUnkept conditions choice g keep.NoAngle ⊎ IsUnkept conditions choice g keep.TooManyTurns
+IsKeepingFault conditions choice g cut NoOuter = IsUnkept conditions choice g keep.NoOuter
 IsKeepingFault conditions choice g cut Wide = IsTooWide conditions choice g
 IsKeepingFault conditions choice g cut outcome = IsFault g outcome
 
