@@ -1,0 +1,1 @@
+"""Schematics: parts with pins, joined by wires."""
