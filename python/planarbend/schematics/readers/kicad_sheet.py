@@ -7,16 +7,16 @@ import math
 import re
 from collections.abc import Hashable, Iterator
 
+from planarbend.schematics.flags import flag, unused
 from planarbend.schematics.parts import Kind, Net, Part, Pin, Sheet, ordered
 from planarbend.schematics.readers.kicad_page import Label, Page, Placed, plain
 from planarbend.schematics.readers.kicad_symbols import LibraryPin, Point
 from planarbend.schematics.readers.kicad_wires import Joints, Lines
-from planarbend.schematics.readers.kinds import finished, flag, kind_of
+from planarbend.schematics.readers.kinds import finished, kind_of, polarity_note
 
 NAME_FROM_VALUE = 20220914  # the version from which on the value of a power symbol is the name of its net
 BUS = re.compile(r".*[\[{].*[\]}]", re.S)  # the name of a bus
 ARROWS = {frozenset("BCE"): ("E", Kind.NPN, Kind.PNP), frozenset("GDS"): ("G", Kind.NMOS, Kind.PMOS)}
-NO_POLARITY = "{}: a box, since the file does not say whether it is {} or {}"
 
 
 @dataclasses.dataclass(slots=True)
@@ -108,10 +108,11 @@ def part_of(one: Placed, sheet: Sheet) -> Part:
     polarity = ARROWS.get(frozenset(pin.name.upper() for pin in pins)) if len(pins) == 3 else None
     if kind is Kind.BOX and polarity:
         kind = by_arrow(one, *polarity) or kind
-        if kind is Kind.BOX:
-            names = (polarity[1].value.upper(), polarity[2].value.upper())
-            sheet.notes.append(NO_POLARITY.format(one.reference, *names))
-    return Part(one.reference, one.value, kind, pins, form=form)
+    found = Part(one.reference, one.value, kind, pins, form=form)
+    note = polarity_note(found)
+    if note:
+        sheet.notes.append(note)
+    return found
 
 
 def by_arrow(one: Placed, name: str, outwards: Kind, inwards: Kind) -> Kind | None:
@@ -166,12 +167,3 @@ def add_net(sheet: Sheet, pieces: list[Piece], placed: list[Placed]) -> None:
 def made_name(placed: list[Placed], part: int, pin: int) -> str:
     """Return the name of a net without a label, from one of its pins."""
     return f"Net-({placed[part].reference}-{placed[part].pins[pin][0].pin.number})"
-
-
-def unused(sheet: Sheet, key: str) -> str:
-    """Return a key for a net that no other net has."""
-    number, found = 1, key
-    while found in sheet.nets:
-        number += 1
-        found = f"{key} ({number})"
-    return found

@@ -7,7 +7,7 @@ from __future__ import annotations
 import re
 from collections.abc import Sequence
 
-from planarbend.schematics.parts import EAST, NORTH, SOUTH, TRANSISTORS, WEST, WISHES, Kind, Part, Pin
+from planarbend.schematics.parts import CAGES, EAST, NORTH, SOUTH, TRANSISTORS, WEST, WISHES, Kind, Part, Pin
 
 INPUTS, OUTPUTS = ("input",), ("output", "tri_state", "open_collector", "open_emitter")
 POLARIZED = re.compile(r"(?i)\bCP(?:\d+|small)?\b|_Polari[sz]ed|\bpolari[sz]ed|electrolytic|tantal")
@@ -36,7 +36,6 @@ GATE_WORDS = [("xnor", r"xnor|exclusive.nor"), ("xor", r"xor|exclusive.or"), ("n
               ("or", r"or"), ("not", r"not|inverter|inv"), ("buffer", r"buffer")]
 GATE_TEXT = re.compile(r"(?i)\b(?:\d-?input |single |dual |triple |quad |hex )+(?:schmitt[- ]trigger )?"
                        r"(?:positive[- ])?(exclusive.x?nor|exclusive.or|xnor|xor|nand|nor|and|or|inverter|buffer)\b")
-FLAG_SIDES = {Kind.GROUND: NORTH, Kind.SUPPLY: SOUTH, Kind.INPUT: EAST, Kind.OUTPUT: WEST, Kind.LABEL: EAST, Kind.CONST: EAST}
 MAY_BE_MIRRORED = TRANSISTORS | {Kind.POT, Kind.OPAMP, Kind.MUX}
 SYMMETRIC = ("and", "or", "xor", "nand", "nor", "xnor")
 
@@ -97,6 +96,17 @@ def transistor(words: str, pins: Sequence[Pin]) -> Kind | None:
     return next((kind for kind, pattern in POLARITY if kind in wanted and pattern.search(words)), None)
 
 
+def polarity_note(part: Part) -> str | None:
+    """Return the note on a part that is a box for want of its polarity, or None if it is not such a part."""
+    names = sorted(pin.name.upper() for pin in part.pins)
+    kinds = {tuple(BIPOLAR): "NPN or PNP", tuple(sorted(FIELD)): "n-channel or p-channel"}.get(tuple(names))
+    if part.kind is Kind.TWO and re.fullmatch(r"D\d+", part.ref) and names == ["", ""]:
+        return f"{part.ref}: the file does not say which pin is its cathode"
+    if part.kind is not Kind.BOX or kinds is None:
+        return None
+    return f"{part.ref}: a box, since the file does not say whether it is {kinds}"
+
+
 def is_opamp(pins: Sequence[Pin]) -> bool:
     """Return whether a part has the inputs + and - on its west side, one output on its east side, and at most one further pin
     on each of the other sides, for power."""
@@ -148,8 +158,3 @@ def finished(part: Part) -> Part:
         inputs = [place for place, pin in enumerate(part.pins) if pin.side == WEST]
         part.swaps = [inputs] if len(inputs) > 1 else []
     return part
-
-
-def flag(kind: Kind, name: str, net: str) -> Part:
-    """Return a flag at a net: its text is its name."""
-    return finished(Part(name, name, kind, [Pin("1", "", FLAG_SIDES[kind], net=net)]))
