@@ -76,3 +76,13 @@ def unused(sheet: Sheet, key: str) -> str:
         number += 1
         found = f"{key} ({number})"
     return found
+
+
+def drop_single(sheet: Sheet) -> Sheet:
+    """Return a sheet after removing the nets of one pin, which join nothing, but for power nets."""
+    for key, ends in sheet.ends().items():
+        if len(ends) < 2 and not sheet.nets[key].is_power:
+            for part, pin in ends:
+                sheet.parts[part].pins[pin].net = None
+            del sheet.nets[key]
+    return sheet

@@ -29,6 +29,8 @@ class Kind(enum.Enum):
     PNP = "pnp"
     NMOS = "nmos"
     PMOS = "pmos"
+    NJF = "njf"
+    PJF = "pjf"
     OPAMP = "opamp"
     GATE = "gate"
     MUX = "mux"
@@ -44,11 +46,10 @@ class Kind(enum.Enum):
 
 FLAGS = frozenset({Kind.GROUND, Kind.SUPPLY, Kind.LABEL, Kind.INPUT, Kind.OUTPUT, Kind.CONST})
 CAGES = frozenset({Kind.BOX, Kind.OPAMP, Kind.GATE, Kind.MUX, Kind.DFF})
-READ_UPRIGHT = CAGES  # kinds that are always to be upright
 TURNED_OVER = frozenset({Kind.OPAMP, Kind.GATE, Kind.MUX})  # kinds whose mirror image has its upper and lower side exchanged
 TWO_PINS = frozenset({Kind.RESISTOR, Kind.CAPACITOR, Kind.POLARIZED, Kind.INDUCTOR, Kind.DIODE, Kind.LED, Kind.CRYSTAL,
                       Kind.SOURCE, Kind.TWO})
-TRANSISTORS = frozenset({Kind.NPN, Kind.PNP, Kind.NMOS, Kind.PMOS})
+TRANSISTORS = frozenset({Kind.NPN, Kind.PNP, Kind.NMOS, Kind.PMOS, Kind.NJF, Kind.PJF})
 WISHES = {**dict.fromkeys(CAGES, 20.0), **dict.fromkeys(TRANSISTORS, 1.6), Kind.GROUND: 1.2, Kind.SUPPLY: 1.2,
           Kind.INPUT: 1.0, Kind.OUTPUT: 1.0, Kind.CONST: 1.0, Kind.LABEL: 0.3}  # in bends, for each quarter turn
 
@@ -107,7 +108,10 @@ class Part:
     half : bool
         Whether it is upright also after a half turn.
     form : str
-        Of a gate: and, or, xor, nand, nor, xnor, not or buffer; of a box, a text for its middle (`+`); else empty.
+        Of a gate: and, or, xor, nand, nor, xnor, not or buffer; of a source: voltage or current; of a box, a text for its
+        middle (`+`); else empty.
+    is_named : bool
+        Whether `ref` is written beside it: false if the file has no name for it that a person gave.
     """
 
     ref: str
@@ -120,6 +124,7 @@ class Part:
     want: int = 0
     half: bool = False
     form: str = ""
+    is_named: bool = True
 
     @property
     def is_flag(self) -> bool:
