@@ -32,6 +32,10 @@ class Text:
     is_upwards: bool = False
     anchor: str = "middle"  # SVG's words: which point of the text stays where it is if the font is narrower than was assumed
 
+    def moved(self, by: Point) -> Text:
+        """Return the text after it was moved."""
+        return dataclasses.replace(self, box=moved_box(self.box, by))
+
 
 @dataclass(slots=True)
 class Shape:
@@ -41,6 +45,17 @@ class Shape:
     pins: list[Point]
     strokes: list[Stroke]
     texts: list[Text] = field(default_factory=list)
+
+    def moved(self, by: Point) -> Shape:
+        """Return the shape after it was moved."""
+        return Shape(moved_box(self.box, by), [(x + by[0], y + by[1]) for x, y in self.pins],
+                     [stroke.moved(lambda point: (point[0] + by[0], point[1] + by[1])) for stroke in self.strokes],
+                     [text.moved(by) for text in self.texts])
+
+
+def moved_box(box: Box, by: Point) -> Box:
+    """Return a box after it was moved."""
+    return box[0] + by[0], box[1] + by[1], box[2] + by[0], box[3] + by[1]
 
 
 def text_at(text: str, middle: Point, size: float, role: str, is_upwards: bool = False) -> Text:
@@ -76,7 +91,7 @@ def shape_of(part: Part, pose: Pose) -> Shape:
     if part.kind is Kind.OPAMP and pose.turn % 2 == 0:
         x, y = pose.point((-4.0, 0.0))
         texts += [text_at(text, (x, y + down), size, role) for text, down, size, role in
-                  ((part.ref, -4.0, 8.0, "ref"), (part.value, 4.5, 5.0, "value")) if text and width_of(text, size) <= 29]
+                  ((part.ref, -4.6, 8.0, "ref"), (part.value, 3.4, 5.0, "value")) if text and width_of(text, size) <= (22 if role == "ref" else 29)]
     return Shape(pose.box(own.box), [pose.point(pin) for pin in own.pins], [one.moved(pose.point) for one in own.strokes], texts)
 
 
@@ -171,7 +186,7 @@ def opamp(part: Part) -> Shape:
     strokes = [Stroke("body", "M-27 -26L-27 26L27 0Z")]
     strokes += [Stroke("line", f"M0 {13 * sign}L0 {26 * sign}") for side, sign in ((NORTH, -1), (SOUTH, 1))
                 if any(pin.side == side for pin in part.pins)]
-    signs = [text_at("+" if pin.name == "+" else "\u2212", (-19, level[id(pin)]), 11, "sign") for pin in inputs]
+    signs = [text_at("+" if pin.name == "+" else "\u2212", (-19, level[id(pin)]), 9, "sign") for pin in inputs]
     return Shape((-27, -26, 27, 26), pins, strokes, signs)
 
 
