@@ -260,7 +260,7 @@ def look_at_boxes(drawing: dict[str, Any], found: Verdict) -> None:
     wires = [((min(x for x, _ in points), min(y for _, y in points), max(x for x, _ in points), max(y for _, y in points)), (None, "a wire"))
              for points in (wire["points"] for wire in drawing["wires"])]
     for box, (_, name) in (*boxes, *texts, *wires):
-        found.need(overlap(box, (0.0, 0.0, width, height)) >= min(box[2] - box[0], box[3] - box[1]) - SAME, f"{name} is outside the picture")
+        found.need(min(box[:2]) > -SAME and box[2] < width + SAME and box[3] < height + SAME, f"{name} is outside the picture")
     for one, first, other, second in pairs_of(boxes):
         found.need(overlap(one, other) < SAME, f"the parts {first[1]} and {second[1]} overlap")
     for one, first, other, second in pairs_of(texts):

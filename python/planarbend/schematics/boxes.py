@@ -66,7 +66,7 @@ def box_shape(part: Part, pose: Pose, frame: Box, pins: Sequence[Point]) -> Shap
         if pin.name:
             texts.append(name_text(pin, at, side))
         if pin.number and pin.number != pin.name and part.kind is Kind.BOX and part.is_named and not part.form:
-            texts.append(number_text(pin.number, at, side))
+            texts.append(number_text(pin, at, side))
     return Shape(frame, list(pins), strokes, texts)
 
 
@@ -86,9 +86,14 @@ def mark_strokes(pin: Pin, at: Point, side: int) -> list[Stroke]:
         tip = step(at, side + 2 & 3, WEDGE)
         (a, b), (c, d) = (step(at, side + 1 & 3, 4), step(at, side + 3 & 3, 4))
         found.append(Stroke("line", f"M{a:g} {b:g}L{tip[0]:g} {tip[1]:g}L{c:g} {d:g}"))
-    if "inverted" in pin.shape:
+    if has_circle(pin):
         found.append(Stroke("paper", circle(*step(at, side, BUBBLE), BUBBLE)))
     return found
+
+
+def has_circle(pin: Pin) -> bool:
+    """Return whether a pin has a circle: it is inverted, and not merely a contact that the file draws so."""
+    return "inverted" in pin.shape and pin.etype != "passive"
 
 
 def name_text(pin: Pin, at: Point, side: int) -> Text:
@@ -98,8 +103,8 @@ def name_text(pin: Pin, at: Point, side: int) -> Text:
     return text_at(pin.name, step(at, inwards, depth), NAME, "name", side in (NORTH, SOUTH))
 
 
-def number_text(number: str, at: Point, side: int) -> Text:
+def number_text(pin: Pin, at: Point, side: int) -> Text:
     """Return the number of a pin outside the box: above a wire that is level, to the left of one that is upright."""
-    x, y = step(at, side, 2 + width_of(number, NUMBER) / 2)
+    x, y = step(at, side, 2 + width_of(pin.number, NUMBER) / 2 + (2 * BUBBLE if has_circle(pin) else 0.0))
     is_upwards = side in (NORTH, SOUTH)
-    return text_at(number, (x - 5, y) if is_upwards else (x, y - 5), NUMBER, "number", is_upwards)
+    return text_at(pin.number, (x - 5, y) if is_upwards else (x, y - 5), NUMBER, "number", is_upwards)

@@ -8,6 +8,7 @@ from dataclasses import dataclass, field
 from planarbend.readers.fault import Fault, decoded, shown
 from planarbend.readers.kicad import MADE_NAME, wanted
 from planarbend.readers.sexpr import Expression, parsed
+from planarbend.schematics.flags import flag
 from planarbend.schematics.names import is_power
 from planarbend.schematics.parts import Kind, Net, Part, Pin, Sheet
 from planarbend.schematics.readers.kicad_page import plain
@@ -45,6 +46,9 @@ def read_netlist(data: bytes, file: str, inner: str | None = None) -> Sheet:
             add_net(found, net, components)
     for component in components.values():
         add_part(found, component)
+    for key, ends in found.ends().items():
+        if len(ends) == 1 and not found.nets[key].is_power:
+            found.parts.append(flag(Kind.LABEL, found.nets[key].name, key))
     return found
 
 

@@ -2,6 +2,7 @@
 from __future__ import annotations
 
 import json
+import re
 from typing import Any
 
 from planarbend.readers.fault import Fault, decoded, shown
@@ -79,7 +80,7 @@ class Reader:
         for one in self.object(module, "cells", name).items():
             cell = self.cell(*one)
             found.parts.append(part_of(cell))
-            ends += ((pin, cell.directions[pin.number], cell.bits[pin.number], f"{cell.name}.{pin.number}")
+            ends += ((pin, cell.directions[pin.number], cell.bits[pin.number], f"{short_name(cell)}.{pin.number}")
                      for pin in found.parts[-1].pins)
         connect(Vectors(found, self.names(module, name)), ends)
         return drop_single(found)
@@ -106,8 +107,8 @@ class Reader:
             raise self.fault(f"the cell {shown(name)} has no type", name)
         bits = {port: self.bits(one, name) for port, one in self.object(value, "connections", name).items()}
         directions = self.object(value, "port_directions", name)
-        known = self.object(self.modules.get(kind), "ports", kind) if kind in self.modules else {}
-        found = {port: directions.get(port) or (known.get(port) or {}).get("direction", "") for port in bits}
+        known = self.object(self.modules[kind], "ports", kind) if kind in self.modules else {}
+        found = {port: directions.get(port) or self.object(known, port, kind).get("direction", "") for port in bits}
         for port, direction in found.items():
             if direction not in (*PORTS, ""):
                 raise self.fault(f"the port {shown(port)} of {shown(name)} has the direction {shown(str(direction))}", name)
@@ -132,6 +133,15 @@ def connect(vectors: Vectors, ends: list[End]) -> None:
     for pin, direction, bits, made in ends:
         if direction == "input":
             vectors.sink(pin, bits, made)
+
+
+def short_name(cell: Cell) -> str:
+    """Return a short name for a cell: its type and the number at the end of its name, if no person named it."""
+    if cell.is_named:
+        return cell.name
+    digits = re.search(r"\d*$", cell.name)
+    words = re.search(r"[A-Za-z]+", cell.type)
+    return (words[0].lower() if words else "cell") + (digits[0] if digits else "")
 
 
 def is_on(value: Any) -> bool:
