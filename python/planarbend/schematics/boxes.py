@@ -1,12 +1,14 @@
 """Boxes and flip-flops: the size that they need, and how they are drawn at a size that was chosen."""
 from __future__ import annotations
 
+import dataclasses
 from collections.abc import Sequence
 from dataclasses import dataclass
 
 from planarbend.drawing.texts import width_of
 from planarbend.schematics.parts import EAST, NORTH, SOUTH, WEST, Kind, Part, Pin
-from planarbend.schematics.shapes import (APART, FONT, INSET, LINE, MARGIN, NAME, NUMBER, Shape, Text, step, text_at)
+from planarbend.schematics.shapes import (APART, FONT, INSET, LINE, MARGIN, NAME, NUMBER, Shape, Text, shape_of, step,
+                                          text_at)
 from planarbend.schematics.strokes import Box, Point, Pose, Stroke, circle, rectangle
 from planarbend.schematics.symbols import BUBBLE
 
@@ -55,6 +57,17 @@ def needs_of(part: Part, pose: Pose) -> Needs:
     height = max(top + bottom + APART * max(counts[EAST] - 1, counts[WEST] - 1, 0), reach[NORTH] + reach[SOUTH] + high + 2 * MARGIN)
     width = max(2 * INSET + APART * max(counts[NORTH] - 1, counts[SOUTH] - 1, 0), reach[EAST] + reach[WEST] + wide + 2 * MARGIN)
     return Needs(width, height, top, bottom, INSET, INSET)
+
+
+def extent(part: Part, pose: Pose) -> Box:
+    """Return the room that a part takes around its origin, with the text of a flag and without texts beside other parts. A box
+    or a flip-flop of the size that it needs has its left upper corner there."""
+    if part.kind in (Kind.BOX, Kind.DFF):
+        needs = needs_of(part, pose)
+        return 0.0, 0.0, needs.width, needs.height
+    shape = shape_of(part, dataclasses.replace(pose, at=(0.0, 0.0)))
+    boxes = [shape.box, *(text.box for text in shape.texts)]
+    return min(box[0] for box in boxes), min(box[1] for box in boxes), max(box[2] for box in boxes), max(box[3] for box in boxes)
 
 
 def box_shape(part: Part, pose: Pose, frame: Box, pins: Sequence[Point]) -> Shape:

@@ -7,7 +7,7 @@ from dataclasses import dataclass, field
 
 from planarbend.drawing.texts import width_of
 from planarbend.schematics.parts import EAST, NORTH, SOUTH, WEST, Kind, Part, Pin
-from planarbend.schematics.strokes import Box, Point, Pose, Stroke, circle, rectangle
+from planarbend.schematics.strokes import Box, Point, Pose, Stroke, circle
 from planarbend.schematics.symbols import BUBBLE, POINTS, REACH, pose_of, symbol_of
 
 FONT, LINE = 10.0, 12.0  # of references and values, and the height of a line of them
@@ -233,10 +233,15 @@ def pin_strokes(at: Point, border: Point, pin: Pin) -> list[Stroke]:
 
 
 def mux(part: Part) -> Shape:
-    """Return a multiplexer of two inputs, upright and not mirrored."""
-    places = {"0": (-12.0, -10.0), "1": (-12.0, 10.0), "": (0.0, 25.0)}
-    pins = [(18.0 if "inverted" in pin.shape else 12.0, 0.0) if pin.side == EAST else places[pin.name] for pin in part.pins]
-    strokes = [Stroke("body", "M-12 -25L12 -15L12 15L-12 25Z"), Stroke("line", "M0 20L0 25")]
-    strokes += [Stroke("paper", circle(15, 0, BUBBLE)) for pin in part.pins if pin.side == EAST and "inverted" in pin.shape]
-    right = max(x for x, _ in pins)
-    return Shape((-12, -25, right, 25), pins, strokes, [text_at(name, (-6, y), NAME, "name") for name, y in (("0", -10.0), ("1", 10.0))])
+    """Return a multiplexer of two inputs, upright; its select input is above or below."""
+    inputs = [pin for pin in part.pins if pin.side == WEST]
+    level = {id(pin): PITCH * (number - 0.5) for number, pin in enumerate(inputs)}
+    is_inverted = any("inverted" in pin.shape for pin in part.pins if pin.side == EAST)
+    right = 12.0 + 2 * BUBBLE * is_inverted
+    places = {EAST: (right, 0.0), NORTH: (0.0, -25.0), SOUTH: (0.0, 25.0)}
+    pins = [(-12.0, level[id(pin)]) if pin.side == WEST else places[pin.side] for pin in part.pins]
+    strokes = [Stroke("body", "M-12 -25L12 -15L12 15L-12 25Z")]
+    strokes += [Stroke("line", f"M0 {20 * sign}L0 {25 * sign}") for side, sign in ((NORTH, -1), (SOUTH, 1))
+                if any(pin.side == side for pin in part.pins)]
+    strokes += [Stroke("paper", circle(12 + BUBBLE, 0, BUBBLE))] * is_inverted
+    return Shape((-12, -25, right, 25), pins, strokes, [text_at(pin.name, (-6, level[id(pin)]), NAME, "name") for pin in inputs])
