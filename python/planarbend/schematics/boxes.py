@@ -7,8 +7,8 @@ from dataclasses import dataclass
 
 from planarbend.drawing.texts import width_of
 from planarbend.schematics.parts import EAST, NORTH, SOUTH, WEST, Kind, Part, Pin
-from planarbend.schematics.shapes import (APART, FONT, INSET, LINE, MARGIN, NAME, NUMBER, Shape, Text, shape_of, step,
-                                          text_at)
+from planarbend.schematics.shapes import (APART, FONT, INSET, LINE, MARGIN, NAME, NUMBER, Shape, Text, around, shape_of,
+                                          step, text_at)
 from planarbend.schematics.strokes import Box, Point, Pose, Stroke, circle, rectangle
 from planarbend.schematics.symbols import BUBBLE
 
@@ -54,8 +54,9 @@ def needs_of(part: Part, pose: Pose) -> Needs:
     lines = middle_lines(part)
     wide, high = max((width_of(text, FONT) for text, _ in lines), default=0.0), LINE * len(lines)
     top, bottom = (max(INSET, reach[side] + NAME * 0.6) for side in (NORTH, SOUTH))
-    height = max(top + bottom + APART * max(counts[EAST] - 1, counts[WEST] - 1, 0), reach[NORTH] + reach[SOUTH] + high + 2 * MARGIN)
-    width = max(2 * INSET + APART * max(counts[NORTH] - 1, counts[SOUTH] - 1, 0), reach[EAST] + reach[WEST] + wide + 2 * MARGIN)
+    rows, columns = (max(counts[side] - 1, counts[side + 2] - 1, 0) for side in (EAST, NORTH))
+    height = max(top + bottom + APART * rows, reach[NORTH] + reach[SOUTH] + high + 2 * MARGIN)
+    width = max(2 * INSET + APART * columns, reach[EAST] + reach[WEST] + wide + 2 * MARGIN)
     return Needs(width, height, top, bottom, INSET, INSET)
 
 
@@ -67,7 +68,7 @@ def extent(part: Part, pose: Pose) -> Box:
         return 0.0, 0.0, needs.width, needs.height
     shape = shape_of(part, dataclasses.replace(pose, at=(0.0, 0.0)))
     boxes = [shape.box, *(text.box for text in shape.texts)]
-    return min(box[0] for box in boxes), min(box[1] for box in boxes), max(box[2] for box in boxes), max(box[3] for box in boxes)
+    return around([corner for box in boxes for corner in (box[:2], box[2:])])
 
 
 def box_shape(part: Part, pose: Pose, frame: Box, pins: Sequence[Point]) -> Shape:
@@ -89,7 +90,8 @@ def middle_texts(part: Part, pose: Pose, frame: Box) -> list[Text]:
     lines = middle_lines(part)
     x = (left + longest(part, pose, WEST) + right - longest(part, pose, EAST)) / 2
     y = (top + longest(part, pose, NORTH) + bottom - longest(part, pose, SOUTH)) / 2
-    return [text_at(text, (x, y + LINE * (number - (len(lines) - 1) / 2)), FONT, role) for number, (text, role) in enumerate(lines)]
+    first = y - LINE * (len(lines) - 1) / 2
+    return [text_at(text, (x, first + LINE * number), FONT, role) for number, (text, role) in enumerate(lines)]
 
 
 def mark_strokes(pin: Pin, at: Point, side: int) -> list[Stroke]:

@@ -95,14 +95,16 @@ class Schematic:
     def json(self) -> str:
         """Return the drawing as JSON, as the module describes it."""
         found: dict[str, Any] = {
-            "name": self.sheet.name, "size": rounded(self.size), "parts": [self.part(number) for number in range(len(self.shapes))],
+            "name": self.sheet.name, "size": rounded(self.size),
+            "parts": [self.part(number) for number in range(len(self.shapes))],
             "nets": {key: {"name": net.name, "power": net.is_power} for key, net in self.sheet.nets.items()},
             "wires": [{"net": wire.net, "points": [rounded(point) for point in wire.points]} for wire in self.wires],
             "junctions": [{"net": net, "at": rounded(at)} for net, at in self.junctions],
             "crossings": [{"at": rounded(at), "nets": list(nets)} for at, nets in self.crossings],
             "jogs": [{"wire": one.wire, "corner": one.corner, "into": one.into} for one in self.jogs],
             "stubs": [{"part": part, "pin": pin, "to": rounded(to)} for part, pin, _, to in self.stubs()],
-            "texts": [{"text": text.text, "box": rounded(text.box), "part": part, "role": text.role} for part, text in self.texts()],
+            "texts": [{"text": text.text, "box": rounded(text.box), "part": part, "role": text.role}
+                      for part, text in self.texts()],
             "bends": self.bends}
         return json.dumps(found, ensure_ascii=False, separators=(",", ":"))
 

@@ -2,16 +2,19 @@
 from __future__ import annotations
 
 from planarbend.drawing.texts import FAMILY, svg_text, xml_text
-from planarbend.drawing.themes import paper, themed
+from planarbend.drawing.themes import PAPER, paper, themed
 from planarbend.schematics.drawn import Schematic
-from planarbend.schematics.parts import Part
+from planarbend.schematics.parts import Part, Pin
 from planarbend.schematics.shapes import Text
 from planarbend.schematics.strokes import Point, Stroke
 
-INK, WIRE, BODY, NAMES = "#1d2733", "#0a6e2c", "#fffbe6", "#334455"  # lines and texts, wires, the inside of parts, names of pins
+INK, WIRE = "#1d2733", "#0a6e2c"  # the colours of symbols and texts, and of wires
+BODY, NAMES = "#fffbe6", "#334455"  # those of the inside of parts, and of names and numbers of pins
 STROKE, WIRE_STROKE, BOLD = 1.3, 1.2, 2.2  # pixels
 DOT = 2.4  # pixels, the radius of a junction's dot
 CROSS = 2.0  # pixels, half the size of the cross at a pin that is not connected
+STYLES = {"line": "", "bold": f' stroke-width="{BOLD}"', "body": f' fill="{BODY}"', "ink": f' fill="{INK}"',
+          "paper": f' fill="{PAPER}"'}
 QUIET = ("name", "number")  # roles of texts that are written in the colour of names
 
 
@@ -47,14 +50,19 @@ def part_elements(drawing: Schematic) -> list[str]:
     """Return the symbols of parts, and the stubs of pins that are not connected."""
     found = [f'<g fill="none" stroke="{INK}" stroke-width="{STROKE}" stroke-linejoin="round">']
     stubs: dict[int, list[str]] = {}
-    for part, pin, at, (x, y) in drawing.stubs():
-        cross = f"M{x - CROSS:.1f} {y - CROSS:.1f}L{x + CROSS:.1f} {y + CROSS:.1f}M{x - CROSS:.1f} {y + CROSS:.1f}L{x + CROSS:.1f} {y - CROSS:.1f}"
-        stubs.setdefault(part, []).append(f'<path d="{path_of([at, (x, y)])}{cross}"/>')
+    for number, _, at, (x, y) in drawing.stubs():
+        crossed = [[(x - CROSS, y - CROSS), (x + CROSS, y + CROSS)], [(x - CROSS, y + CROSS), (x + CROSS, y - CROSS)]]
+        stubs.setdefault(number, []).append(f'<path d="{"".join(map(path_of, [[at, (x, y)], *crossed]))}"/>')
     for number, (part, shape) in enumerate(zip(drawing.sheet.parts, drawing.shapes)):
-        pins = [titled(title_of(part, pin.number, pin.name), [f'<circle cx="{x:.1f}" cy="{y:.1f}" r="3" stroke="none" fill="transparent"/>'])
-                for pin, (x, y) in zip(part.pins, shape.pins)] if not part.is_flag else []
+        pins = [] if part.is_flag else [pin_element(part, pin, at) for pin, at in zip(part.pins, shape.pins)]
         found.append(titled(title_of(part), [*map(stroke_element, shape.strokes), *stubs.get(number, []), *pins]))
     return [*found, "</g>"]
+
+
+def pin_element(part: Part, pin: Pin, at: Point) -> str:
+    """Return a place without colour at a pin, which has its title."""
+    dot = f'<circle cx="{at[0]:.1f}" cy="{at[1]:.1f}" r="3" stroke="none" fill="transparent"/>'
+    return titled(title_of(part, pin.number, pin.name), [dot])
 
 
 def title_of(part: Part, number: str = "", name: str = "") -> str:
@@ -67,8 +75,7 @@ def title_of(part: Part, number: str = "", name: str = "") -> str:
 
 def stroke_element(stroke: Stroke) -> str:
     """Return a stroke."""
-    style = {"line": "", "bold": f' stroke-width="{BOLD}"', "body": f' fill="{BODY}"', "ink": f' fill="{INK}"', "paper": ' fill="white"'}
-    return f'<path d="{stroke.path.replace(" L", "L").replace(" C", "C").strip()}"{style[stroke.style]}/>'
+    return f'<path d="{stroke.path.replace(" L", "L").replace(" C", "C").strip()}"{STYLES[stroke.style]}/>'
 
 
 def text_elements(drawing: Schematic) -> list[str]:

@@ -90,8 +90,9 @@ def shape_of(part: Part, pose: Pose) -> Shape:
     texts = [dataclasses.replace(one, box=turned_text(one, pose)) for one in own.texts]
     if part.kind is Kind.OPAMP and pose.turn % 2 == 0:
         x, y = pose.point((-4.0, 0.0))
-        texts += [text_at(text, (x, y + down), size, role) for text, down, size, role in
-                  ((part.ref, -4.6, 8.0, "ref"), (part.value, 3.4, 5.0, "value")) if text and width_of(text, size) <= (22 if role == "ref" else 29)]
+        texts += [text_at(text, (x, y + down), size, role) for text, role, down, size, widest in
+                  ((part.ref, "ref", -4.6, 8.0, 22.0), (part.value, "value", 3.4, 5.0, 29.0))
+                  if text and width_of(text, size) <= widest]
     return Shape(pose.box(own.box), [pose.point(pin) for pin in own.pins], [one.moved(pose.point) for one in own.strokes], texts)
 
 
@@ -159,7 +160,8 @@ def beside(part: Part, pose: Pose, shape: Shape) -> list[list[Text]]:
     used = {pose.side(pin.side) for pin in part.pins}
     left, top, right, bottom = shape.box
     x, y, half = (left + right) / 2, (top + bottom) / 2, LINE * len(lines) / 2
-    sides = [(EAST, right + BESIDE, y), (WEST, left - BESIDE, y), (NORTH, x, top - BESIDE + 2 - half), (SOUTH, x, bottom + BESIDE - 2 + half)]
+    sides = [(EAST, right + BESIDE, y), (WEST, left - BESIDE, y), (NORTH, x, top + 2 - BESIDE - half),
+             (SOUTH, x, bottom - 2 + BESIDE + half)]
     found = [block(lines, at, middle, side) for side, at, middle in sides if side not in used]
     corners = [(EAST, max(x + BESIDE, right - 6), top - half), (EAST, max(x + BESIDE, right - 6), bottom + half),
                (WEST, min(x - BESIDE, left + 6), top - half), (WEST, min(x - BESIDE, left + 6), bottom + half)]
@@ -202,7 +204,8 @@ def gate(part: Part) -> Shape:
     level = {id(pin): PITCH * (number - (len(inputs) - 1) / 2) for number, pin in enumerate(inputs)}
     pins = []
     for pin in part.pins:
-        at = {EAST: (28.0, 0.0), WEST: (-28.0, level.get(id(pin), 0.0)), NORTH: (-3.0, -half - 4), SOUTH: (-3.0, half + 4)}[pin.side]
+        at = {EAST: (28.0, 0.0), WEST: (-28.0, level.get(id(pin), 0.0)), NORTH: (-3.0, -half - 4),
+              SOUTH: (-3.0, half + 4)}[pin.side]
         edge = 7.4 if is_small else half  # of the body, above and below the point -3
         border = {EAST: (right, 0.0), WEST: (back, at[1]), NORTH: (-3.0, -edge), SOUTH: (-3.0, edge)}[pin.side]
         pins.append(at)

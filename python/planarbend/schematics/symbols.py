@@ -21,6 +21,7 @@ FIELD = (Stroke("line", "M-24 0L-10 0M-10 -9L-10 9M-6 -8L0 -8L0 -24M-6 8L0 8L0 2
          Stroke("bold", "M-6 -11L-6 -5M-6 -3L-6 3M-6 5L-6 11"))
 JUNCTION = (Stroke("bold", "M-6 -11L-6 11"), Stroke("line", "M-24 0L-6 0M-6 -8L0 -8L0 -24M-6 8L0 8L0 24"))
 ARROW_IN, ARROW_OUT = Stroke("ink", "M-6 0L-1 -2.5L-1 2.5Z"), Stroke("ink", "M0 0L-5 -2.5L-5 2.5Z")
+COIL = Stroke("line", "M-24 0L-16 0C-16 -5.3 -8 -5.3 -8 0C-8 -5.3 0 -5.3 0 0C0 -5.3 8 -5.3 8 0C8 -5.3 16 -5.3 16 0L24 0")
 SOURCE = (Stroke("line", "M-24 0L-13 0M13 0L24 0"), Stroke("body", circle(0, 0, 13)))
 
 
@@ -43,11 +44,11 @@ DRAIN = (("D", 7.0, -14.0, 6.0), ("S", 7.0, 14.0, 6.0))
 POINTS: dict[Kind, Symbol] = {
     Kind.RESISTOR: Symbol((-24, -6, 24, 6), (*LEADS, Stroke("body", rectangle(-14, -5, 14, 5))), TWO),
     Kind.TWO: Symbol((-24, -8, 24, 8), (*LEADS, Stroke("body", rectangle(-14, -7, 14, 7))), TWO),
-    Kind.CAPACITOR: Symbol((-24, -10, 24, 10), (Stroke("line", "M-24 0L-3 0M3 0L24 0"), Stroke("bold", "M-3 -9L-3 9M3 -9L3 9")), TWO),
+    Kind.CAPACITOR: Symbol((-24, -10, 24, 10), (Stroke("line", "M-24 0L-3 0M3 0L24 0"),
+                                              Stroke("bold", "M-3 -9L-3 9M3 -9L3 9")), TWO),
     Kind.POLARIZED: Symbol((-24, -10, 24, 10), (Stroke("line", "M-24 0L-3 0M3 0L24 0M-11 -6L-7 -6M-9 -8L-9 -4"),
                                               Stroke("bold", "M-3 -9L-3 9M6 -9C2 -4 2 4 6 9")), TWO),
-    Kind.INDUCTOR: Symbol((-24, -7, 24, 4), (Stroke("line", "M-24 0L-16 0C-16 -5.3 -8 -5.3 -8 0C-8 -5.3 0 -5.3 0 0C0 -5.3 8 -5.3 8 0"
-                                                          "C8 -5.3 16 -5.3 16 0L24 0"),), TWO),
+    Kind.INDUCTOR: Symbol((-24, -7, 24, 4), (COIL,), TWO),
     Kind.DIODE: Symbol((-24, -9, 24, 9), DIODE, TWO),
     Kind.LED: Symbol((-24, -17, 24, 9), (*DIODE, Stroke("line", "M-2 -9L3 -14M4 -9L9 -14"),
                                        Stroke("ink", "M4.5 -15.5L0.7 -14.3L3.3 -11.7ZM10.5 -15.5L6.7 -14.3L9.3 -11.7Z")), TWO),

@@ -8,7 +8,7 @@ import re
 from collections.abc import Hashable, Iterator
 
 from planarbend.schematics.flags import flag, unused
-from planarbend.schematics.parts import Kind, Net, Part, Pin, Sheet, ordered
+from planarbend.schematics.parts import Kind, Net, Part, Sheet, ordered
 from planarbend.schematics.readers.kicad_page import Label, Page, Placed, plain
 from planarbend.schematics.readers.kicad_symbols import PER_MILLIMETRE, LibraryPin, Point
 from planarbend.schematics.readers.kicad_wires import Joints, Lines

@@ -57,8 +57,9 @@ class Reader:
             if inner not in self.modules:
                 raise Fault(f"there is no module {shown(inner)}; there are {shown(', '.join(self.modules))}")
             return inner, self.modules[inner]
-        tops = [name for name in self.modules if is_on(self.object(self.modules[name], "attributes", name).get("top", 0))]
-        own = [name for name in self.modules if not is_on(self.object(self.modules[name], "attributes", name).get("blackbox", 0))]
+        marks = {name: self.object(one, "attributes", name) for name, one in self.modules.items()}
+        tops = [name for name, one in marks.items() if is_on(one.get("top", 0))]
+        own = [name for name, one in marks.items() if not is_on(one.get("blackbox", 0))]
         found = tops or own
         if len(found) != 1:
             reason = "no modules" if not found else f"{len(found)} modules, of which none is the top: {shown(', '.join(found))}"
@@ -108,10 +109,12 @@ class Reader:
         bits = {port: self.bits(one, name) for port, one in self.object(value, "connections", name).items()}
         directions = self.object(value, "port_directions", name)
         known = self.object(self.modules[kind], "ports", kind) if kind in self.modules else {}
-        found = {port: directions.get(port) or self.object(known, port, kind).get("direction", "") for port in bits}
-        for port, direction in found.items():
+        found: dict[str, str] = {}
+        for port in bits:
+            direction = directions.get(port) or self.object(known, port, kind).get("direction", "")
             if direction not in (*PORTS, ""):
                 raise self.fault(f"the port {shown(port)} of {shown(name)} has the direction {shown(str(direction))}", name)
+            found[port] = str(direction)
         return Cell(name, not is_on(value.get("hide_name", 0)), kind, found, bits, self.object(value, "parameters", name))
 
     def bits(self, found: Any, name: str) -> list[Bit]:

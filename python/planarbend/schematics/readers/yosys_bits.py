@@ -80,13 +80,17 @@ class Vectors:
 
     def adopt(self, bits: Sequence[Bit], made: str) -> None:
         """Give bits that nothing drives a net of their own, with a label."""
-        for is_free, run in itertools.groupby(enumerate(bits), lambda one: isinstance(one[1], int) and one[1] not in self.owners):
-            places = list(dict(run)) if is_free else []
+        for is_free, run in itertools.groupby(range(len(bits)), lambda place: self.is_free(bits[place])):
+            places = list(run) if is_free else []
             free = list(dict.fromkeys(bits[place] for place in places))
             if free:
                 net = self.net(free, made if len(free) == len(bits) else f"{made}[{span(places[0], len(places))}]")
                 self.own(free, net)
                 self.sheet.parts.append(flag(Kind.LABEL, self.sheet.nets[net].name, net))
+
+    def is_free(self, bit: Bit) -> bool:
+        """Return whether nothing drives a bit."""
+        return isinstance(bit, int) and bit not in self.owners
 
     def slices(self, bits: Sequence[Bit]) -> list[Slice]:
         """Return a vector as the fewest slices of nets and constants, from its bit 0 on."""
