@@ -13,8 +13,8 @@ from pathlib import Path
 from typing import Any
 
 import support
-from schematic_judge import judge
-from schematic_oracle import lists, sub, value
+from schematic_judge import judge, judge_alone
+from schematic_oracle import lists, sub
 from schematic_rows import rows
 
 from planarbend.schematics.flags import split
@@ -517,9 +517,8 @@ class Damaged(Case):
         except ReadError as error:
             self.assertNotEqual(error.reason, "")
             return 0
-        drawing = rows(split(sheet))
-        self.assertEqual(len(drawing.shapes), len(drawing.sheet.parts))
-        json.loads(drawing.json())
+        drawing = json.loads(rows(split(sheet)).json())
+        self.assertEqual(judge_alone(drawing).faults, [], name)
         return 1
 
     def test_cut_files(self) -> None:
