@@ -355,6 +355,9 @@ class Spice(Case):
         self.assertEqual([by_ref(sheet)[ref].kind for ref in ("Q1", "Q2")], [Kind.PNP, Kind.BOX])
         self.assertEqual(sheet.notes, ["Q2: a box, since the file does not say what the model what is"])
 
+    def test_other_encodings(self) -> None:
+        self.assertEqual(by_ref(read("t\nC1 a 0 1\u00b5\nR1 a 0 1\n.end".encode("latin-1"), "x.cir"))["C1"].value, "1\u00b5")
+
     def test_polynomial_sources(self) -> None:
         part = by_ref(text("E1 a 0 POLY(2) b 0 c 0 0 1 1\nR1 a b 1\nR2 b c 1"))["E1"]
         self.assertEqual([pin.name for pin in part.pins], ["-", "+", "C1+", "C1-", "C2+", "C2-"])

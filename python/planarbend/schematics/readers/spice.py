@@ -41,7 +41,7 @@ REVERSED = (Kind.PNP, Kind.PMOS, Kind.PJF)  # whose emitter or source is above
 
 def read_spice(data: bytes, file: str, inner: str | None = None) -> Sheet:
     """Return the sheet of a circuit, or of its subcircuit with the name `inner`; a `Fault` has the line that breaks a rule."""
-    whole = circuit_of(decoded(data))
+    whole = circuit_of(text_of(data))
     known = [one.name for one in whole.all_inside()]
     circuit = whole
     if inner is not None:
@@ -52,6 +52,14 @@ def read_spice(data: bytes, file: str, inner: str | None = None) -> Sheet:
     if not circuit.elements:
         raise Fault("the circuit has no elements" + (f" outside its subcircuits {shown(', '.join(known))}" if known else ""))
     return Builder(circuit, whole.notes).sheet()
+
+
+def text_of(data: bytes) -> str:
+    """Return the text of a file: UTF-8, or else Latin-1, in which other programs write the sign of micro."""
+    try:
+        return decoded(data)
+    except Fault:
+        return data.decode("latin-1")
 
 
 class Builder:
