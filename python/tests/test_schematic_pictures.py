@@ -114,6 +114,18 @@ class Symbols(unittest.TestCase):
         self.assertEqual(Stroke("line", circle(10, 20, 3)).box(), (7, 17, 13, 23))
 
 
+    def test_forms_of_sources_and_diodes(self) -> None:
+        for kind, form in ((Kind.SOURCE, "voltage"), (Kind.SOURCE, "current"), (Kind.SOURCE, "controlled voltage"),
+                           (Kind.SOURCE, "controlled current"), (Kind.DIODE, "zener"), (Kind.DIODE, "schottky")):
+            plain, part = point_part(kind), point_part(kind)
+            part.form = form
+            shape = shape_of(part, Pose())
+            self.assertNotEqual(shape.strokes, shape_of(plain, Pose()).strokes)
+            for stroke in shape.strokes:
+                left, top, right, bottom = stroke.box()
+                self.assertTrue(left >= shape.box[0] and top >= shape.box[1] and right <= shape.box[2] and bottom <= shape.box[3], form)
+
+
 class Boxes(unittest.TestCase):
     PART = Part("U1", "CHIP", Kind.BOX, [Pin("4", "OUT", EAST), Pin("5", "Q", EAST, "output", None, "inverted"), Pin("8", "VCC", NORTH),
                                          Pin("1", "CLOCK", WEST, "input", None, "clock"), Pin("2", "DATA", WEST), Pin("3", "EN", WEST),
