@@ -21,6 +21,7 @@ from planarbend.schematics.flags import split
 from planarbend.schematics.names import is_ground, is_negative, is_power
 from planarbend.schematics.parts import EAST, NORTH, SOUTH, WEST, Kind, Part, Pin, Sheet, mirrored
 from planarbend.schematics.readers import FORMS, ReadError, read
+from planarbend.schematics.readers.kicad_wires import Lines
 from planarbend.schematics.readers.kinds import kind_of
 
 FILES = support.TESTS / "schematics"
@@ -139,6 +140,18 @@ class KiCad(Case):
         place = whole.index("(name")
         self.refused(whole[:place], "the list pin has no end; the file is cut off", whole[:whole.index("(pin")].count("\n") + 1)
         self.refused("(kicad_sch)", "there are no parts")
+
+
+class Points(unittest.TestCase):
+    def test_lines_through_a_point(self) -> None:
+        level, upright, slanted = ((0, 0), (10, 0)), ((5, -3), (5, 10)), ((0, 0), (4, 4))
+        lines = Lines([level, upright, slanted])
+        self.assertEqual(lines.at((5, 0)), [level, upright])
+        self.assertEqual(lines.at((5, 9)), [upright])
+        self.assertEqual(lines.at((9, 0)), [level])
+        self.assertEqual(lines.at((0, 0)), [level, slanted])
+        self.assertEqual(lines.at((3, 3)), [slanted])
+        self.assertEqual([lines.at(point) for point in ((11, 0), (5, 11), (5, -4), (-1, 0), (3, 2))], [[]] * 5)
 
 
 class Hierarchy(Case):
