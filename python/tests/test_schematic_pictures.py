@@ -114,10 +114,80 @@ class Symbols(unittest.TestCase):
         self.assertEqual(Stroke("line", circle(10, 20, 3)).box(), (7, 17, 13, 23))
 
 
+    def test_forms_of_sources_and_diodes(self) -> None:
+        for kind, form in ((Kind.SOURCE, "voltage"), (Kind.SOURCE, "current"), (Kind.SOURCE, "controlled voltage"),
+                           (Kind.SOURCE, "controlled current"), (Kind.DIODE, "zener"), (Kind.DIODE, "schottky")):
+            plain, part = point_part(kind), point_part(kind)
+            part.form = form
+            shape = shape_of(part, Pose())
+            self.assertNotEqual(shape.strokes, shape_of(plain, Pose()).strokes)
+            for stroke in shape.strokes:
+                left, top, right, bottom = stroke.box()
+                self.assertTrue(left >= shape.box[0] and top >= shape.box[1] and right <= shape.box[2] and bottom <= shape.box[3], form)
+
+
+class Rectangles(unittest.TestCase):
+    """Op-amps, gates and multiplexers, whose size is fixed."""
+
+    def parts(self) -> list[Part]:
+        found = []
+        for form in ("and", "or", "xor", "nand", "nor", "xnor"):
+            for count in (2, 3, 5):
+                shape = "inverted" if form in ("nand", "nor", "xnor") else "line"
+                found.append(Part("U1", "x", Kind.GATE, [Pin("Y", "", EAST, "output", None, shape), *(Pin(str(one), "", WEST) for one in range(count))],
+                                  form=form))
+        for form in ("not", "buffer"):
+            found.append(Part("U1", "x", Kind.GATE, [Pin("Y", "", EAST, "output"), Pin("A", "", WEST), Pin("E", "", SOUTH, "input", None, "inverted")],
+                              form=form))
+        found.append(Part("U1", "x", Kind.OPAMP, [Pin("1", "", EAST), Pin("8", "V+", NORTH), Pin("3", "+", WEST), Pin("2", "-", WEST), Pin("4", "V-", SOUTH)]))
+        for side in (SOUTH, NORTH):
+            pins = [Pin("Y", "", EAST, "output", None, "inverted"), Pin("A", "0", WEST), Pin("B", "1", WEST), Pin("S", "", side)]
+            found.append(Part("m", "", Kind.MUX, sorted(pins, key=lambda pin: pin.side)))
+        return found
+
+    def test_strokes_reach_the_pins_and_stay_in_the_box(self) -> None:
+        for part, pose in itertools.product(self.parts(), POSES):
+            shape = shape_of(part, Pose(pose.turn, pose.mirror, True))
+            self.assertEqual(len(shape.pins), len(part.pins))
+            for stroke in shape.strokes:
+                self.assertIn(stroke.style, ("line", "bold", "body", "ink", "paper"))
+                left, top, right, bottom = stroke.box()
+                self.assertTrue(left >= shape.box[0] - 0.01 and top >= shape.box[1] - 0.01 and right <= shape.box[2] + 0.01
+                                and bottom <= shape.box[3] + 0.01, (part.form, pose, stroke, shape.box))
+            drawn = [stroke.box() for stroke in shape.strokes]
+            for pin, (x, y) in zip(part.pins, shape.pins):
+                side = pose.side(pin.side) if not pose.mirror else ((-pin.side) % 4 + pose.turn) % 4
+                border = (shape.box[2], shape.box[1], shape.box[0], shape.box[3])[side]
+                self.assertAlmostEqual((x, y)[side % 2], border, 3, (part.kind, part.form, pose, pin))
+                self.assertTrue(any(box[0] - 0.01 <= x <= box[2] + 0.01 and box[1] - 0.01 <= y <= box[3] + 0.01 for box in drawn))
+
+    def test_inputs_are_twenty_pixels_apart(self) -> None:
+        for part in self.parts():
+            shape = shape_of(part, Pose())
+            heights = [y for pin, (_, y) in zip(part.pins, shape.pins) if pin.side == WEST]
+            apart = 24.0 if part.kind is Kind.OPAMP else 20.0
+            self.assertEqual([other - one for one, other in zip(heights, heights[1:])], [apart] * (len(heights) - 1), part.form)
+            self.assertAlmostEqual(sum(heights), 0.0)
+
+    def test_names_stay_at_their_pins(self) -> None:
+        for part, pose in itertools.product(self.parts(), POSES):
+            shape = shape_of(part, Pose(pose.turn, pose.mirror, True))
+            texts = {text.text: ((text.box[0] + text.box[2]) / 2, (text.box[1] + text.box[3]) / 2) for text in shape.texts}
+            for pin, at in zip(part.pins, shape.pins):
+                if pin.name in ("0", "1", "+"):
+                    away = [abs(one - other) for one, other in zip(texts[pin.name], at)]
+                    self.assertLess(max(away), 12, (part.kind, pose, pin.name))
+
+
 class Boxes(unittest.TestCase):
     PART = Part("U1", "CHIP", Kind.BOX, [Pin("4", "OUT", EAST), Pin("5", "Q", EAST, "output", None, "inverted"), Pin("8", "VCC", NORTH),
                                          Pin("1", "CLOCK", WEST, "input", None, "clock"), Pin("2", "DATA", WEST), Pin("3", "EN", WEST),
                                          Pin("7", "GROUND", SOUTH)])
+
+    def test_a_wedge_takes_room_on_its_side(self) -> None:
+        sides = {side: needs_of(Part("f", "", Kind.DFF, [Pin("C", "", side, "input", None, "clock"), Pin("D", "D", WEST)], is_named=False),
+                                Pose()) for side in (WEST, EAST)}
+        self.assertEqual(sides[WEST].width, sides[EAST].width)  # room for the wedge and for the name of D, at one side or at two
 
     def test_texts_in_a_box_are_apart(self) -> None:
         for pose in POSES:
