@@ -1,7 +1,6 @@
 """`planarbend-draw` of circuits, with a stand-in for what places and wires."""
 from __future__ import annotations
 
-import dataclasses
 import json
 import sys
 import tempfile
@@ -18,29 +17,21 @@ from schematic_rows import rows
 FILES = support.TESTS / "schematics"
 
 
-@dataclasses.dataclass
-class Options:
-    """The stand-in's options."""
-
-    free: bool = False
-    effort: int = 1
-    seed: int = 0
-
-
 class Commands(unittest.TestCase):
     def setUp(self) -> None:
         folder = tempfile.TemporaryDirectory()
         self.addCleanup(folder.cleanup)
         self.folder = Path(folder.name)
-        self.asked: list[tuple[Any, Options]] = []
+        self.asked: list[tuple[Any, tuple[int, int, bool]]] = []
         stand_in = types.ModuleType("planarbend.schematics.schematic")
-        stand_in.Options, stand_in.schematic_of = Options, self.schematic_of  # type: ignore[attr-defined]
-        patched = mock.patch.dict(sys.modules, {"planarbend.schematics.schematic": stand_in})
-        patched.start()
-        self.addCleanup(patched.stop)
+        stand_in.schematic_of = self.schematic_of  # type: ignore[attr-defined]
+        for patched in (mock.patch.dict(sys.modules, {"planarbend.schematics.schematic": stand_in}),
+                        mock.patch("planarbend.command.engine_of"), mock.patch("planarbend.layout.engine.default_engine")):
+            patched.start()
+            self.addCleanup(patched.stop)
 
-    def schematic_of(self, sheet: Any, options: Options) -> Any:
-        self.asked.append((sheet, options))
+    def schematic_of(self, sheet: Any, engine: object, seed: int, effort: int, free: bool) -> Any:
+        self.asked.append((sheet, (seed, effort, free)))
         return rows(sheet)
 
     def drawn(self, name: str, *words: str) -> tuple[dict[str, Any], str]:
@@ -70,7 +61,7 @@ class Commands(unittest.TestCase):
 
     def test_options_arrive(self) -> None:
         self.drawn("ring.cir", "--free", "--effort", "3", "--seed", "7")
-        self.assertEqual(self.asked[-1][1], Options(True, 3, 7))
+        self.assertEqual(self.asked[-1][1], (7, 3, True))
         self.drawn("stage.net", "--flags", "4")
         self.assertEqual({part.value for part in self.asked[-1][0].parts if part.is_flag}, {"GND", "+5V", "-5V", "OUT", "LONELY"})
         self.drawn("stage.net", "--wire", "GND, +5V")

@@ -14,10 +14,10 @@ if TYPE_CHECKING:
     from planarbend.schematics.drawn import Schematic
     from planarbend.schematics.parts import Kind, Net, Part, Pin, Sheet
     from planarbend.schematics.readers import ReadError, read
-    from planarbend.schematics.schematic import Options, schematic_of
+    from planarbend.schematics.schematic import schematic_of
 
-__all__ = ["Kind", "Net", "Options", "Part", "Pin", "ReadError", "Schematic", "Sheet", "draw", "read", "schematic_of"]
-PLACES = {"Schematic": "drawn", "ReadError": "readers", "read": "readers", "Options": "schematic", "schematic_of": "schematic"}
+__all__ = ["Kind", "Net", "Part", "Pin", "ReadError", "Schematic", "Sheet", "draw", "read", "schematic_of"]
+PLACES = {"Schematic": "drawn", "ReadError": "readers", "read": "readers", "schematic_of": "schematic"}
 
 
 def __getattr__(name: str) -> Any:
@@ -29,8 +29,8 @@ def __getattr__(name: str) -> Any:
     return getattr(importlib.import_module(f"planarbend.schematics.{PLACES.get(name, 'parts')}"), name)
 
 
-def draw(file: str, output: str, inner: str | None = None, options: Options | None = None, flags: int = 8,
-         wired: tuple[str, ...] = ()) -> Schematic:
+def draw(file: str, output: str, inner: str | None = None, flags: int = 8, wired: tuple[str, ...] = (), seed: int = 0,
+         effort: int = 1, free: bool = False) -> Schematic:
     """Draw the schematic of a circuit's file, and write it.
 
     Parameters
@@ -41,11 +41,14 @@ def draw(file: str, output: str, inner: str | None = None, options: Options | No
         Its ending is .svg, .png, .pdf (both by rsvg-convert) or .json.
     inner : str, optional
         The name of a sheet of the hierarchy, of a module, or of a subcircuit.
-    options : Options, optional
     flags : int
         Nets with more pins than this become a flag at each pin.
     wired : tuple of str
         The names of nets that are drawn as wires, however many pins they have.
+    seed, effort : int
+        Of the search for few crossings.
+    free : bool
+        Whether no part must be upright.
 
     Returns
     -------
@@ -68,15 +71,18 @@ def draw(file: str, output: str, inner: str | None = None, options: Options | No
     (0, 0)
     """
     from planarbend.drawing.picture import check_output, write_picture
+    from planarbend.layout.engine import default_engine
     from planarbend.schematics.flags import split
+    from planarbend.schematics.labelling import label
     from planarbend.schematics.picture import svg
     from planarbend.schematics.readers import read
-    from planarbend.schematics.schematic import Options, schematic_of
+    from planarbend.schematics.schematic import schematic_of
 
     check_output(output)
     with open(file, "rb") as source:
         sheet = read(source.read(), file, inner=inner)
-    found = schematic_of(split(sheet, flags, wired), options or Options())
+    found = schematic_of(split(sheet, flags, wired), default_engine(), seed, effort, free)
+    label(found)
     if os.path.splitext(output)[1] == ".json":
         with open(output, "w", encoding="utf-8") as out:
             out.write(found.json() + "\n")
