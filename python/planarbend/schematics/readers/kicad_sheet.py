@@ -89,6 +89,8 @@ def sheet_of(page: Page, name: str) -> Sheet:
     found = Sheet(name, notes=list(wiring.notes()))
     placed = [shown_pins(one, wiring, found) for one in page.placed if one.is_part or one.is_sheet]
     found.parts = [part_of(one, found) for one in placed]
+    counts = collections.Counter(part.ref for part in found.parts)
+    found.notes += (f"{count} parts have the reference {ref}" for ref, count in counts.items() if count > 1)
     for pieces in nets_of(wiring.pieces(placed)):
         add_net(found, pieces, placed)
     for one, part in zip(placed, found.parts):
