@@ -23,15 +23,15 @@ def read(data: bytes, name: str, form: str | None = None, inner: str | None = No
     name : str
         Its name, for messages; the sheets of a KiCad hierarchy are looked for beside it.
     form : str, optional
-        One of `FORMS`: a KiCad schematic or netlist, JSON of yosys, or a SPICE netlist; found from the content by default.
+        One of `FORMS`; found from the content by default.
     inner : str, optional
-        The name of a sheet of a KiCad hierarchy, of a module, or of a subcircuit; by default the root, the top module, or what
-        is outside all subcircuits.
+        The name of a sheet of a KiCad hierarchy, of a module, or of a subcircuit; by default the root, the top module, or all
+        outside subcircuits.
 
     Returns
     -------
     Sheet
-        It has at least one part. Power nets have no flags yet: see `planarbend.schematics.flags.split`.
+        It has at least one part. Power nets have no flags yet (`planarbend.schematics.flags.split`).
 
     Raises
     ------
