@@ -43,8 +43,8 @@ def read(data: bytes, name: str, form: str | None = None, inner: str | None = No
     Examples
     --------
     >>> sheet = read(b"A divider\\nR1 in out 10k\\nR2 out 0 22k\\nV1 in 0 5\\n.end\\n", "divider.cir")
-    >>> [(part.ref, part.kind.value, [pin.net for pin in part.pins]) for part in sheet.parts]
-    [('R1', 'resistor', ['in', 'out']), ('R2', 'resistor', ['out', '0']), ('V1', 'source', ['in', '0'])]
+    >>> [(part.ref, part.kind.value, {pin.number: pin.net for pin in part.pins}) for part in sheet.parts[:2]]
+    [('R1', 'resistor', {'2': 'out', '1': 'in'}), ('R2', 'resistor', {'2': '0', '1': 'out'})]
     """
     if form is not None and form not in READERS:
         raise ValueError(f"no such format: {form} (known: {', '.join(FORMS)})")
