@@ -3,6 +3,7 @@ KiCad's demonstration sheets, yosys's own netlists, faults by their words and li
 from __future__ import annotations
 
 import collections
+import doctest
 import json
 import random
 import shutil
@@ -17,6 +18,7 @@ from schematic_judge import judge, judge_alone
 from schematic_oracle import lists, sub
 from schematic_rows import rows
 
+from planarbend.schematics import readers
 from planarbend.schematics.flags import split
 from planarbend.schematics.names import is_ground, is_negative, is_power
 from planarbend.schematics.parts import EAST, NORTH, SOUTH, WEST, Kind, Part, Pin, Sheet, mirrored
@@ -475,6 +477,10 @@ class Kinds(unittest.TestCase):
 
 
 class Forms(Case):
+    def test_examples_in_docstrings(self) -> None:
+        found = doctest.testmod(readers)
+        self.assertEqual((found.failed, found.attempted), (0, 2))
+
     def test_the_form_is_found(self) -> None:
         for name, form in (("two_units.kicad_sch", "schematic"), ("stage.net", "netlist"), ("counter.json", "yosys"), ("ring.cir", "spice")):
             data = (FILES / name).read_bytes()

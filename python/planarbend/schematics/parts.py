@@ -186,6 +186,7 @@ def mirrored(part: Part) -> Part:
 def ordered(pins: Sequence[tuple[Pin, float, float]]) -> list[Pin]:
     """Return pins in the order that `Part.pins` wants, from their places: x to the east, y to the north."""
     def key(one: tuple[Pin, float, float]) -> tuple[int, float]:
+        """Return the side of a pin, and how far it is along the side."""
         pin, x, y = one
         return pin.side, (y, -x, -y, x)[pin.side]
 
