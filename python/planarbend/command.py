@@ -43,6 +43,7 @@ command line is wrong; 3 if a page was written, but its planar_code does not end
 """
 ENDINGS = (".svg", ".json", ".pc", ".html", *CONVERTED, *WRITTEN)
 INCOMPLETE = 3  # exit status
+GRAPH_OPTIONS = ("split", "outer", "straight", "compact", "graphs")
 TAKES_PLANAR_CODE = (".svg", ".html", *CONVERTED)
 
 
@@ -209,6 +210,20 @@ def draw_graph(data: bytes, words: argparse.Namespace) -> int:
     return 0
 
 
+def graph_options(words: argparse.Namespace) -> list[str]:
+    """Return the options that were given and are for graphs only."""
+    return [f"--{name}" for name in GRAPH_OPTIONS if getattr(words, name)]
+
+
+def is_circuit(data: bytes, words: argparse.Namespace) -> bool:
+    """Return whether a schematic is to be drawn: the file is a circuit, and not a netlist that options for graphs ask to draw as
+    a graph."""
+    from planarbend.schematics.readers.forms import circuit_form
+
+    form = None if words.format else circuit_form(data, words.graph)
+    return form is not None and not (form == "netlist" and graph_options(words))
+
+
 def draw_circuit(data: bytes, words: argparse.Namespace) -> int:
     """Return the exit status after drawing the schematic of a circuit."""
     from planarbend.schematics import schematic_of
@@ -218,6 +233,8 @@ def draw_circuit(data: bytes, words: argparse.Namespace) -> int:
     from planarbend.schematics.readers import read as read_circuit
 
     ending = os.path.splitext(words.output)[1]
+    if graph_options(words):
+        raise DrawError(f"{words.graph}: {graph_options(words)[0]} is for graphs, not for schematics")
     if words.output != "-" and ending not in (".svg", ".json", *CONVERTED):
         raise DrawError(f"a schematic is written as .svg, .png, .pdf or .json, not as {ending}")
     sheet = read_circuit(data, words.graph, inner=words.inner)
@@ -255,11 +272,8 @@ def run() -> int:
             check_output(words.output)
         with sys.stdin.buffer if words.graph == "-" else open(words.graph, "rb") as source:
             data = source.read()
-        if not (words.format or words.split or words.outer or words.straight or words.compact or words.graphs):
-            from planarbend.schematics.readers.forms import circuit_form
-
-            if circuit_form(data, words.graph):
-                return draw_circuit(data, words)
+        if is_circuit(data, words):
+            return draw_circuit(data, words)
         return draw_embedded(data, words) if data.startswith(HEADER) and not words.format else draw_graph(data, words)
     except (ReadError, DrawError, PlanarbendError, NoConverter) as fault:
         print(f"planarbend-draw: {fault}", file=sys.stderr)

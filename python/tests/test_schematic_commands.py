@@ -88,6 +88,7 @@ class Commands(unittest.TestCase):
     def test_other_files_are_refused(self) -> None:
         self.refused([FILES / "nand.cir", "-o", self.folder / "out.gml"], "a schematic is written as .svg, .png, .pdf or .json, not as .gml")
         self.refused([FILES / "empty.cir", "-o", "-"], f"{FILES}/empty.cir: the circuit has no elements")
+        self.refused([FILES / "nand.cir", "-o", "-", "--split", "a"], "--split is for graphs, not for schematics")
         self.refused([FILES / "nand.cir", "-o", "-", "--flags", "1"], "--flags must be at least 2", 2)
         broken = self.folder / "broken.kicad_sch"
         broken.write_text("(kicad_sch (version 20211123)\n(symbol (lib_id x)))")
