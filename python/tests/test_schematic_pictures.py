@@ -19,7 +19,7 @@ from planarbend.schematics.drawn import Schematic, Wire
 from planarbend.schematics.flags import flag
 from planarbend.schematics.labelling import Room, label
 from planarbend.schematics.parts import EAST, NORTH, SOUTH, TURNED_OVER, WEST, Kind, Part, Pin
-from planarbend.schematics.picture import svg
+from planarbend.schematics.picture import svg, title_of
 from planarbend.schematics.readers import read
 from planarbend.schematics.shapes import beside, shape_of
 from planarbend.schematics.strokes import Pose, Stroke, circle
@@ -298,8 +298,10 @@ class Files(unittest.TestCase):
     def test_titles_tell_pins(self) -> None:
         path = support.TESTS / "schematics" / "two_units.kicad_sch"
         text = svg(rows(read(path.read_bytes(), str(path))))
-        for title in ("Q1 BC547, pin 1 (C)", "U1A LM358, pin 3 (+)", "R1 10k, pin 1", "R2"):
+        for title in ("Q1 BC547, pin C", "U1A LM358, pin +", "R1 10k, pin 1", "R2"):
             self.assertIn(f"<title>{title}</title>", text)
+        part = Part("U1", "x", Kind.BOX, [Pin("1", "GND", WEST), Pin("2", "GND", WEST), Pin("3", "IN", WEST)])
+        self.assertEqual([title_of(part, pin) for pin in part.pins], ["U1 x, pin GND (1)", "U1 x, pin GND (2)", "U1 x, pin IN"])
 
     def test_kinds_that_are_turned_over(self) -> None:
         self.assertEqual(TURNED_OVER, {Kind.OPAMP, Kind.GATE, Kind.MUX})

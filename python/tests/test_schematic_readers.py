@@ -508,7 +508,7 @@ class Flags(Case):
         self.assertEqual(sum(kind is Kind.LABEL for kind, *_ in flags(split(circuit))), 9)
         self.assertEqual(sum(kind is Kind.LABEL for kind, *_ in flags(split(circuit, 9))), 0)
         self.assertEqual(sum(kind is Kind.LABEL for kind, *_ in flags(split(circuit, None))), 0)
-        self.assertEqual(flags(split(circuit, 8, ["hub", "0"])), [])
+        self.assertEqual(flags(split(circuit, 8, ["hub", "0"])), [(Kind.GROUND, "0", "0")])
 
     def test_pieces_of_a_wired_net_are_one(self) -> None:
         sheet = split(of("two_units.kicad_sch"), 8, ["OUT2"])

@@ -62,15 +62,18 @@ def part_elements(drawing: Schematic) -> list[str]:
 def pin_element(part: Part, pin: Pin, at: Point) -> str:
     """Return a place without colour at a pin, which has its title."""
     dot = f'<circle cx="{at[0]:.1f}" cy="{at[1]:.1f}" r="3" stroke="none" fill="transparent"/>'
-    return titled(title_of(part, pin.number, pin.name), [dot])
+    return titled(title_of(part, pin), [dot])
 
 
-def title_of(part: Part, number: str = "", name: str = "") -> str:
-    """Return the title of a part, or of one of its pins: `Q1 BC547, pin 1 (C)`."""
+def title_of(part: Part, pin: Pin | None = None) -> str:
+    """Return the title of a part, or of one of its pins: `Q1 BC547, pin C`. A pin without a name has its number, and one of
+    several with one name has both."""
     title = part.ref if part.value in ("", part.ref) else f"{part.ref} {part.value}"
-    if not number:
+    if pin is None:
         return title
-    return f"{title}, pin {number}" + (f" ({name})" if name not in ("", number) else "")
+    is_alone = sum(one.name == pin.name for one in part.pins) == 1
+    number = "" if is_alone or not pin.name else f" ({pin.number})"
+    return f"{title}, pin {pin.name or pin.number}{number}"
 
 
 def stroke_element(stroke: Stroke) -> str:
