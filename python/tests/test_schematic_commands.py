@@ -65,7 +65,7 @@ class Commands(unittest.TestCase):
         self.drawn("stage.net", "--flags", "4")
         self.assertEqual({part.value for part in self.asked[-1][0].parts if part.is_flag}, {"GND", "+5V", "-5V", "OUT", "LONELY"})
         self.drawn("stage.net", "--wire", "GND, +5V")
-        self.assertEqual({part.value for part in self.asked[-1][0].parts if part.is_flag}, {"-5V", "LONELY"})
+        self.assertEqual(sorted(part.value for part in self.asked[-1][0].parts if part.is_flag), ["+5V", "-5V", "-5V", "GND", "LONELY"])
 
     def test_sheets_modules_and_subcircuits(self) -> None:
         for name, word, inner, parts in (("root.kicad_sch", "--sheet", "amp", 2), ("counter.json", "--module", "counter", 14),
