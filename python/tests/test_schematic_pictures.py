@@ -116,7 +116,7 @@ class Symbols(unittest.TestCase):
 
     def test_forms_of_sources_and_diodes(self) -> None:
         for kind, form in ((Kind.SOURCE, "voltage"), (Kind.SOURCE, "current"), (Kind.SOURCE, "controlled voltage"),
-                           (Kind.SOURCE, "controlled current"), (Kind.DIODE, "zener"), (Kind.DIODE, "schottky")):
+                           (Kind.SOURCE, "controlled current"), (Kind.DIODE, "zener"), (Kind.DIODE, "schottky"), (Kind.TWO, "tvs")):
             plain, part = point_part(kind), point_part(kind)
             part.form = form
             shape = shape_of(part, Pose())
