@@ -14,7 +14,7 @@ from schematic_judge import judge
 from schematic_rows import rows
 from test_schematic_judge import CIRCUIT, by_hand
 
-from planarbend.schematics.boxes import box_shape, extent, needs_of
+from planarbend.schematics.boxes import box_shape, extent, needs_of, outside
 from planarbend.schematics.drawn import Schematic, Wire
 from planarbend.schematics.flags import flag
 from planarbend.schematics.labelling import Room, label
@@ -116,7 +116,7 @@ class Symbols(unittest.TestCase):
 
     def test_forms_of_sources_and_diodes(self) -> None:
         for kind, form in ((Kind.SOURCE, "voltage"), (Kind.SOURCE, "current"), (Kind.SOURCE, "controlled voltage"),
-                           (Kind.SOURCE, "controlled current"), (Kind.DIODE, "zener"), (Kind.DIODE, "schottky")):
+                           (Kind.SOURCE, "controlled current"), (Kind.DIODE, "zener"), (Kind.DIODE, "schottky"), (Kind.TWO, "tvs")):
             plain, part = point_part(kind), point_part(kind)
             part.form = form
             shape = shape_of(part, Pose())
@@ -210,6 +210,18 @@ class Boxes(unittest.TestCase):
             for text in inside:
                 self.assertTrue(text.box[0] >= 0 and text.box[1] >= 0 and text.box[2] <= needs.width and text.box[3] <= needs.height,
                                 (pose, text))
+
+    def test_what_reaches_beyond_a_box(self) -> None:
+        for pose in POSES:
+            size = 200.0
+            points = [{EAST: (size, 100.0), WEST: (0.0, 100.0), NORTH: (100.0, 0.0), SOUTH: (100.0, size)}[pose.side(pin.side)]
+                      for pin in self.PART.pins]
+            shape = box_shape(self.PART, pose, (0.0, 0.0, size, size), points)
+            boxes = [text.box for text in shape.texts if text.role == "number"]
+            boxes += [stroke.box() for stroke in shape.strokes if stroke.style == "paper"]
+            for side in range(4):
+                far = [(box[2] - size, -box[1], -box[0], box[3] - size)[side] for box in boxes]
+                self.assertAlmostEqual(outside(self.PART, pose, side), max(0.0, *far), msg=str((pose, side)))
 
     def test_names_on_upright_sides_are_read_upwards(self) -> None:
         shape = box_shape(self.PART, Pose(), (0.0, 0.0, 200.0, 200.0), [(200, 160), (200, 60), (100, 0), (0, 60), (0, 80), (0, 100), (100, 200)])

@@ -425,7 +425,7 @@ class Kinds(unittest.TestCase):
                 ("L", "L", "", (Kind.INDUCTOR, "")), ("D", "D", "KA", (Kind.DIODE, "")), ("D", "D", "", (Kind.TWO, "")),
                 ("D_Zener", "D", "KA", (Kind.DIODE, "zener")), ("D_Schottky", "D", "AK", (Kind.DIODE, "schottky")),
                 ("LED", "D", "KA", (Kind.LED, "")), ("D_LED_x", "D", "KA", (Kind.LED, "")), ("LEDGER", "D", "KA", (Kind.DIODE, "")),
-                ("D_TVS", "D", "AA", (Kind.TWO, "")), ("Crystal", "Y", "", (Kind.CRYSTAL, "")), ("VSOURCE", "V", "", (Kind.SOURCE, "")),
+                ("D_TVS", "D", "AA", (Kind.TWO, "tvs")), ("SW_TVS", "SW", "", (Kind.TWO, "")), ("Crystal", "Y", "", (Kind.CRYSTAL, "")), ("VSOURCE", "V", "", (Kind.SOURCE, "")),
                 ("Fuse", "F", "", (Kind.TWO, "")), ("RN", "RN", "", (Kind.TWO, ""))):
             first, second = names or ("", "")
             self.assertEqual(self.kind(words, prefix, (first, WEST), (second, EAST)), wanted, words)
