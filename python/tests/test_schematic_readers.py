@@ -133,6 +133,15 @@ class KiCad(Case):
         self.assertEqual([self.parts[ref].upright for ref in ("U1A", "Q1", "R1", "Q2")], [20.0, 1.6, 0.0, 20.0])
         self.assertEqual([self.parts[ref].mirror for ref in ("U1A", "Q1", "R1", "Q2")], [True, True, False, False])
 
+    def test_a_pin_in_another_function(self) -> None:
+        whole = (FILES / "two_units.kicad_sch").read_text()
+        listed = '(name "C" (effects (font (size 1.27 1.27))))'
+        whole = whole.replace(listed, listed + ' (alternate "COLLECTOR" output inverted)', 1)
+        place = whole.index('"Q1"')
+        whole = whole[:place] + whole[place:].replace("))\n  (symbol", ') (pin "1" (alternate "COLLECTOR")))\n  (symbol', 1)
+        pin = next(pin for pin in by_ref(read(whole.encode(), "x.kicad_sch"))["Q1"].pins if pin.number == "1")
+        self.assertEqual((pin.name, pin.etype, pin.shape), ("COLLECTOR", "output", "inverted"))
+
     def test_faults(self) -> None:
         whole = (FILES / "two_units.kicad_sch").read_text()
         line = whole[:whole.index('(lib_id "My:R")')].count("\n") + 1
