@@ -307,6 +307,13 @@ class Files(unittest.TestCase):
                 texts = sorted(text.text or "" for text in root.iter(f"{SVG}text"))
                 self.assertEqual(texts, sorted(text.text for _, text in drawing.texts()), name)
 
+    def test_dark_pictures_have_no_light_colours(self) -> None:
+        path = support.TESTS / "schematics" / "two_units.kicad_sch"
+        text = svg(rows(read(path.read_bytes(), str(path))), "dark")
+        colours = {found.lower() for found in re.findall(r'(?:fill|stroke)="(#\w+|\w+)"', text)} - {"none", "transparent"}
+        light = {"#e6edf3", "#56c27d", "#a9bccf"}  # of lines and texts
+        self.assertEqual(colours, light | {"#12171d", "#2b2a22"})
+
     def test_titles_tell_pins(self) -> None:
         path = support.TESTS / "schematics" / "two_units.kicad_sch"
         text = svg(rows(read(path.read_bytes(), str(path))))
