@@ -150,7 +150,7 @@ class Rectangles(unittest.TestCase):
             shape = shape_of(part, Pose(pose.turn, pose.mirror, True))
             self.assertEqual(len(shape.pins), len(part.pins))
             for stroke in shape.strokes:
-                self.assertIn(stroke.style, ("line", "bold", "body", "ink", "paper"))
+                self.assertIn(stroke.style, ("line", "bold", "body", "ink", "circle"))
                 left, top, right, bottom = stroke.box()
                 self.assertTrue(left >= shape.box[0] - 0.01 and top >= shape.box[1] - 0.01 and right <= shape.box[2] + 0.01
                                 and bottom <= shape.box[3] + 0.01, (part.form, pose, stroke, shape.box))
@@ -218,7 +218,7 @@ class Boxes(unittest.TestCase):
                       for pin in self.PART.pins]
             shape = box_shape(self.PART, pose, (0.0, 0.0, size, size), points)
             boxes = [text.box for text in shape.texts if text.role == "number"]
-            boxes += [stroke.box() for stroke in shape.strokes if stroke.style == "paper"]
+            boxes += [stroke.box() for stroke in shape.strokes if stroke.style == "circle"]
             for side in range(4):
                 far = [(box[2] - size, -box[1], -box[0], box[3] - size)[side] for box in boxes]
                 self.assertAlmostEqual(outside(self.PART, pose, side), max(0.0, *far), msg=str((pose, side)))
@@ -227,7 +227,7 @@ class Boxes(unittest.TestCase):
         shape = box_shape(self.PART, Pose(), (0.0, 0.0, 200.0, 200.0), [(200, 160), (200, 60), (100, 0), (0, 60), (0, 80), (0, 100), (100, 200)])
         self.assertEqual({text.text for text in shape.texts if text.is_upwards}, {"VCC", "GROUND", "8", "7"})
         self.assertEqual([text.text for text in shape.texts if text.role == "number"], ["4", "5", "8", "1", "2", "3", "7"])
-        self.assertEqual([stroke.style for stroke in shape.strokes], ["body", "paper", "line"])  # the circle, then the wedge
+        self.assertEqual([stroke.style for stroke in shape.strokes], ["body", "circle", "line"])  # the circle, then the wedge
 
 
 class Texts(unittest.TestCase):

@@ -14,7 +14,7 @@ STROKE, WIRE_STROKE, BOLD = 1.3, 1.2, 2.2  # pixels
 DOT = 2.4  # pixels, the radius of a junction's dot
 CROSS = 2.0  # pixels, half the size of the cross at a pin that is not connected
 STYLES = {"line": "", "bold": f' stroke-width="{BOLD}"', "body": f' fill="{BODY}"', "ink": f' fill="{INK}"',
-          "paper": f' fill="{BODY}"'}
+          "circle": f' fill="{BODY}"'}
 QUIET = ("name", "number")  # roles of texts that are written in the colour of names
 
 
