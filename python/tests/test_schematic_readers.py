@@ -315,6 +315,9 @@ class Yosys(Case):
         names = {"open": {"hide_name": 0, "bits": [9], "attributes": {}}}
         sheet = self.sheet({"g": cell("$_NOT_", A=("i", [9]), Y=("o", [7]))}, names=names)
         self.assertIn((Kind.LABEL, "open", "open"), flags(sheet))
+        for bits, made in (([9, 10], "g.A"), ([6, 9, 10], "g.A[2:1]"), ([9, 6], "g.A[0]")):
+            sheet = self.sheet({"g": cell("$neg", A=("i", bits), Y=("o", [7]))})
+            self.assertEqual([name for kind, name, _ in flags(sheet) if kind is Kind.LABEL], [made])
 
     def test_an_instance_takes_directions_from_its_module(self) -> None:
         whole = json.loads(module({"u": {**cell("sub", p=("i", [6]), q=("o", [7])), "port_directions": {}}}, self.PORTS))
