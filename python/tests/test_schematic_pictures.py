@@ -114,6 +114,12 @@ class Symbols(unittest.TestCase):
         self.assertEqual(Stroke("line", circle(10, 20, 3)).box(), (7, 17, 13, 23))
 
 
+    def test_a_fourth_pin_of_a_transistor(self) -> None:
+        part = Part("M1", "x", Kind.NMOS, [Pin("B", "B", EAST), Pin("D", "D", NORTH), Pin("G", "G", WEST), Pin("S", "S", SOUTH)])
+        shape = shape_of(part, Pose())
+        self.assertEqual((shape.box, shape.pins), ((-24, -24, 24, 24), [(24, 0), (0, -24), (-24, 0), (0, 24)]))
+        self.assertEqual(shape_of(point_part(Kind.NMOS), Pose()).box, (-24, -24, 10, 24))
+
     def test_forms_of_sources_and_diodes(self) -> None:
         for kind, form in ((Kind.SOURCE, "voltage"), (Kind.SOURCE, "current"), (Kind.SOURCE, "controlled voltage"),
                            (Kind.SOURCE, "controlled current"), (Kind.DIODE, "zener"), (Kind.DIODE, "schottky"), (Kind.TWO, "tvs")):
@@ -168,6 +174,14 @@ class Rectangles(unittest.TestCase):
             apart = 24.0 if part.kind is Kind.OPAMP else 20.0
             self.assertEqual([other - one for one, other in zip(heights, heights[1:])], [apart] * (len(heights) - 1), part.form)
             self.assertAlmostEqual(sum(heights), 0.0)
+
+    def test_multiplexers(self) -> None:
+        for side, y in ((SOUTH, 25.0), (NORTH, -25.0)):
+            for shape, right, strokes in (("line", 12.0, 2), ("inverted", 18.0, 3)):
+                pins = [Pin("Y", "", EAST, "output", None, shape), Pin("A", "0", WEST), Pin("B", "1", WEST), Pin("S", "", side)]
+                found = shape_of(Part("m", "", Kind.MUX, pins), Pose(0, False, True))
+                self.assertEqual(found.pins, [(right, 0.0), (-12.0, -10.0), (-12.0, 10.0), (0.0, y)])
+                self.assertEqual(len(found.strokes), strokes)
 
     def test_names_stay_at_their_pins(self) -> None:
         for part, pose in itertools.product(self.parts(), POSES):
@@ -263,6 +277,9 @@ class Texts(unittest.TestCase):
                 left, top, right, bottom = texts[0].box
                 found.append(EAST if left > 0 and turn else WEST if right < 0 and turn else NORTH if bottom < 0 else SOUTH)
             self.assertEqual(tuple(found), sides)
+            gaps = [shape.box[1] - places[0][-1].box[3], places[1][0].box[1] - shape.box[3]] if turn == 0 else \
+                [places[0][0].box[0] - shape.box[2], shape.box[0] - places[1][0].box[2]]
+            self.assertEqual([round(gap, 3) for gap in gaps], [2.0, 2.0] if turn == 0 else [4.0, 4.0])
             self.assertEqual(len(places), 6)
 
     def test_names_that_nobody_gave_are_not_written(self) -> None:
