@@ -254,13 +254,15 @@ class Texts(unittest.TestCase):
             self.assertEqual(judge(json.loads(drawing.json()), path, "spice").faults, [])
         self.assertEqual([[text.text for text in texts] for texts in drawing.beside], [["R1", "1"], ["R2", "1"], ["R3", "1"], ["R4", "1"]])
         self.assertEqual([text.text for text in drawing.names], ["b", "a", "c"])
+        before = drawing.json()
+        label(drawing)  # once more
+        self.assertEqual(drawing.json(), before)
 
     def test_texts_that_are_in_the_way_are_moved(self) -> None:
         drawing = drawn_by_hand()
         label(drawing)
         kept = drawing.beside[0]
         drawing.beside[0] = [text.moved((0.0, 60.0 - text.box[1])) for text in kept[:1]] + kept[1:]
-        drawing.names = []
         drawing.beside[1] = [text.moved((0.0, 30.0)) for text in drawing.beside[1]]  # onto the wire of b
         moved = list(drawing.beside[1])
         label(drawing)
