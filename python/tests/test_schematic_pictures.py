@@ -114,6 +114,12 @@ class Symbols(unittest.TestCase):
         self.assertEqual(Stroke("line", circle(10, 20, 3)).box(), (7, 17, 13, 23))
 
 
+    def test_a_fourth_pin_of_a_transistor(self) -> None:
+        part = Part("M1", "x", Kind.NMOS, [Pin("B", "B", EAST), Pin("D", "D", NORTH), Pin("G", "G", WEST), Pin("S", "S", SOUTH)])
+        shape = shape_of(part, Pose())
+        self.assertEqual((shape.box, shape.pins), ((-24, -24, 24, 24), [(24, 0), (0, -24), (-24, 0), (0, 24)]))
+        self.assertEqual(shape_of(point_part(Kind.NMOS), Pose()).box, (-24, -24, 10, 24))
+
     def test_forms_of_sources_and_diodes(self) -> None:
         for kind, form in ((Kind.SOURCE, "voltage"), (Kind.SOURCE, "current"), (Kind.SOURCE, "controlled voltage"),
                            (Kind.SOURCE, "controlled current"), (Kind.DIODE, "zener"), (Kind.DIODE, "schottky"), (Kind.TWO, "tvs")):
@@ -150,7 +156,7 @@ class Rectangles(unittest.TestCase):
             shape = shape_of(part, Pose(pose.turn, pose.mirror, True))
             self.assertEqual(len(shape.pins), len(part.pins))
             for stroke in shape.strokes:
-                self.assertIn(stroke.style, ("line", "bold", "body", "ink", "paper"))
+                self.assertIn(stroke.style, ("line", "bold", "body", "ink", "circle"))
                 left, top, right, bottom = stroke.box()
                 self.assertTrue(left >= shape.box[0] - 0.01 and top >= shape.box[1] - 0.01 and right <= shape.box[2] + 0.01
                                 and bottom <= shape.box[3] + 0.01, (part.form, pose, stroke, shape.box))
@@ -168,6 +174,14 @@ class Rectangles(unittest.TestCase):
             apart = 24.0 if part.kind is Kind.OPAMP else 20.0
             self.assertEqual([other - one for one, other in zip(heights, heights[1:])], [apart] * (len(heights) - 1), part.form)
             self.assertAlmostEqual(sum(heights), 0.0)
+
+    def test_multiplexers(self) -> None:
+        for side, y in ((SOUTH, 25.0), (NORTH, -25.0)):
+            for shape, right, strokes in (("line", 12.0, 2), ("inverted", 18.0, 3)):
+                pins = [Pin("Y", "", EAST, "output", None, shape), Pin("A", "0", WEST), Pin("B", "1", WEST), Pin("S", "", side)]
+                found = shape_of(Part("m", "", Kind.MUX, pins), Pose(0, False, True))
+                self.assertEqual(found.pins, [(right, 0.0), (-12.0, -10.0), (-12.0, 10.0), (0.0, y)])
+                self.assertEqual(len(found.strokes), strokes)
 
     def test_names_stay_at_their_pins(self) -> None:
         for part, pose in itertools.product(self.parts(), POSES):
@@ -218,7 +232,7 @@ class Boxes(unittest.TestCase):
                       for pin in self.PART.pins]
             shape = box_shape(self.PART, pose, (0.0, 0.0, size, size), points)
             boxes = [text.box for text in shape.texts if text.role == "number"]
-            boxes += [stroke.box() for stroke in shape.strokes if stroke.style == "paper"]
+            boxes += [stroke.box() for stroke in shape.strokes if stroke.style == "circle"]
             for side in range(4):
                 far = [(box[2] - size, -box[1], -box[0], box[3] - size)[side] for box in boxes]
                 self.assertAlmostEqual(outside(self.PART, pose, side), max(0.0, *far), msg=str((pose, side)))
@@ -227,7 +241,7 @@ class Boxes(unittest.TestCase):
         shape = box_shape(self.PART, Pose(), (0.0, 0.0, 200.0, 200.0), [(200, 160), (200, 60), (100, 0), (0, 60), (0, 80), (0, 100), (100, 200)])
         self.assertEqual({text.text for text in shape.texts if text.is_upwards}, {"VCC", "GROUND", "8", "7"})
         self.assertEqual([text.text for text in shape.texts if text.role == "number"], ["4", "5", "8", "1", "2", "3", "7"])
-        self.assertEqual([stroke.style for stroke in shape.strokes], ["body", "paper", "line"])  # the circle, then the wedge
+        self.assertEqual([stroke.style for stroke in shape.strokes], ["body", "circle", "line"])  # the circle, then the wedge
 
 
 class Texts(unittest.TestCase):
@@ -240,13 +254,15 @@ class Texts(unittest.TestCase):
             self.assertEqual(judge(json.loads(drawing.json()), path, "spice").faults, [])
         self.assertEqual([[text.text for text in texts] for texts in drawing.beside], [["R1", "1"], ["R2", "1"], ["R3", "1"], ["R4", "1"]])
         self.assertEqual([text.text for text in drawing.names], ["b", "a", "c"])
+        before = drawing.json()
+        label(drawing)  # once more
+        self.assertEqual(drawing.json(), before)
 
     def test_texts_that_are_in_the_way_are_moved(self) -> None:
         drawing = drawn_by_hand()
         label(drawing)
         kept = drawing.beside[0]
         drawing.beside[0] = [text.moved((0.0, 60.0 - text.box[1])) for text in kept[:1]] + kept[1:]
-        drawing.names = []
         drawing.beside[1] = [text.moved((0.0, 30.0)) for text in drawing.beside[1]]  # onto the wire of b
         moved = list(drawing.beside[1])
         label(drawing)
@@ -263,6 +279,9 @@ class Texts(unittest.TestCase):
                 left, top, right, bottom = texts[0].box
                 found.append(EAST if left > 0 and turn else WEST if right < 0 and turn else NORTH if bottom < 0 else SOUTH)
             self.assertEqual(tuple(found), sides)
+            gaps = [shape.box[1] - places[0][-1].box[3], places[1][0].box[1] - shape.box[3]] if turn == 0 else \
+                [places[0][0].box[0] - shape.box[2], shape.box[0] - places[1][0].box[2]]
+            self.assertEqual([round(gap, 3) for gap in gaps], [2.0, 2.0] if turn == 0 else [4.0, 4.0])
             self.assertEqual(len(places), 6)
 
     def test_names_that_nobody_gave_are_not_written(self) -> None:
@@ -306,6 +325,13 @@ class Files(unittest.TestCase):
                 root = ElementTree.fromstring(svg(drawing, theme))
                 texts = sorted(text.text or "" for text in root.iter(f"{SVG}text"))
                 self.assertEqual(texts, sorted(text.text for _, text in drawing.texts()), name)
+
+    def test_dark_pictures_have_no_light_colours(self) -> None:
+        path = support.TESTS / "schematics" / "two_units.kicad_sch"
+        text = svg(rows(read(path.read_bytes(), str(path))), "dark")
+        colours = {found.lower() for found in re.findall(r'(?:fill|stroke)="(#\w+|\w+)"', text)} - {"none", "transparent"}
+        light = {"#e6edf3", "#56c27d", "#a9bccf"}  # of lines and texts
+        self.assertEqual(colours, light | {"#12171d", "#2b2a22"})
 
     def test_titles_tell_pins(self) -> None:
         path = support.TESTS / "schematics" / "two_units.kicad_sch"

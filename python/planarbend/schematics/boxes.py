@@ -119,7 +119,7 @@ def mark_strokes(pin: Pin, at: Point, side: int) -> list[Stroke]:
         (a, b), (c, d) = (step(at, side + 1 & 3, 4), step(at, side + 3 & 3, 4))
         found.append(Stroke("line", f"M{a:g} {b:g}L{tip[0]:g} {tip[1]:g}L{c:g} {d:g}"))
     if has_circle(pin):
-        found.append(Stroke("paper", circle(*step(at, side, BUBBLE), BUBBLE)))
+        found.append(Stroke("circle", circle(*step(at, side, BUBBLE), BUBBLE)))
     return found
 
 

@@ -57,6 +57,7 @@ def label(drawing: Schematic) -> None:
     """Place the references and values of parts, each where it is, or else at the best free place, then the names of nets that a
     person named and no flag shows. What finds no free place beside its part goes to the first one; a net's name is left out."""
     room = room_of(drawing)
+    drawing.names.clear()
     for number, (part, pose, shape) in enumerate(zip(drawing.sheet.parts, drawing.poses, drawing.shapes)):
         places = [texts for texts in (drawing.beside[number], *beside(part, pose, shape)) if texts]
         if places:

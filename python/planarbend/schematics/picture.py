@@ -2,7 +2,7 @@
 from __future__ import annotations
 
 from planarbend.drawing.texts import FAMILY, svg_text, xml_text
-from planarbend.drawing.themes import PAPER, paper, themed
+from planarbend.drawing.themes import paper, themed
 from planarbend.schematics.drawn import Schematic
 from planarbend.schematics.parts import Part, Pin
 from planarbend.schematics.shapes import Text
@@ -14,7 +14,7 @@ STROKE, WIRE_STROKE, BOLD = 1.3, 1.2, 2.2  # pixels
 DOT = 2.4  # pixels, the radius of a junction's dot
 CROSS = 2.0  # pixels, half the size of the cross at a pin that is not connected
 STYLES = {"line": "", "bold": f' stroke-width="{BOLD}"', "body": f' fill="{BODY}"', "ink": f' fill="{INK}"',
-          "paper": f' fill="{PAPER}"'}
+          "circle": f' fill="{BODY}"'}
 QUIET = ("name", "number")  # roles of texts that are written in the colour of names
 
 

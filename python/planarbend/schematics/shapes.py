@@ -234,7 +234,7 @@ def pin_strokes(at: Point, border: Point, pin: Pin) -> list[Stroke]:
         return [Stroke("line", f"M{at[0]:g} {at[1]:g}L{border[0]:g} {border[1]:g}")]
     middle = step(border, pin.side, BUBBLE)
     end = step(border, pin.side, 2 * BUBBLE)
-    return [Stroke("line", f"M{at[0]:g} {at[1]:g}L{end[0]:g} {end[1]:g}"), Stroke("paper", circle(*middle, BUBBLE))]
+    return [Stroke("line", f"M{at[0]:g} {at[1]:g}L{end[0]:g} {end[1]:g}"), Stroke("circle", circle(*middle, BUBBLE))]
 
 
 def mux(part: Part) -> Shape:
@@ -248,5 +248,5 @@ def mux(part: Part) -> Shape:
     strokes = [Stroke("body", "M-12 -25L12 -15L12 15L-12 25Z")]
     strokes += [Stroke("line", f"M0 {20 * sign}L0 {25 * sign}") for side, sign in ((NORTH, -1), (SOUTH, 1))
                 if any(pin.side == side for pin in part.pins)]
-    strokes += [Stroke("paper", circle(12 + BUBBLE, 0, BUBBLE))] * is_inverted
+    strokes += [Stroke("circle", circle(12 + BUBBLE, 0, BUBBLE))] * is_inverted
     return Shape((-12, -25, right, 25), pins, strokes, [text_at(pin.name, (-6, level[id(pin)]), NAME, "name") for pin in inputs])
