@@ -228,7 +228,6 @@ def draw_circuit(data: bytes, words: argparse.Namespace) -> int:
     """Return the exit status after drawing the schematic of a circuit."""
     from planarbend.schematics import schematic_of
     from planarbend.schematics.flags import split as flagged
-    from planarbend.schematics.labelling import label
     from planarbend.schematics.picture import svg as schematic_svg
     from planarbend.schematics.readers import read as read_circuit
 
@@ -243,7 +242,6 @@ def draw_circuit(data: bytes, words: argparse.Namespace) -> int:
     with Progress("planarbend-draw"):
         wired = [name for name in map(str.strip, words.wire.split(",")) if name]
         drawing = schematic_of(flagged(sheet, words.flags, wired), engine_of(), words.seed, words.effort, words.free)
-        label(drawing)
     if ending == ".json":
         with open(words.output, "w", encoding="utf-8") as out:
             out.write(drawing.json() + "\n")

@@ -16,7 +16,6 @@ from planarbend.layout.library import LibraryEngine, path
 from planarbend.programs import NoProgram, PlanarbendError
 from planarbend.schematics.drawn import Schematic
 from planarbend.schematics.flags import split
-from planarbend.schematics.labelling import label
 from planarbend.schematics.parts import Sheet
 from planarbend.schematics.readers import ReadError, read
 
@@ -30,9 +29,7 @@ def drawn(sheet: Sheet) -> Schematic:
     """The drawing of a sheet by the library, with all of its texts."""
     from planarbend.schematics.schematic import schematic_of  # it needs numpy and scipy
 
-    found = schematic_of(split(sheet), LibraryEngine())
-    label(found)
-    return found
+    return schematic_of(split(sheet), LibraryEngine())
 
 
 class Whole(unittest.TestCase):

@@ -73,7 +73,6 @@ def draw(file: str, output: str, inner: str | None = None, flags: int = 8, wired
     from planarbend.drawing.picture import check_output, write_picture
     from planarbend.layout.engine import default_engine
     from planarbend.schematics.flags import split
-    from planarbend.schematics.labelling import label
     from planarbend.schematics.picture import svg
     from planarbend.schematics.readers import read
     from planarbend.schematics.schematic import schematic_of
@@ -82,7 +81,6 @@ def draw(file: str, output: str, inner: str | None = None, flags: int = 8, wired
     with open(file, "rb") as source:
         sheet = read(source.read(), file, inner=inner)
     found = schematic_of(split(sheet, flags, wired), default_engine(), seed, effort, free)
-    label(found)
     if os.path.splitext(output)[1] == ".json":
         with open(output, "w", encoding="utf-8") as out:
             out.write(found.json() + "\n")
