@@ -202,6 +202,11 @@ class Hierarchy(Case):
         self.assertEqual([(pin.name, pin.side, pin.etype) for pin in box.pins],
                          [("OUT", EAST, "output"), ("IN", WEST, "input"), ("D[0..7]", SOUTH, "bidirectional")])
 
+    def test_names_of_fields_may_be_translated(self) -> None:
+        whole = (FILES / "root.kicad_sch").read_text().replace('"Sheetname"', '"Nom feuille"').replace('"Sheetfile"', '"Fichier de feuille"')
+        self.assertEqual([(part.ref, part.value) for part in read(whole.encode(), "x.kicad_sch").parts if part.kind is Kind.BOX],
+                         [("amp", "inner.kicad_sch"), ("second", "inner.kicad_sch")])
+
     def test_wires_and_buses_join_sheets(self) -> None:
         sheet = of("root.kicad_sch")
         names = [{(sheet.parts[part].ref, sheet.parts[part].pins[pin].name) for part, pin in ends} for ends in sheet.ends().values()]

@@ -158,5 +158,6 @@ def box_of(one: Expression) -> Placed:
 
 
 def names_of(fields: dict[str, str]) -> tuple[str, str]:
-    """Return the name and the file of a sheet inside a sheet."""
-    return fields.get("Sheetname", fields.get("Sheet name", "")), fields.get("Sheetfile", fields.get("Sheet file", ""))
+    """Return the name and the file of a sheet inside a sheet: its first two fields, whose names version 6 translates."""
+    first, second, *_ = [*fields.values(), "", ""]
+    return fields.get("Sheetname", first), fields.get("Sheetfile", second)
