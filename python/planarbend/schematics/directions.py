@@ -3,20 +3,23 @@
 For a choice of the outer face and of the wanted direction of each part, lifted, `turning` finds the least sum of bends and
 unfulfilled wishes. The choice is a heuristic: the wanted directions are at first those that are nearest to the directions
 with the fewest bends without any wish, after one of four turns of the whole; then one after another is changed by a whole turn
-while this saves something. By the certificate of a solution, most changes are known to save nothing.
+while this saves something. By the certificate of a solution, most changes are known to save nothing, and each touches few of
+the independent parts of the program.
 """
 from __future__ import annotations
 
 from collections.abc import Sequence
 from dataclasses import dataclass
 
+import numpy
+
+from planarbend.schematics.circulation import Case, Numbers, Program, Solution, changed, solve
 from planarbend.schematics.parts import Kind
-from planarbend.schematics.turning import Case, Solution, Turning, solve
+from planarbend.schematics.turning import Turning
 
 FACES = 12  # outer faces of each wiring that are tried without wishes, the longest first
 TURNED = 16  # wirings with an outer face that are tried with wishes
 CLIMBED = 4  # of these, those in which single wanted directions are changed
-TRIED = 4  # changes that are tried together
 RIM = 0.4  # what a part that belongs to the rim costs inside, in bends
 SAME = 1e-6
 
@@ -41,7 +44,7 @@ class Directed:
     @property
     def turning(self) -> Turning:
         """The wiring."""
-        return self.solution.case.turning
+        return self.solution.case.program.turning
 
 
 def rim_cost(turning: Turning, outer: int) -> float:
@@ -52,13 +55,13 @@ def rim_cost(turning: Turning, outer: int) -> float:
                      for vertex, part in enumerate(turning.parts) if vertex not in met)
 
 
-def nearest(turning: Turning, directions: Sequence[int], turns: int) -> tuple[int, ...]:
+def nearest(turning: Turning, directions: Numbers, turns: int) -> Numbers:
     """Return the direction that is wanted for each wish and nearest to the given ones after some turns of the whole."""
     found = []
     for wish in turning.wishes:
-        away = directions[wish.variable] + turns - wish.want
+        away = int(directions[wish.variable]) + turns - wish.want
         found.append(wish.want + wish.period * ((2 * away + wish.period) // (2 * wish.period)))
-    return tuple(found)
+    return numpy.array(found, dtype=int)
 
 
 def directed(turnings: Sequence[Turning], free: bool = False) -> Directed:
@@ -71,56 +74,50 @@ def directed(turnings: Sequence[Turning], free: bool = False) -> Directed:
     free : bool
         Whether no wish counts.
     """
-    places = [(turning, face) for turning in turnings
-              for face in sorted(range(len(turning.walks)), key=lambda face: (-len(turning.walks[face]), face))[:FACES]]
-    found = [Directed(face, solution, solution.cost + (0 if free else rim_cost(turning, face))) for (turning, face), solution
-             in zip(places, solve(Case(turning, turning.windings(face)) for turning, face in places))]
-    found.sort(key=lambda one: one.price)
+    found = freely(turnings, free)
     if free or not found[0].turning.wishes:
         return found[0]
     turned = sorted(wished(found[:TURNED]), key=lambda one: one.price)
-    best = turned[0]
-    for one in turned[:CLIMBED]:
-        best = min(best, climbed(one), key=lambda one: one.price)
-    return best
+    return min(map(climbed, turned[:CLIMBED]), key=lambda one: one.price)
+
+
+def freely(turnings: Sequence[Turning], free: bool = False) -> list[Directed]:
+    """Return wirings with outer faces and directions without wishes; those of the lowest price first."""
+    found: list[Directed] = []
+    places, cases = list[tuple[Turning, int]](), list[Case]()
+    for turning in turnings:
+        program = Program(turning, False)
+        for face in sorted(range(len(turning.walks)), key=lambda face: (-len(turning.walks[face]), face))[:FACES]:
+            places.append((turning, face))
+            cases.append(Case(program, turning.windings(face), numpy.zeros(0, dtype=int)))
+    for (turning, face), solution in zip(places, solve(cases)):
+        found.append(Directed(face, solution, solution.cost + (0.0 if free else rim_cost(turning, face))))
+    return sorted(found, key=lambda one: one.price)
 
 
 def wished(found: Sequence[Directed]) -> list[Directed]:
     """Return wirings with directions for which the wishes count, after the best turn of each as a whole."""
-    cases = [Case(one.turning, one.solution.case.windings, nearest(one.turning, one.solution.directions, turns))
-             for one in found for turns in range(4)]
-    best: dict[int, Directed] = {}
-    for number, solution in enumerate(solve(cases)):
-        one = found[number // 4]
-        price = solution.cost + rim_cost(one.turning, one.outer)
-        if number // 4 not in best or price < best[number // 4].price - SAME:
-            best[number // 4] = Directed(one.outer, solution, price)
-    return list(best.values())
+    programs: dict[Turning, Program] = {}
+    cases = []
+    for one in found:
+        if one.turning not in programs:
+            programs[one.turning] = Program(one.turning, True)
+        cases += [Case(programs[one.turning], one.solution.case.windings, nearest(one.turning, one.solution.directions, turns))
+                  for turns in range(4)]
+    solutions = list(solve(cases))
+    best = [min(solutions[first:first + 4], key=lambda one: one.cost) for first in range(0, len(cases), 4)]
+    return [Directed(one.outer, solution, solution.cost + rim_cost(one.turning, one.outer)) for one, solution in zip(found, best)]
 
 
 def climbed(one: Directed) -> Directed:
     """Return directions after changes of single wanted ones, until none of these saves anything."""
-    best = one.solution
+    best, rim = one.solution, one.price - one.solution.cost
     while True:
-        better = next(better_than(best), None)
-        if better is None:
-            return Directed(one.outer, best, one.price + best.cost - one.solution.cost)
-        best = better
-
-
-def better_than(best: Solution):
-    """Yield solutions of less cost in which one wanted direction is another by a period."""
-    case = best.case
-    wanted = case.wanted or ()
-    changes = []
-    for place, (wish, pull) in enumerate(zip(case.turning.wishes, best.pulls)):
-        if abs(pull) > SAME:  # otherwise the certificate holds for the changed direction too
-            step = -wish.period if pull > 0 else wish.period
-            changes.append((best.cost + pull * step, place, step))
-    changes.sort()
-    for first in range(0, len(changes), TRIED):
-        cases = [Case(case.turning, case.windings, (*wanted[:place], wanted[place] + step, *wanted[place + 1:]))
-                 for bound, place, step in changes[first:first + TRIED] if bound < best.cost - SAME]
-        found = min(solve(cases), key=lambda one: one.cost, default=best)
-        if found.cost < best.cost - SAME:
-            yield found
+        wishes, changes = best.case.program.turning.wishes, []
+        for place, pull in enumerate(best.pulls().tolist()):
+            if abs(pull) > SAME:  # otherwise the certificate holds for the changed direction too
+                changes.append((place, -wishes[place].period if pull > 0 else wishes[place].period))
+        found = min(changed(best, changes), key=lambda one: one.cost, default=best)
+        if found.cost > best.cost - SAME:
+            return Directed(one.outer, best, best.cost + rim)
+        best = found
