@@ -46,6 +46,43 @@ class Directed:
         """The wiring."""
         return self.solution.case.program.turning
 
+    def direction(self, dart: int) -> int:
+        """Return the lifted direction in which a dart leaves its vertex."""
+        return int(self.solution.directions[self.turning.variable[dart]]) + self.turning.offset[dart]
+
+    def turns(self) -> dict[int, int]:
+        """Return how much each dart turns to the left."""
+        found = dict(zip(self.turning.darts, self.solution.case.turns(self.solution.directions).tolist()))
+        return found | {dart ^ 1: -turns for dart, turns in found.items()}
+
+    def angle(self, dart: int) -> int:
+        """Return the right angles of the corner at the head of a dart, on its left."""
+        after = self.turning.wiring.onward[dart]
+        return self.direction(dart ^ 1) - self.direction(after) + 4 * self.turning.wraps[after]
+
+    def tree(self) -> tuple[set[int], set[int]]:
+        """Return the darts of a tree of wires that joins all parts with wishes, and the junctions on it."""
+        wiring = self.turning.wiring
+        wished = {wish.variable for wish in self.turning.wishes}  # a part has the variable of its number
+        if not wished:
+            return set(), set()
+        into: dict[int, int] = {}
+        order = [min(wished)]
+        for vertex in order:
+            for dart in wiring.around(vertex):
+                other = wiring.origin[dart ^ 1]
+                if other not in into and other != order[0]:
+                    into[other] = dart
+                    order.append(other)
+        kept: set[int] = set()
+        met = {order[0]}
+        for vertex in wished:
+            while vertex not in met:
+                met.add(vertex)
+                kept.add(into[vertex])
+                vertex = wiring.origin[into[vertex]]
+        return kept, {vertex for vertex in met if wiring.is_junction(vertex)}
+
 
 def rim_cost(turning: Turning, outer: int) -> float:
     """Return the cost of inputs, outputs and connectors that have no wire at the outer face."""
