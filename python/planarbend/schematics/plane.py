@@ -19,6 +19,7 @@ from planarbend.programs import PlanarbendError
 from planarbend.schematics.directions import Directed
 
 Dart = tuple[int, int]
+UNITS = ((1, 0), (0, 1), (-1, 0), (0, -1))  # of the directions 0 to 3
 
 
 class TooLarge(PlanarbendError):
@@ -172,7 +173,27 @@ class PlaneGraph:
             lines[dart] = [answer.points[chain[0]]]
             for pair in zip(chain, chain[1:]):
                 lines[dart] += [*between[pair], answer.points[pair[1]]]
-        return GridWiring(answer.points, lines)
+        return self._turned(GridWiring(answer.points, lines))
+
+    def _turned(self, grid: GridWiring) -> GridWiring:
+        """Return a drawing after it is turned as a whole, so that darts leave in their directions, from (0, 0) up."""
+        dart = next(iter(grid.lines))
+        (x, y), (right, above) = grid.lines[dart][:2]
+        heads = ((right > x) - (right < x), (above > y) - (above < y))
+        turns = (self.directed.direction(dart) - UNITS.index(heads)) % 4
+
+        def at(point: GridPoint) -> GridPoint:
+            """Return where a point comes to lie."""
+            x, y = point
+            for _ in range(turns):
+                x, y = -y, x
+            return x - left, y - below
+
+        left = below = 0
+        all_points = [at(point) for line in grid.lines.values() for point in line] + [at(point) for point in grid.points]
+        left, below = min(x for x, _ in all_points), min(y for _, y in all_points)
+        return GridWiring([at(point) for point in grid.points],
+                          {dart: [at(point) for point in line] for dart, line in grid.lines.items()})
 
 
 def _counted(darts: Iterator[Dart] | list[Dart]) -> list[Dart]:

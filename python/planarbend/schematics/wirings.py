@@ -40,23 +40,23 @@ def part_of_sheet(sheet: Sheet, parts: Sequence[int]) -> Sheet:
 
 
 def hanging(wiring: Wiring) -> list[int]:
-    """Return the parts to put in last, in this order: each then has one net in common with those before it, or none."""
+    """Return the parts to put in last, in this order, which adds no crossing: each has at most one net that it shares with
+    those before it, or that joins several of its own pins."""
     at = [{wiring.part_of[pin] for pin in pins} for pins in wiring.nets]
-    nets = [sorted({wiring.net_of[pin] for pin in pins} - {NONE}) for pins in wiring.pins_of]
+    nets = [[wiring.net_of[pin] for pin in pins if wiring.net_of[pin] != NONE] for pins in wiring.pins_of]
     found: list[int] = []
     waiting = list(range(wiring.vertex_count))[::-1]
     is_out = [False] * wiring.vertex_count
     while waiting:
         part = waiting.pop()
-        shared = [net for net in nets[part] if len(at[net]) > 1]
-        if is_out[part] or len(shared) > 1:
+        tied = {net for net in nets[part] if len(at[net]) > 1 or nets[part].count(net) > 1}
+        if is_out[part] or len(tied) > 1:
             continue
         is_out[part] = True
         found.append(part)
-        for net in shared:
+        for net in sorted(set(nets[part])):
             at[net].remove(part)
-            if len(at[net]) == 1:
-                waiting += at[net]
+            waiting += sorted(at[net]) if len(at[net]) == 1 else ()
     return found[::-1]
 
 
