@@ -290,11 +290,6 @@ class Crossings(unittest.TestCase):
         self.assertEqual([transistor.pins[was].net for was in order], [pin.net for pin in found.pins])
 
 
-def turns_of(one: Directed) -> dict[int, int]:
-    """How much each dart turns to the left."""
-    return one.turns()
-
-
 @needs_scipy
 class Directions(unittest.TestCase):
     """Directions fit together and cost least."""
@@ -409,12 +404,12 @@ class Directions(unittest.TestCase):
 
     def test_least(self) -> None:
         """A mixed-integer program that chooses windings and whole turns too has the same optimum."""
-        for seed in (0, 1, 3, 5, 8):
+        for seed in range(12):
             with self.subTest(seed=seed):
                 one = directed(self.found(seed, 5)[:2])
                 least = best_of_all(one.turning, one.outer, True)
                 self.assertAlmostEqual(one.solution.cost, least)
-                free = min((one for one in freely([one.turning])), key=lambda one: one.solution.cost)
+                free = freely([one.turning])[0]
                 self.assertAlmostEqual(free.solution.cost, best_of_all(free.turning, free.outer, False))
 
 
@@ -478,7 +473,7 @@ def best_of_all(turning: Turning, outer: int, is_wished: bool) -> float:
             matrix[place, variable] += value
     values = numpy.array([value for _, value in rows], dtype=float)
     found = milp(numpy.array(cost, dtype=float), integrality=numpy.ones(len(names)), bounds=Bounds(low, high),
-                 constraints=LinearConstraint(matrix, values, values), options={"time_limit": 60})
+                 constraints=LinearConstraint(matrix, values, values), options={"presolve": False})  # HiGHS 1.2 calls some of these infeasible
     assert found.status == 0, found.message
     return float(found.fun)
 

@@ -245,10 +245,12 @@ def _optimum(gains: Numbers, limits: Numbers, ends: Sequence[tuple[Numbers, Numb
     values = numpy.tile((-1.0, 1.0), len(gains))
     kept = rows.ravel() != NONE
     matrix = csc_matrix((values[kept], (rows.ravel()[kept], columns[kept])), (row_count, len(gains)))
-    found = linprog(-gains, A_eq=matrix, b_eq=numpy.zeros(row_count), bounds=limits, method="highs-ds")
-    if found.status:
-        raise ArithmeticError(f"no directions were found: {found.message}")
-    return found.x, found.eqlin.marginals
+    for presolve in (True, False):  # the presolve of HiGHS 1.2 calls some feasible programs infeasible
+        found = linprog(-gains, A_eq=matrix, b_eq=numpy.zeros(row_count), bounds=limits, method="highs-ds",
+                        options={"presolve": presolve})
+        if found.status == 0:
+            return found.x, found.eqlin.marginals
+    raise ArithmeticError(f"no directions were found: {found.message}")
 
 
 def _checked(case: Case, directions: Numbers, flow: Numbers) -> Solution:
