@@ -69,10 +69,10 @@ def joined(sheet: Sheet, wired: Collection[str]) -> Sheet:
     return found
 
 
-def unused(sheet: Sheet, key: str) -> str:
-    """Return a key for a net that no other net of a sheet has."""
+def unused(sheet: Sheet, key: str, others: Collection[str] = ()) -> str:
+    """Return a key for a net that no other net of a sheet has, nor is among the others."""
     number, found = 1, key
-    while found in sheet.nets:
+    while found in sheet.nets or found in others:
         number += 1
         found = f"{key} ({number})"
     return found

@@ -10,6 +10,7 @@ from planarbend.readers.sexpr import Expression, parsed
 from planarbend.schematics.parts import Sheet
 from planarbend.schematics.readers.kicad_page import Page, names_of, whole_number
 from planarbend.schematics.readers.kicad_sheet import sheet_of
+from planarbend.schematics.readers.kicad_symbols import fields_of
 
 MOST_SHEETS = 1000  # of a hierarchy that are searched
 
@@ -81,14 +82,12 @@ def found_in(root: Instance, inner: str) -> Instance:
 def sheets_in(instance: Instance) -> Iterator[tuple[list[str], Expression]]:
     """Yield the names of the sheets inside a sheet, and their lists."""
     for one in instance.whole.all("sheet"):
-        fields = {field.words[1]: field.words[2] for field in one.all("property") if len(field.words) > 2}
-        yield [*instance.names, names_of(fields)[0]], one
+        yield [*instance.names, names_of(fields_of(one))[0]], one
 
 
 def opened(outer: Instance, names: list[str], sheet: Expression) -> Instance:
     """Return a sheet inside another one, read from its file."""
-    fields = {field.words[1]: field.words[2] for field in sheet.all("property") if len(field.words) > 2}
-    file = os.path.join(os.path.dirname(outer.file), names_of(fields)[1])
+    file = os.path.join(os.path.dirname(outer.file), names_of(fields_of(sheet))[1])
     try:
         with open(file, "rb") as source:
             return Instance(file, whole_of(source.read()), names, [*outer.path, sheet.value("uuid") or ""])
@@ -113,7 +112,8 @@ def references(root: Instance, wanted: Instance) -> dict[str, tuple[str, int]]:
                 found[place.removeprefix(before)] = one.value("reference") or "", whole_number(one, "unit", 1)
     path = "/" + "/".join(wanted.path)
     for symbol in wanted.whole.all("symbol"):
-        for one in (path for listed in symbol.all("instances") for project in listed.all("project") for path in project.all("path")):
-            if one.words[1:2] == [path] and one.value("reference"):
-                found[symbol.value("uuid") or ""] = one.value("reference") or "", whole_number(one, "unit", 1)
+        for project in (project for listed in symbol.all("instances") for project in listed.all("project")):
+            for one in project.all("path"):
+                if one.words[1:2] == [path] and one.value("reference"):
+                    found[symbol.value("uuid") or ""] = one.value("reference") or "", whole_number(one, "unit", 1)
     return found

@@ -8,6 +8,7 @@ from dataclasses import dataclass, field
 from planarbend.readers.fault import Fault, decoded, shown
 from planarbend.readers.kicad import MADE_NAME, wanted
 from planarbend.readers.sexpr import Expression, parsed
+from planarbend.schematics.flags import flag
 from planarbend.schematics.names import is_power
 from planarbend.schematics.parts import Kind, Net, Part, Pin, Sheet
 from planarbend.schematics.readers.kicad_page import plain
@@ -45,26 +46,33 @@ def read_netlist(data: bytes, file: str, inner: str | None = None) -> Sheet:
             add_net(found, net, components)
     for component in components.values():
         add_part(found, component)
+    for key, ends in found.ends().items():
+        if len(ends) == 1 and not found.nets[key].is_power:
+            found.parts.append(flag(Kind.LABEL, found.nets[key].name, key))
     return found
 
 
 def components_of(whole: Expression) -> dict[str, Component]:
     """Return the components of a netlist by their references."""
-    library = {(one.value("lib") or "", one.value("part") or ""): one for parts in whole.all("libparts") for one in parts.all("libpart")}
+    library = {name_in(one): one for parts in whole.all("libparts") for one in parts.all("libpart")}
     found: dict[str, Component] = {}
     for components in whole.all("components"):
         for one in components.all("comp"):
             ref = wanted(one, "ref")
             if ref in found:
                 raise Fault(f"a second component {shown(ref)}", one.line)
-            source = next(one.all("libsource"), None)
-            key = (source.value("lib") or "", source.value("part") or "") if source else ("", "")
             value = one.value("value") or ""
-            texts = [key[1], *(text for text in (source and source.value("description"),) if text)]
-            found[ref] = Component(ref, "" if value == "~" else value, " ".join(texts))
-            if key in library:
-                list_pins(found[ref], library[key])
+            found[ref] = Component(ref, "" if value == "~" else value, "")
+            for source in one.all("libsource"):
+                found[ref].words = f"{name_in(source)[1]} {source.value('description') or ''}"
+                if name_in(source) in library:
+                    list_pins(found[ref], library[name_in(source)])
     return found
+
+
+def name_in(one: Expression) -> tuple[str, str]:
+    """Return the library of a part, and its name there."""
+    return one.value("lib") or "", one.value("part") or ""
 
 
 def list_pins(component: Component, libpart: Expression) -> None:
@@ -97,7 +105,8 @@ def pin_of(node: Expression, net: str, components: dict[str, Component]) -> Pin:
     component = components[ref]
     if number not in component.pins:
         if component.is_listed:
-            raise Fault(f"the net {shown(net)} has the pin {shown(number)} of {shown(ref)}, which the file does not list", node.line)
+            raise Fault(f"the net {shown(net)} has the pin {shown(number)} of {shown(ref)}, which the file does not list",
+                        node.line)
         name = node.value("pinfunction") or ""
         component.pins[number] = Pin(number, plain(name), 0, node.value("pintype") or "unspecified")
     return component.pins[number]
@@ -122,4 +131,5 @@ def add_part(sheet: Sheet, component: Component) -> None:
 
 def natural(number: str) -> tuple[tuple[int, int | str], ...]:
     """Return a key that sorts the numbers of pins as people do: 2 before 10."""
-    return tuple((0, int(piece)) if piece.isascii() and piece.isdecimal() else (1, piece) for piece in re.findall(r"\d+|\D+", number))
+    pieces = re.findall(r"[0-9]{1,9}|[^0-9]+", number)
+    return tuple((0, int(piece)) if piece[0] in "0123456789" else (1, piece) for piece in pieces)

@@ -8,7 +8,8 @@ from dataclasses import dataclass, field
 from planarbend.readers.fault import Fault, shown
 from planarbend.readers.sexpr import Expression
 from planarbend.schematics.parts import Kind, Pin
-from planarbend.schematics.readers.kicad_symbols import LibraryPin, Point, Symbol, corners_of, fields_of, joined, place_of, symbols_of
+from planarbend.schematics.readers.kicad_symbols import (LibraryPin, Point, Symbol, corners_of, fields_of, joined, place_of,
+                                                         symbols_of)
 from planarbend.schematics.readers.kicad_wires import Line
 
 POWER_MARK = "PWR_FLAG"  # a symbol that tells KiCad's checker that a net has power; it is not drawn

@@ -8,9 +8,9 @@ import re
 from collections.abc import Hashable, Iterator
 
 from planarbend.schematics.flags import flag, unused
-from planarbend.schematics.parts import Kind, Net, Part, Pin, Sheet, ordered
+from planarbend.schematics.parts import Kind, Net, Part, Sheet, ordered
 from planarbend.schematics.readers.kicad_page import Label, Page, Placed, plain
-from planarbend.schematics.readers.kicad_symbols import LibraryPin, Point
+from planarbend.schematics.readers.kicad_symbols import PER_MILLIMETRE, LibraryPin, Point
 from planarbend.schematics.readers.kicad_wires import Joints, Lines
 from planarbend.schematics.readers.kinds import finished, kind_of, polarity_note
 
@@ -50,6 +50,14 @@ class Wiring:
             for line in self.buses.at(at):
                 self.joints.unite(("bus", at), ("bus", line[0]))
 
+    def notes(self) -> Iterator[str]:
+        """Yield notes on wires that end on another one without a junction, which KiCad does not join."""
+        joined = {*self.page.junctions, *(label.at for label in self.page.labels)}
+        for at in dict.fromkeys(end for line in self.page.wires for end in line):
+            if at not in joined and any(at not in line for line in self.wires.at(at)):
+                x, y = (length / PER_MILLIMETRE for length in at)
+                yield f"a wire ends on another one at ({x:g}, {-y:g}) without a junction: they are not joined"
+
     def place(self, at: Point, name: str) -> Hashable:
         """Return a point, or the pair for one on a bus: there is a bus at it, or the name is one and there is no wire."""
         is_bus = self.buses.at(at) or BUS.fullmatch(name) and not self.wires.at(at)
@@ -77,7 +85,8 @@ class Wiring:
 
 def sheet_of(page: Page, name: str) -> Sheet:
     """Return the sheet of a page. A net whose pieces are joined by labels only is drawn in these pieces, with a flag at each."""
-    wiring, found = Wiring(page), Sheet(name)
+    wiring = Wiring(page)
+    found = Sheet(name, notes=list(wiring.notes()))
     placed = [shown_pins(one, wiring, found) for one in page.placed if one.is_part or one.is_sheet]
     found.parts = [part_of(one, found) for one in placed]
     for pieces in nets_of(wiring.pieces(placed)):
@@ -150,7 +159,7 @@ def add_net(sheet: Sheet, pieces: list[Piece], placed: list[Placed]) -> None:
     names = [*powers, *(label.name for label in labels)]
     if not drawn or not names and len(drawn[0].pins) == 1:
         return
-    name = names[0] if names else made_name(placed, *drawn[0].pins[0])
+    name = names[0] if names else unused(sheet, made_name(placed, *drawn[0].pins[0]))
     if powers:
         drawn = [Piece([pin for piece in drawn for pin in piece.pins])]
     for number, piece in enumerate(drawn, 1):
@@ -166,4 +175,5 @@ def add_net(sheet: Sheet, pieces: list[Piece], placed: list[Placed]) -> None:
 
 def made_name(placed: list[Placed], part: int, pin: int) -> str:
     """Return the name of a net without a label, from one of its pins."""
-    return f"Net-({placed[part].reference}-{placed[part].pins[pin][0].pin.number})"
+    found = placed[part].pins[pin][0].pin
+    return f"Net-({placed[part].reference}-{found.number or found.name})"

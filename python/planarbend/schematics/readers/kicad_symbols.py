@@ -13,7 +13,7 @@ from planarbend.schematics.parts import Pin
 
 PER_MILLIMETRE = 10_000
 FARTHEST = 10 ** 9  # millimetres: a coordinate beyond it is a fault
-UNIT = re.compile(r".*_(\d+)_(\d+)", re.S)  # a symbol's name, the number of the unit, and that of the body style
+UNIT = re.compile(r".*_(\d{1,9})_(\d{1,9})", re.S)  # a symbol's name, the number of the unit, and that of the body style
 ALL_UNITS = 0  # the number of a unit or style whose pins belong to all of them
 UNNAMED = ("", "~")
 

@@ -7,12 +7,13 @@ from __future__ import annotations
 import re
 from collections.abc import Sequence
 
-from planarbend.schematics.parts import CAGES, EAST, NORTH, SOUTH, TRANSISTORS, WEST, WISHES, Kind, Part, Pin
+from planarbend.schematics.parts import EAST, NORTH, SOUTH, TRANSISTORS, WEST, WISHES, Kind, Part, Pin
 
 INPUTS, OUTPUTS = ("input",), ("output", "tri_state", "open_collector", "open_emitter")
-POLARIZED = re.compile(r"(?i)\bCP(?:\d+|small)?\b|_Polari[sz]ed|\bpolari[sz]ed|electrolytic|tantal")
+POLARIZED = re.compile(r"(?i)\bCP(?:\d+|small)?\b|\bpolari[sz]ed|electrolytic|tantal")
 UNPOLARIZED = re.compile(r"(?i)\b(?:un|non-?)polari[sz]ed")
 LIGHT = re.compile(r"(?i)(?:\b|_)LED(?:\b|_)|light.emitting")
+POTENTIOMETER = re.compile(r"(?i)pot|trim")
 RESISTORS, CRYSTALS, SOURCES, POTS = {"R"}, {"Y", "X", "XTAL"}, {"V", "I", "VS", "IS"}, {"RV", "VR", "POT", "P", "R"}
 NEGATIVE, POSITIVE = {"K", "C", "CATHODE", "KATHODE", "-"}, {"A", "ANODE", "+"}
 BIPOLAR, FIELD = ("B", "C", "E"), ("G", "D", "S")
@@ -32,8 +33,8 @@ GATES_4000 = {"4001": "nor", "4002": "nor", "4025": "nor", "4011": "nand", "4012
               "4081": "and", "4082": "and", "4069": "not", "4049": "not", "4050": "buffer", "40106": "not"}
 FAMILY_74 = re.compile(r"(?i)(?:SN|MC|CD|MM|DM|HD)?(?:74|54)(?:[A-Z]{0,4})(?:1G|2G|3G)?(\d{2,3})[A-Z]{0,4}")
 FAMILY_4000 = re.compile(r"(?i)(?:CD|HEF|HCF|MC1|TC|MC)?(4\d{3}|40106)[A-Z]{0,4}")
-GATE_WORDS = [("xnor", r"xnor|exclusive.nor"), ("xor", r"xor|exclusive.or"), ("nand", r"nand"), ("nor", r"nor"), ("and", r"and"),
-              ("or", r"or"), ("not", r"not|inverter|inv"), ("buffer", r"buffer")]
+GATE_WORDS = {"xnor": "xnor|exclusive.nor", "xor": "xor|exclusive.or", "nand": "nand", "nor": "nor", "and": "and", "or": "or",
+              "not": "inverter", "buffer": "buffer"}
 GATE_TEXT = re.compile(r"(?i)\b(?:\d-?input |single |dual |triple |quad |hex )+(?:schmitt[- ]trigger )?"
                        r"(?:positive[- ])?(exclusive.x?nor|exclusive.or|xnor|xor|nand|nor|and|or|inverter|buffer)\b")
 MAY_BE_MIRRORED = TRANSISTORS | {Kind.POT, Kind.OPAMP, Kind.MUX}
@@ -60,7 +61,7 @@ def kind_of(words: str, prefix: str, pins: Sequence[Pin]) -> tuple[Kind, str]:
         return of_two(words, prefix, pins), ""
     if len(pins) == 3 and len(sides) == 3:
         found = transistor(words, pins)
-        if found is None and prefix in POTS and re.search(r"(?i)pot|trim", words):
+        if found is None and prefix in POTS and POTENTIOMETER.search(words):
             found = Kind.POT
         if found is not None:
             return found, ""
@@ -73,7 +74,7 @@ def of_two(words: str, prefix: str, pins: Sequence[Pin]) -> Kind:
     if prefix in RESISTORS:
         return Kind.RESISTOR
     if prefix == "C":
-        is_polarized = names == {"+", "-"} or POLARIZED.search(UNPOLARIZED.sub("", words.replace("_", " ").replace("~", "")))
+        is_polarized = names == {"+", "-"} or POLARIZED.search(UNPOLARIZED.sub("", words.replace("_", " ")))
         return Kind.POLARIZED if is_polarized else Kind.CAPACITOR
     if prefix == "L":
         return Kind.INDUCTOR
@@ -146,7 +147,7 @@ def form_of(words: str) -> str:
     match = GATE_TEXT.search(words)
     if match is None:
         return ""
-    return next((form for form, pattern in GATE_WORDS if re.fullmatch(f"(?i){pattern}", match[1])), "")
+    return next((form for form, pattern in GATE_WORDS.items() if re.fullmatch(f"(?i){pattern}", match[1])), "")
 
 
 def finished(part: Part) -> Part:

@@ -22,7 +22,8 @@ Ends = tuple[tuple[str, int], ...]  # names of pins in the order of nodes, with 
 
 TWO = {"r": (Kind.RESISTOR, ""), "c": (Kind.CAPACITOR, ""), "l": (Kind.INDUCTOR, ""), "d": (Kind.DIODE, ""),
        "v": (Kind.SOURCE, "voltage"), "i": (Kind.SOURCE, "current")}
-TWO_ENDS: dict[str, Ends] = {"d": (("A", WEST), ("K", EAST)), "v": (("+", NORTH), ("-", SOUTH)), "i": (("+", NORTH), ("-", SOUTH))}
+POLES: Ends = (("+", NORTH), ("-", SOUTH))
+TWO_ENDS: dict[str, Ends] = {"d": (("A", WEST), ("K", EAST)), "v": POLES, "i": POLES}
 PLAIN_ENDS: Ends = (("1", WEST), ("2", EAST))
 OUT: Ends = (("+", EAST), ("-", EAST))
 CONTROL: Ends = (("C+", WEST), ("C-", WEST))
@@ -126,7 +127,8 @@ class Builder:
             raise Fault(f"{shown(line.words[0])} needs {count} nodes and a model", line.number)
         kind = kinds.get(self.circuit.model(words[count]) or "", Kind.BOX)
         if kind is Kind.BOX:
-            self.found.notes.append(f"{line.words[0]}: a box, since the file does not say what the model {shown(words[count])} is")
+            self.found.notes.append(f"{line.words[0]}: a box, since the file does not say what the model"
+                                    f" {shown(words[count])} is")
         sides = SIDES_REVERSED if kind in REVERSED else SIDES
         pins = [Pin(name, name, side, "passive", self.net(node)) for name, side, node in zip(names[:count], sides, words)]
         if letter == "m" and pins[3].net == pins[2].net:
@@ -144,7 +146,8 @@ class Builder:
         if circuit is None:
             self.found.notes.append(f"{line.words[0]}: its pins have no names, since the file does not define {shown(name)}")
         elif len(circuit.ports) != len(nodes):
-            raise Fault(f"{shown(line.words[0])} has {len(nodes)} nodes, and {shown(name)} has {len(circuit.ports)}", line.number)
+            raise Fault(f"{shown(line.words[0])} has {len(nodes)} nodes, and {shown(name)} has {len(circuit.ports)}",
+                        line.number)
         pins = [Pin(str(number), circuit.ports[number - 1] if circuit else "", 0, "unspecified", self.net(node))
                 for number, node in enumerate(nodes, 1)]
         return Part(line.words[0], name, Kind.BOX, set_sides(pins, "", ""))

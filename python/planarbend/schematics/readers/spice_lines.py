@@ -7,6 +7,7 @@ from dataclasses import dataclass, field
 
 from planarbend.readers.fault import Fault, shown
 
+LINE_END = re.compile(r"\r\n?|\n")
 COMMENT = re.compile(r"(?:;|(?:^|(?<=\s))(?:\$(?=\s|$)|//)).*")
 WORD = re.compile(r"""(?:\([^()]*\)|\{[^{}]*\}|'[^']*'|"[^"]*"|[^\s,])+""")
 PARAMETER = re.compile(r"(?i)params?:|optional:|[^=]*=.*", re.S)
@@ -66,7 +67,7 @@ def words_of(line: str) -> list[str]:
 def lines_of(text: str) -> list[Line]:
     """Return the lines of a text but the first one, which is its title, without comments, and continued lines made one."""
     found: list[Line] = []
-    for number, line in enumerate(text.splitlines()[1:], 2):
+    for number, line in enumerate(LINE_END.split(text)[1:], 2):
         line = "" if line[:1] == "*" else COMMENT.sub("", line).strip()
         if line[:1] == "+":
             if not found:
@@ -81,7 +82,7 @@ def circuit_of(text: str) -> Circuit:
     """Return the circuit that a text describes, or raise a `Fault` with the line that breaks a rule."""
     whole = here = Circuit("")
     opened: list[int] = []
-    if LIKE_ELEMENT.fullmatch(text.split("\n", 1)[0]):
+    if LIKE_ELEMENT.fullmatch(LINE_END.split(text, 1)[0]):
         whole.notes.append("line 1 is the title, as in every SPICE netlist, and not drawn")
     for line in lines_of(text):
         word = line.words[0].lower()

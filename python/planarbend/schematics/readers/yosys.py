@@ -2,6 +2,7 @@
 from __future__ import annotations
 
 import json
+import re
 from typing import Any
 
 from planarbend.readers.fault import Fault, decoded, shown
@@ -56,8 +57,9 @@ class Reader:
             if inner not in self.modules:
                 raise Fault(f"there is no module {shown(inner)}; there are {shown(', '.join(self.modules))}")
             return inner, self.modules[inner]
-        tops = [name for name in self.modules if is_on(self.object(self.modules[name], "attributes", name).get("top", 0))]
-        own = [name for name in self.modules if not is_on(self.object(self.modules[name], "attributes", name).get("blackbox", 0))]
+        marks = {name: self.object(one, "attributes", name) for name, one in self.modules.items()}
+        tops = [name for name, one in marks.items() if is_on(one.get("top", 0))]
+        own = [name for name, one in marks.items() if not is_on(one.get("blackbox", 0))]
         found = tops or own
         if len(found) != 1:
             reason = "no modules" if not found else f"{len(found)} modules, of which none is the top: {shown(', '.join(found))}"
@@ -79,7 +81,7 @@ class Reader:
         for one in self.object(module, "cells", name).items():
             cell = self.cell(*one)
             found.parts.append(part_of(cell))
-            ends += ((pin, cell.directions[pin.number], cell.bits[pin.number], f"{cell.name}.{pin.number}")
+            ends += ((pin, cell.directions[pin.number], cell.bits[pin.number], f"{short_name(cell)}.{pin.number}")
                      for pin in found.parts[-1].pins)
         connect(Vectors(found, self.names(module, name)), ends)
         return drop_single(found)
@@ -106,11 +108,13 @@ class Reader:
             raise self.fault(f"the cell {shown(name)} has no type", name)
         bits = {port: self.bits(one, name) for port, one in self.object(value, "connections", name).items()}
         directions = self.object(value, "port_directions", name)
-        known = self.object(self.modules.get(kind), "ports", kind) if kind in self.modules else {}
-        found = {port: directions.get(port) or (known.get(port) or {}).get("direction", "") for port in bits}
-        for port, direction in found.items():
+        known = self.object(self.modules[kind], "ports", kind) if kind in self.modules else {}
+        found: dict[str, str] = {}
+        for port in bits:
+            direction = directions.get(port) or self.object(known, port, kind).get("direction", "")
             if direction not in (*PORTS, ""):
                 raise self.fault(f"the port {shown(port)} of {shown(name)} has the direction {shown(str(direction))}", name)
+            found[port] = str(direction)
         return Cell(name, not is_on(value.get("hide_name", 0)), kind, found, bits, self.object(value, "parameters", name))
 
     def bits(self, found: Any, name: str) -> list[Bit]:
@@ -132,6 +136,15 @@ def connect(vectors: Vectors, ends: list[End]) -> None:
     for pin, direction, bits, made in ends:
         if direction == "input":
             vectors.sink(pin, bits, made)
+
+
+def short_name(cell: Cell) -> str:
+    """Return a short name for a cell: its type and the number at the end of its name, if no person named it."""
+    if cell.is_named:
+        return cell.name
+    digits = re.search(r"\d*$", cell.name)
+    words = re.search(r"[A-Za-z]+", cell.type)
+    return (words[0].lower() if words else "cell") + (digits[0] if digits else "")
 
 
 def is_on(value: Any) -> bool:

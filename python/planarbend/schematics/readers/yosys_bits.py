@@ -38,7 +38,7 @@ class Vectors:
 
     def __init__(self, sheet: Sheet, names: dict[tuple[Bit, ...], str]) -> None:
         """Return none; `names` are those that people gave to vectors."""
-        self.sheet, self.names = sheet, names
+        self.sheet, self.names, self.given = sheet, names, frozenset(names.values())
         self.owners: dict[Bit, tuple[str, int]] = {}  # the net of each bit, and its place in there
         self.widths: dict[str, int] = {}
         self.bundles: dict[tuple[Bit, ...], str] = {}  # and the nets of those that were put together
@@ -46,8 +46,8 @@ class Vectors:
     def net(self, bits: Sequence[Bit], made: str) -> str:
         """Return the key of a new net, whose name is that of its bits or, if they have none, one that is made."""
         name = self.names.get(tuple(bits))
-        key = unused(self.sheet, name or made)
-        self.sheet.nets[key] = Net(name or made, name is not None)
+        key = unused(self.sheet, name or made, () if name else self.given)
+        self.sheet.nets[key] = Net(name or key, name is not None)
         return key
 
     def drive(self, pin: Pin, bits: Sequence[Bit], made: str) -> None:
@@ -80,13 +80,17 @@ class Vectors:
 
     def adopt(self, bits: Sequence[Bit], made: str) -> None:
         """Give bits that nothing drives a net of their own, with a label."""
-        for is_free, run in itertools.groupby(enumerate(bits), lambda one: isinstance(one[1], int) and one[1] not in self.owners):
-            places = list(dict(run)) if is_free else []
+        for is_free, run in itertools.groupby(range(len(bits)), lambda place: self.is_free(bits[place])):
+            places = list(run) if is_free else []
             free = list(dict.fromkeys(bits[place] for place in places))
             if free:
                 net = self.net(free, made if len(free) == len(bits) else f"{made}[{span(places[0], len(places))}]")
                 self.own(free, net)
                 self.sheet.parts.append(flag(Kind.LABEL, self.sheet.nets[net].name, net))
+
+    def is_free(self, bit: Bit) -> bool:
+        """Return whether nothing drives a bit."""
+        return isinstance(bit, int) and bit not in self.owners
 
     def slices(self, bits: Sequence[Bit]) -> list[Slice]:
         """Return a vector as the fewest slices of nets and constants, from its bit 0 on."""
@@ -102,7 +106,7 @@ class Vectors:
 
     def constant(self, bits: Sequence[Bit], made: str) -> str:
         """Return the net of a new constant."""
-        key = unused(self.sheet, made)
+        key = unused(self.sheet, made, self.given)
         text = constant_text("".join(map(str, reversed(bits))))
         self.sheet.nets[key] = Net(key, False)
         self.sheet.parts.append(flag(Kind.CONST, text, key))

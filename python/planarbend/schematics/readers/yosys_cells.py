@@ -7,7 +7,7 @@ from dataclasses import dataclass, field
 from typing import Any
 
 from planarbend.schematics.parts import EAST, NORTH, SOUTH, WEST, Kind, Part, Pin
-from planarbend.schematics.readers.kinds import SYMMETRIC, finished
+from planarbend.schematics.readers.kinds import finished
 from planarbend.schematics.readers.sides import placed, set_sides
 
 Bit = int | str
@@ -18,15 +18,15 @@ GATES = {"$_AND_": "and", "$_OR_": "or", "$_XOR_": "xor", "$_XNOR_": "xnor", "$_
          "$buf": "buffer"}
 SECOND_INVERTED = ("$_ANDNOT_", "$_ORNOT_")
 MULTIPLEXERS = {"$_MUX_": "line", "$_NMUX_": "inverted", "$mux": "line"}  # and the shape of the output
-SIGNS = {"add": "+", "sub": "\u2212", "mul": "\u00d7", "div": "/", "mod": "%", "pow": "**", "eq": "=", "ne": "\u2260", "eqx": "===",
-         "nex": "!==", "lt": "<", "le": "\u2264", "gt": ">", "ge": "\u2265", "shl": "<<", "shr": ">>", "sshl": "<<<", "sshr": ">>>",
-         "neg": "\u2212", "pos": "+", "reduce_and": "&", "reduce_or": "|", "reduce_xor": "^", "reduce_xnor": "~^",
-         "reduce_bool": "\u2260 0"}
+SIGNS = {"add": "+", "sub": "\u2212", "mul": "\u00d7", "div": "/", "mod": "%", "pow": "**", "eq": "=", "ne": "\u2260",
+         "eqx": "===", "nex": "!==", "lt": "<", "le": "\u2264", "gt": ">", "ge": "\u2265", "shl": "<<", "shr": ">>",
+         "sshl": "<<<", "sshr": ">>>", "neg": "\u2212", "pos": "+", "reduce_and": "&", "reduce_or": "|", "reduce_xor": "^",
+         "reduce_xnor": "~^", "reduce_bool": "\u2260 0"}
 EQUAL_INPUTS = {"$add", "$mul", "$eq", "$ne", "$eqx", "$nex"}
 FLIP_FLOP = re.compile(r"\$_(?:S?DFF(?:C?E)?|DFFSRE?)_([NP]+)([01]?)([NP]?)_|\$[as]?dff(?:ce|e|sr|sre)?")
-# Names of the pins of flip-flops, with their sides from above, and the letters of their polarities.
-FLIP_FLOP_PINS = {"D": WEST, "E": WEST, "EN": WEST, "C": WEST, "CLK": WEST, "R": SOUTH, "SRST": SOUTH, "ARST": SOUTH, "CLR": SOUTH,
-                  "S": NORTH, "SET": NORTH, "Q": EAST}
+# Names of the pins of flip-flops from above, with their sides.
+FLIP_FLOP_PINS = {"D": WEST, "E": WEST, "EN": WEST, "C": WEST, "CLK": WEST, "R": SOUTH, "SRST": SOUTH, "ARST": SOUTH,
+                  "CLR": SOUTH, "S": NORTH, "SET": NORTH, "Q": EAST}
 CLOCKS = ("C", "CLK")
 
 
