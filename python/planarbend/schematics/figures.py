@@ -5,10 +5,10 @@ import math
 from dataclasses import dataclass
 
 from planarbend.schematics.boxes import Needs, needs_of
-from planarbend.schematics.directions import Directed
 from planarbend.schematics.drawn import STUB
 from planarbend.schematics.parts import EAST, NORTH, SOUTH, TURNED_OVER, WEST, Kind, Part
 from planarbend.schematics.shapes import APART, NUMBER, Shape, Text, beside, shape_of, step
+from planarbend.schematics.skeleton import Skeleton
 from planarbend.schematics.strokes import Box, Pose
 from planarbend.schematics.symbols import REACH
 from planarbend.schematics.wiring import pose
@@ -101,13 +101,16 @@ class Figure:
         return found
 
 
-def figures_of(directed: Directed) -> list[Figure]:
-    """Return the parts of a component as they are drawn."""
-    wiring = directed.turning.wiring
+def figures_of(skeleton: Skeleton) -> list[Figure]:
+    """Return the parts of a component as they are drawn. A part without a wish has the direction that the core gave it."""
+    turning = skeleton.plane.directed.turning
+    wiring = turning.wiring
     found = []
     for number, what in enumerate(wiring.sheet.parts):
         part, order = pose(what, False, wiring.places[number])
-        turned = Pose(int(directed.solution.directions[number]) % 4, wiring.is_mirrored[number], what.kind in TURNED_OVER)
+        dart = next(dart for dart in map(wiring.dart_of.__getitem__, wiring.pins_of[number]) if dart >= 0)
+        turn = (skeleton.heads(dart) - turning.offset[dart]) % 4
+        turned = Pose(turn, wiring.is_mirrored[number], what.kind in TURNED_OVER)
         found.append(figure(part, turned, [wiring.first[number] + pin for pin in order]))
     return found
 

@@ -56,7 +56,8 @@ def component(sheet: Sheet, engine: Engine, seed: int, effort: int, free: bool) 
         return lone(figure(part, Pose(0 if free else part.want, False, part.kind in TURNED_OVER), list(range(len(part.pins)))))
     one = directed([Turning(search.embedding) for search in wirings], free)
     plane = plane_graph(one)
-    return placed(Spacing(skeleton_of(plane, plane.laid(engine)), figures_of(one)))
+    skeleton = skeleton_of(plane, plane.laid(engine))
+    return placed(Spacing(skeleton, figures_of(skeleton)))
 
 
 def assembled(sheet: Sheet, found: Sequence[Placed], places: Sequence[int]) -> Schematic:

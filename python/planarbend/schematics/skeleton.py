@@ -37,6 +37,11 @@ class Skeleton:
         """Return the number of a node's coordinate along an axis."""
         return self.shared[axis].find(node)
 
+    def heads(self, dart: int) -> int:
+        """Return the direction in which a dart leaves its vertex: 0 east, 1 north, 2 west, 3 south."""
+        (x, y), (right, below) = (self.points[node] for node in self.lines[dart][:2])
+        return 0 if right > x else 2 if right < x else 1 if below < y else 3
+
     def segments(self) -> list[tuple[int, int, int]]:
         """Return the straight segments of all wires: the axis along which each runs, its lower end and its higher one."""
         found = []
