@@ -70,16 +70,21 @@ class Piece:
 
 def judge(drawing: dict[str, Any], path: Path, form: str, inner: str | None = None) -> Verdict:
     """The verdict on a drawing of a file."""
+    found, said = judge_alone(drawing), truth(path, form, inner)
+    look_at_order(drawing, said, found)
+    look_at_nets(drawing, said, found)
+    return found
+
+
+def judge_alone(drawing: dict[str, Any]) -> Verdict:
+    """The verdict on a drawing without its file: whether it is consistent."""
     found = Verdict()
-    said = truth(path, form, inner)
     pieces = list(pieces_of(drawing, found))
     look_at_wires(drawing, found)
     look_at_meetings(drawing, pieces, found)
     look_at_obstacles(drawing, pieces, found)
     look_at_boxes(drawing, found)
     look_at_pins(drawing, found)
-    look_at_order(drawing, said, found)
-    look_at_nets(drawing, said, found)
     count(drawing, pieces, found)
     return found
 

@@ -6,7 +6,6 @@ from __future__ import annotations
 
 import collections
 import json
-import os
 import re
 from collections.abc import Iterable
 from dataclasses import dataclass, field

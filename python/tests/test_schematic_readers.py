@@ -13,13 +13,16 @@ from pathlib import Path
 from typing import Any
 
 import support
-from schematic_judge import judge
-from schematic_oracle import lists, sub, value
+from schematic_judge import judge, judge_alone
+from schematic_oracle import lists, sub
 from schematic_rows import rows
 
 from planarbend.schematics.flags import split
-from planarbend.schematics.parts import EAST, NORTH, SOUTH, WEST, Kind, Part, Sheet, mirrored
+from planarbend.schematics.names import is_ground, is_negative, is_power
+from planarbend.schematics.parts import EAST, NORTH, SOUTH, WEST, Kind, Part, Pin, Sheet, mirrored
 from planarbend.schematics.readers import FORMS, ReadError, read
+from planarbend.schematics.readers.kicad_wires import Lines
+from planarbend.schematics.readers.kinds import kind_of
 
 FILES = support.TESTS / "schematics"
 DEMOS = Path("/usr/share/kicad/demos")
@@ -137,6 +140,18 @@ class KiCad(Case):
         place = whole.index("(name")
         self.refused(whole[:place], "the list pin has no end; the file is cut off", whole[:whole.index("(pin")].count("\n") + 1)
         self.refused("(kicad_sch)", "there are no parts")
+
+
+class Points(unittest.TestCase):
+    def test_lines_through_a_point(self) -> None:
+        level, upright, slanted = ((0, 0), (10, 0)), ((5, -3), (5, 10)), ((0, 0), (4, 4))
+        lines = Lines([level, upright, slanted])
+        self.assertEqual(lines.at((5, 0)), [level, upright])
+        self.assertEqual(lines.at((5, 9)), [upright])
+        self.assertEqual(lines.at((9, 0)), [level])
+        self.assertEqual(lines.at((0, 0)), [level, slanted])
+        self.assertEqual(lines.at((3, 3)), [slanted])
+        self.assertEqual([lines.at(point) for point in ((11, 0), (5, 11), (5, -4), (-1, 0), (3, 2))], [[]] * 5)
 
 
 class Hierarchy(Case):
@@ -318,7 +333,8 @@ class Spice(Case):
         parts = by_ref(of("nand.cir"))
         self.assertEqual({ref: (part.kind, part.form) for ref, part in parts.items()}, {
             "M1": (Kind.PMOS, ""), "M2": (Kind.PMOS, ""), "M3": (Kind.NMOS, ""), "M4": (Kind.NMOS, ""), "C1": (Kind.CAPACITOR, ""),
-            "I1": (Kind.SOURCE, "current"), "J1": (Kind.NJF, ""), "G1": (Kind.BOX, "G"), "E2": (Kind.BOX, "E"), "L1": (Kind.INDUCTOR, "")})
+            "I1": (Kind.SOURCE, "current"), "J1": (Kind.NJF, ""), "G1": (Kind.BOX, ""), "E2": (Kind.SOURCE, "controlled voltage"),
+            "L1": (Kind.INDUCTOR, "")})
         self.assertEqual(pins(parts["M1"]), [("S,B", "S", NORTH, "vdd"), ("G", "G", WEST, "a"), ("D", "D", SOUTH, "y")])
         self.assertEqual(pins(parts["M3"]), [("B", "B", EAST, "0"), ("D", "D", NORTH, "y"), ("G", "G", WEST, "a"), ("S", "S", SOUTH, "n1")])
         self.assertEqual(pins(parts["G1"]), [("-", "-", EAST, "0"), ("+", "+", EAST, "y"), ("C+", "C+", WEST, "a"), ("C-", "C-", WEST, "b")])
@@ -355,6 +371,21 @@ class Spice(Case):
         self.assertEqual([by_ref(sheet)[ref].kind for ref in ("Q1", "Q2")], [Kind.PNP, Kind.BOX])
         self.assertEqual(sheet.notes, ["Q2: a box, since the file does not say what the model what is"])
 
+    def test_sources_that_are_controlled(self) -> None:
+        sheet = text("B1 a 0 V={V(b)}\nB2 b 0 I = {V(a)}\nF1 a b V1 2\nH1 b 0 V1 3\nG1 a b VALUE={1}\nS1 a b c d sw\nW1 a b V1 sw\n"
+                     "T1 a 0 b 0 z0=50\nR1 c d 1\nV1 a 0 1\n")
+        parts = by_ref(sheet)
+        self.assertEqual({ref: part.form for ref, part in parts.items() if part.kind is Kind.SOURCE}, {
+            "B1": "controlled voltage", "B2": "controlled current", "F1": "controlled current", "H1": "controlled voltage",
+            "G1": "controlled current", "V1": "voltage"})
+        self.assertEqual(pins(parts["B1"]), [("+", "+", NORTH, "a"), ("-", "-", SOUTH, "0")])
+        self.assertEqual(pins(parts["S1"]), [("-", "-", EAST, "b"), ("+", "+", EAST, "a"), ("C+", "C+", WEST, "c"), ("C-", "C-", WEST, "d")])
+        self.assertEqual((parts["W1"].kind, pins(parts["W1"])), (Kind.TWO, [("2", "", EAST, "b"), ("1", "", WEST, "a")]))
+        self.assertEqual([pin.name for pin in parts["T1"].pins], ["2-", "2+", "1+", "1-"])
+
+    def test_other_encodings(self) -> None:
+        self.assertEqual(by_ref(read("t\nC1 a 0 1\u00b5\nR1 a 0 1\n.end".encode("latin-1"), "x.cir"))["C1"].value, "1\u00b5")
+
     def test_polynomial_sources(self) -> None:
         part = by_ref(text("E1 a 0 POLY(2) b 0 c 0 0 1 1\nR1 a b 1\nR2 b c 1"))["E1"]
         self.assertEqual([pin.name for pin in part.pins], ["-", "+", "C1+", "C1-", "C2+", "C2-"])
@@ -375,6 +406,72 @@ class Spice(Case):
         self.refused("title\n.end\n", "the circuit has no elements", None)
         self.refused("title\n.subckt s a\nR1 a 0 1\n.ends\n", "no elements outside its subcircuits s")
         self.refused("title\nR1 a 0 1\n", "no subcircuit t", None, "spice", "t")
+
+
+class Kinds(unittest.TestCase):
+    """Kinds by what a library says: its part's name, keywords and description."""
+
+    def kind(self, words: str, prefix: str, *ends: tuple[str, int, str] | tuple[str, int]) -> tuple[Kind, str]:
+        listed = [Pin(str(place), name, side, *more) for place, (name, side, *more) in enumerate(ends)]
+        return kind_of(words, prefix, listed)
+
+    def test_two_pins(self) -> None:
+        for words, prefix, names, wanted in (
+                ("R", "R", "", (Kind.RESISTOR, "")), ("R_Small_US", "R", "", (Kind.RESISTOR, "")), ("C", "C", "", (Kind.CAPACITOR, "")),
+                ("C_Polarized", "C", "", (Kind.POLARIZED, "")), ("CP", "C", "", (Kind.POLARIZED, "")), ("CP1_Small", "C", "", (Kind.POLARIZED, "")),
+                ("C Unpolarized capacitor", "C", "", (Kind.CAPACITOR, "")), ("CPU", "C", "", (Kind.CAPACITOR, "")), ("X", "C", "+-", (Kind.POLARIZED, "")),
+                ("L", "L", "", (Kind.INDUCTOR, "")), ("D", "D", "KA", (Kind.DIODE, "")), ("D", "D", "", (Kind.TWO, "")),
+                ("D_Zener", "D", "KA", (Kind.DIODE, "zener")), ("D_Schottky", "D", "AK", (Kind.DIODE, "schottky")),
+                ("LED", "D", "KA", (Kind.LED, "")), ("D_LED_x", "D", "KA", (Kind.LED, "")), ("LEDGER", "D", "KA", (Kind.DIODE, "")),
+                ("D_TVS", "D", "AA", (Kind.TWO, "")), ("Crystal", "Y", "", (Kind.CRYSTAL, "")), ("VSOURCE", "V", "", (Kind.SOURCE, "")),
+                ("Fuse", "F", "", (Kind.TWO, "")), ("RN", "RN", "", (Kind.TWO, ""))):
+            first, second = names or ("", "")
+            self.assertEqual(self.kind(words, prefix, (first, WEST), (second, EAST)), wanted, words)
+        self.assertEqual(self.kind("R", "R", ("", WEST), ("", NORTH))[0], Kind.BOX)
+        self.assertEqual(self.kind("R", "R", ("", WEST), ("", WEST))[0], Kind.BOX)
+
+    def test_three_pins(self) -> None:
+        for words, names, wanted in (
+                ("BC547 NPN transistor", "CBE", Kind.NPN), ("Q_PNP_BCE", "CBE", Kind.PNP), ("BC547", "CBE", Kind.BOX), ("PNPX", "CBE", Kind.BOX),
+                ("Q_NMOS_GDS", "DGS", Kind.NMOS), ("IRF9540 P-Channel MOSFET", "DGS", Kind.PMOS), ("J310 N-JFET", "DGS", Kind.NJF),
+                ("J176 P-channel JFET", "DGS", Kind.PJF), ("JFET", "DGS", Kind.BOX), ("NPN", "DGS", Kind.BOX)):
+            first, middle, last = names
+            self.assertEqual(self.kind(words, "Q", (first, NORTH), (middle, WEST), (last, SOUTH))[0], wanted, words)
+        self.assertEqual(self.kind("NPN", "Q", ("C", NORTH), ("B", EAST), ("E", WEST))[0], Kind.BOX)  # base and emitter opposite
+        self.assertEqual(self.kind("POT", "RV", ("1", NORTH), ("2", EAST), ("3", SOUTH))[0], Kind.POT)
+        self.assertEqual(self.kind("Thermistor", "RV", ("1", NORTH), ("2", EAST), ("3", SOUTH))[0], Kind.BOX)
+
+    def test_opamps(self) -> None:
+        plus, minus, out = ("+", WEST, "input"), ("-", WEST, "input"), ("", EAST, "output")
+        self.assertEqual(self.kind("LM358", "U", plus, minus, out)[0], Kind.OPAMP)
+        self.assertEqual(self.kind("LM358", "U", plus, minus, out, ("V+", NORTH, "power_in"), ("V-", SOUTH, "power_in"))[0], Kind.OPAMP)
+        self.assertEqual(self.kind("LM318", "U", plus, minus, out, ("V+", NORTH, "power_in"), ("B", NORTH, "input"))[0], Kind.BOX)
+        self.assertEqual(self.kind("LM358", "U", plus, ("-", WEST, "passive"), out)[0], Kind.BOX)
+        self.assertEqual(self.kind("LM358", "U", plus, minus, ("", EAST, "passive"))[0], Kind.BOX)
+        self.assertEqual(self.kind("LM358", "U", plus, ("IN", WEST, "input"), out)[0], Kind.BOX)
+
+    def test_gates(self) -> None:
+        ins, out, low = [("", WEST, "input")] * 2, ("", EAST, "output"), ("", EAST, "output", None, "inverted")
+        for words, ends, wanted in (
+                ("74HC00", [*ins, low], "nand"), ("SN74LS32N", [*ins, out], "or"), ("74HC86", [*ins, out], "xor"), ("4001", [*ins, low], "nor"),
+                ("CD4081B", [*ins, out], "and"), ("74HC04", [ins[0], low], "not"), ("40106", [ins[0], low], "not"), ("74HC00", [*ins, out], ""),
+                ("74HC04", [*ins, low], ""), ("74HC574", [*ins, out], ""), ("X quad 2-input NAND gate", [*ins, low], "nand"),
+                ("X hex inverter", [ins[0], low], "not"), ("X dual 2-input exclusive-or", [*ins, out], "xor"), ("android", [*ins, out], ""),
+                ("74LS125", [ins[0], out, ("", SOUTH, "input", None, "inverted")], "buffer"),
+                ("74HC08", [*ins, out, ("", NORTH, "power_in"), ("", NORTH, "power_in")], ""), ("74HC08", [*ins, out, out], ""),
+                ("74HC08", [ins[0], ("", WEST, "passive"), out], ""), ("74HC08", [*ins, ("", EAST, "passive")], "")):
+            found = self.kind(words, "U", *ends)
+            self.assertEqual(found, (Kind.GATE, wanted) if wanted else (found[0], ""), words)
+            self.assertEqual(found[0] is Kind.GATE, bool(wanted), words)
+
+    def test_names_of_power_nets(self) -> None:
+        for name in ("GND", "AGND", "GNDA", "GND1", "0", "V_GND", "EARTH", "+5V", "+3.3V", "3V3", "VCC", "VDD_IO", "-12V", "VSS", "VEE", "V+", "AVDD",
+                     "+1V8", "-VAA", "5V"):
+            self.assertTrue(is_power(name), name)
+        for name in ("OUT", "IN+", "VIN", "1", "N5", "V1", "SIG", "RESET", "5VOLTAGE", "GNASH", "VC"):
+            self.assertFalse(is_power(name), name)
+        self.assertEqual([is_negative(name) for name in ("-12V", "-VAA", "VSS", "+12V", "VDD", "GND")], [True, True, True, False, False, False])
+        self.assertEqual([is_ground(name) for name in ("GND", "VSS", "DGND", "-5V")], [True, False, True, False])
 
 
 class Forms(Case):
@@ -517,9 +614,8 @@ class Damaged(Case):
         except ReadError as error:
             self.assertNotEqual(error.reason, "")
             return 0
-        drawing = rows(split(sheet))
-        self.assertEqual(len(drawing.shapes), len(drawing.sheet.parts))
-        json.loads(drawing.json())
+        drawing = json.loads(rows(split(sheet)).json())
+        self.assertEqual(judge_alone(drawing).faults, [], name)
         return 1
 
     def test_cut_files(self) -> None:

@@ -62,7 +62,8 @@ class Jog:
 
 @dataclass(slots=True)
 class Schematic:
-    """A drawn schematic: for each part of the sheet its pose, its shape with texts inside and at flags, and the texts beside."""
+    """A drawn schematic: for each part of the sheet its pose, its shape with texts inside and at flags, and the texts beside;
+    `names` are those of nets, beside their wires."""
 
     sheet: Sheet
     poses: list[Pose]
@@ -73,6 +74,7 @@ class Schematic:
     crossings: list[tuple[Point, tuple[str, str]]]
     size: Point
     jogs: list[Jog] = field(default_factory=list)
+    names: list[Text] = field(default_factory=list)
 
     @property
     def bends(self) -> int:
@@ -88,9 +90,12 @@ class Schematic:
                     found.append((number, place, at, step(at, pose.side(pin.side), STUB)))
         return found
 
-    def texts(self) -> list[tuple[int, Text]]:
-        """Return all texts with the places of their parts."""
-        return [(number, text) for number, shape in enumerate(self.shapes) for text in (*shape.texts, *self.beside[number])]
+    def texts(self) -> list[tuple[int | None, Text]]:
+        """Return all texts with the places of their parts; names of nets have none."""
+        found: list[tuple[int | None, Text]] = []
+        for number, shape in enumerate(self.shapes):
+            found += ((number, text) for text in (*shape.texts, *self.beside[number]))
+        return found + [(None, text) for text in self.names]
 
     def json(self) -> str:
         """Return the drawing as JSON, as the module describes it."""

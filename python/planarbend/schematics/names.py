@@ -6,7 +6,7 @@ import re
 GROUND = re.compile(r"(?i)[A-Z]?GND[A-Z0-9_]*|[A-Z0-9_]+[-_]GND|GND[-/].*|GROUND|EARTH|CHASSIS|0")
 NEGATIVE = re.compile(r"(?i)-\d.*|-V.*|V-|V(?:SS|EE|NEG)[A-Z0-9_]*")
 POSITIVE = re.compile(r"(?i)\+\d.*|\+?[AD]?V(?:CC|DD|PP|AA|BAT|BUS|SUP)[A-Z0-9_]*|\+V[A-Z0-9_]*|V\+"
-                      r"|\d+(?:[.,]\d+)?V\d*(?:[A-Z_]\w*)?")
+                      r"|\d+(?:[.,]\d+)?V\d*(?:[A-Z]|_\w+)?")
 
 
 def is_ground(name: str) -> bool:

@@ -108,8 +108,8 @@ class Part:
     half : bool
         Whether it is upright also after a half turn.
     form : str
-        Of a gate: and, or, xor, nand, nor, xnor, not or buffer; of a source: voltage or current; of a box, a text for its
-        middle (`+`); else empty.
+        Of a gate: and, or, xor, nand, nor, xnor, not or buffer; of a source: voltage or current, after "controlled" if it is;
+        of a diode: zener or schottky; of a box, a text for its middle (`+`); else empty.
     is_named : bool
         Whether `ref` is written beside it: false if the file has no name for it that a person gave.
     """

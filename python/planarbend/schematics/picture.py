@@ -80,14 +80,14 @@ def stroke_element(stroke: Stroke) -> str:
 
 def text_elements(drawing: Schematic) -> list[str]:
     """Return the texts."""
-    return [f'<g fill="{INK}" font-family="{FAMILY}">', *(text_element(text) for _, text in drawing.texts()), "</g>"]
+    return [f'<g fill="{INK}" font-family="{FAMILY}">', *(text_element(text, part) for part, text in drawing.texts()), "</g>"]
 
 
-def text_element(text: Text) -> str:
-    """Return a text, which stays within its box."""
+def text_element(text: Text, part: int | None) -> str:
+    """Return a text, which stays within its box; one without a part is the name of a net."""
     left, top, right, bottom = text.box
     x, y = {"start": left, "end": right}.get(text.anchor, (left + right) / 2), (top + bottom) / 2
     turned = f' transform="rotate(-90 {x:.1f} {y:.1f})"' if text.is_upwards else ""
-    colour = f' fill="{NAMES}"' if text.role in QUIET else ""
+    colour = f' fill="{NAMES if text.role in QUIET else WIRE}"' if text.role in QUIET or part is None else ""
     return (f'<text x="{x:.1f}" y="{y:.1f}" dy=".35em" font-size="{text.size:g}" text-anchor="{text.anchor}"{colour}{turned}>'
             f"{xml_text(text.text)}</text>")

@@ -64,8 +64,15 @@ POINTS: dict[Kind, Symbol] = {
     Kind.NJF: Symbol((-24, -24, 10, 24), (*JUNCTION, Stroke("ink", "M-7 0L-13 -2.5L-13 2.5Z")), THREE, DRAIN),
     Kind.PJF: Symbol((-24, -24, 10, 24), (*JUNCTION, Stroke("ink", "M-14 0L-8 -2.5L-8 2.5Z")), THREE, DRAIN),
 }
-VOLTAGE = Symbol((-24, -14, 24, 14), (*SOURCE, Stroke("line", "M-9 0L-4 0M-6.5 -2.5L-6.5 2.5M6 -2.5L6 2.5")), TWO)
-CURRENT = Symbol((-24, -14, 24, 14), (*SOURCE, Stroke("line", "M-9 0L3 0"), Stroke("ink", "M9 0L2 -3.5L2 3.5Z")), TWO)
+SIGNS = (Stroke("line", "M-9 0L-4 0M-6.5 -2.5L-6.5 2.5M6 -2.5L6 2.5"),)
+ARROW = (Stroke("line", "M-9 0L3 0"), Stroke("ink", "M9 0L2 -3.5L2 3.5Z"))
+DIAMOND = (Stroke("line", "M-24 0L-13 0M13 0L24 0"), Stroke("body", "M-13 0L0 -13L13 0L0 13Z"))
+FORMS: dict[str, Symbol] = {  # of sources and diodes
+    "voltage": Symbol((-24, -14, 24, 14), (*SOURCE, *SIGNS), TWO), "current": Symbol((-24, -14, 24, 14), (*SOURCE, *ARROW), TWO),
+    "controlled voltage": Symbol((-24, -14, 24, 14), (*DIAMOND, *SIGNS), TWO),
+    "controlled current": Symbol((-24, -14, 24, 14), (*DIAMOND, *ARROW), TWO),
+    "zener": Symbol((-24, -9, 24, 9), (*DIODE[:2], Stroke("bold", "M3.5 -7L7 -7L7 7L10.5 7")), TWO),
+    "schottky": Symbol((-24, -9, 24, 9), (*DIODE[:2], Stroke("bold", "M11 -4L11 -7L7 -7L7 7L3 7L3 4")), TWO)}
 BULK = Stroke("line", "M0 0L24 0")  # the fourth pin of a transistor
 TIED = Stroke("line", "M0 0L0 8")  # a bulk that is tied to the source
 FIRST = {Kind.DIODE: ("A", "ANODE", "+"), Kind.LED: ("A", "ANODE", "+"), Kind.POLARIZED: ("+",), Kind.SOURCE: ("+",),
@@ -75,8 +82,8 @@ LOWER = {Kind.NPN: "E", Kind.PNP: "E", **dict.fromkeys((Kind.NMOS, Kind.PMOS, Ki
 
 def symbol_of(part: Part) -> Symbol:
     """Return the symbol of a point part in its own position."""
-    if part.kind is Kind.SOURCE and part.form in ("voltage", "current"):
-        return VOLTAGE if part.form == "voltage" else CURRENT
+    if part.form in FORMS:
+        return FORMS[part.form]
     found = POINTS[part.kind]
     if part.kind in (Kind.NMOS, Kind.PMOS) and len(part.pins) == 3:
         return dataclasses.replace(found, strokes=(*found.strokes, TIED))

@@ -127,11 +127,13 @@ def part_of(one: Placed, sheet: Sheet) -> Part:
 def by_arrow(one: Placed, name: str, outwards: Kind, inwards: Kind) -> Kind | None:
     """Return the kind of a transistor from the arrow in its picture: whether it points to the pin with this name, or away."""
     pin = next(pin for pin, _ in one.pins if pin.pin.name.upper() == name)
-    if outwards is Kind.NMOS and any((other.pin.side - pin.pin.side) % 4 == 2 for other, _ in one.pins):
+    is_field = outwards is Kind.NMOS
+    if is_field and "MOS" not in one.symbol.words.upper() or any((other.pin.side - pin.pin.side) % 4 == 2 for other, _ in one.pins
+                                                                 if is_field):
         return None
     for tip, back in one.symbol.arrows:
         along = (tip[0] - back[0], tip[1] - back[1])
-        if outwards is Kind.NMOS and abs(along[1 - pin.pin.side % 2]) > abs(along[pin.pin.side % 2]):
+        if is_field and abs(along[1 - pin.pin.side % 2]) > abs(along[pin.pin.side % 2]):
             continue  # the diode from source to drain
         return outwards if math.dist(tip, pin.at) < math.dist(back, pin.at) else inwards
     return None

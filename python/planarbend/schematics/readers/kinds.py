@@ -20,7 +20,10 @@ BIPOLAR, FIELD = ("B", "C", "E"), ("G", "D", "S")
 POLARITY = [(Kind.PNP, re.compile(r"(?i)(?<![a-z])PNP(?![a-z])")), (Kind.NPN, re.compile(r"(?i)(?<![a-z])NPN(?![a-z])")),
             (Kind.PMOS, re.compile(r"(?i)(?<![a-z])(?:P-?MOS|P-?MOSFET|PMOSFET|P-?channel|PCH)(?![a-z])")),
             (Kind.NMOS, re.compile(r"(?i)(?<![a-z])(?:N-?MOS|N-?MOSFET|NMOSFET|N-?channel|NCH)(?![a-z])"))]
-JUNCTION_FIELD = re.compile(r"(?i)(?<![a-z])(?:[NP]?-?J-?FET|junction)(?![a-z])")
+JUNCTION = [(Kind.NJF, re.compile(r"(?i)(?<![a-z])N-?J-?FET|\bN-?channel\b.*\bJ-?FET")),
+            (Kind.PJF, re.compile(r"(?i)(?<![a-z])P-?J-?FET|\bP-?channel\b.*\bJ-?FET"))]
+IS_JUNCTION = re.compile(r"(?i)J-?FET|\bjunction")
+DIODES = [("zener", re.compile(r"(?i)zener")), ("schottky", re.compile(r"(?i)schottky"))]
 
 # Gates by the numbers of the families 74 and 4000, and by words of descriptions.
 GATES_74 = {"00": "nand", "01": "nand", "03": "nand", "10": "nand", "12": "nand", "20": "nand", "30": "nand", "37": "nand",
@@ -58,7 +61,8 @@ def kind_of(words: str, prefix: str, pins: Sequence[Pin]) -> tuple[Kind, str]:
     if form:
         return Kind.GATE, form
     if len(pins) == 2 and len(sides) == 2 and sum(sides) % 2 == 0:
-        return of_two(words, prefix, pins), ""
+        kind = of_two(words, prefix, pins)
+        return kind, next((form for form, pattern in DIODES if kind is Kind.DIODE and pattern.search(words)), "")
     if len(pins) == 3 and len(sides) == 3:
         found = transistor(words, pins)
         if found is None and prefix in POTS and POTENTIOMETER.search(words):
@@ -88,13 +92,14 @@ def of_two(words: str, prefix: str, pins: Sequence[Pin]) -> Kind:
 def transistor(words: str, pins: Sequence[Pin]) -> Kind | None:
     """Return the kind of a transistor by the names of its pins and its polarity, or None if the two are not known."""
     names = sorted(pin.name.upper() for pin in pins)
-    if names not in (sorted(BIPOLAR), sorted(FIELD)) or JUNCTION_FIELD.search(words):
+    if names not in (sorted(BIPOLAR), sorted(FIELD)):
         return None
     middle = next(pin.side for pin in pins if pin.name.upper() in ("B", "G"))
     if any(pin.side == (middle + 2) % 4 for pin in pins):
         return None
-    wanted = (Kind.NPN, Kind.PNP) if "B" in names else (Kind.NMOS, Kind.PMOS)
-    return next((kind for kind, pattern in POLARITY if kind in wanted and pattern.search(words)), None)
+    wanted = (Kind.NPN, Kind.PNP) if "B" in names else (Kind.NMOS, Kind.PMOS, Kind.NJF, Kind.PJF)
+    patterns = JUNCTION if "G" in names and IS_JUNCTION.search(words) else POLARITY
+    return next((kind for kind, pattern in patterns if kind in wanted and pattern.search(words)), None)
 
 
 def polarity_note(part: Part) -> str | None:

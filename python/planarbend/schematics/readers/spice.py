@@ -20,15 +20,17 @@ LONGEST_VALUE = 24  # characters of a value with the parameters after it
 
 Ends = tuple[tuple[str, int], ...]  # names of pins in the order of nodes, with their sides
 
-TWO = {"r": (Kind.RESISTOR, ""), "c": (Kind.CAPACITOR, ""), "l": (Kind.INDUCTOR, ""), "d": (Kind.DIODE, ""),
+TWO = {"w": (Kind.TWO, ""), "r": (Kind.RESISTOR, ""), "c": (Kind.CAPACITOR, ""), "l": (Kind.INDUCTOR, ""), "d": (Kind.DIODE, ""),
        "v": (Kind.SOURCE, "voltage"), "i": (Kind.SOURCE, "current")}
 POLES: Ends = (("+", NORTH), ("-", SOUTH))
-TWO_ENDS: dict[str, Ends] = {"d": (("A", WEST), ("K", EAST)), "v": POLES, "i": POLES}
 PLAIN_ENDS: Ends = (("1", WEST), ("2", EAST))
+TWO_ENDS: dict[str, Ends] = {"d": (("A", WEST), ("K", EAST)), "v": POLES, "i": POLES}
 OUT: Ends = (("+", EAST), ("-", EAST))
 CONTROL: Ends = (("C+", WEST), ("C-", WEST))
-BOXES: dict[str, Ends] = {"b": OUT, "f": OUT, "h": OUT, "w": OUT, "e": OUT + CONTROL, "g": OUT + CONTROL, "s": OUT + CONTROL,
+BOXES: dict[str, Ends] = {"e": OUT + CONTROL, "g": OUT + CONTROL, "s": OUT + CONTROL,
                           "t": (("1+", WEST), ("1-", WEST), ("2+", EAST), ("2-", EAST))}
+CONTROLLED = {"b": "voltage", "e": "voltage", "f": "current", "g": "current", "h": "voltage"}  # sources without pins for control
+CURRENT = re.compile(r"(?i)i=.*", re.S)  # of a source B
 BEHAVIOUR = re.compile(r"(?i)(?:value|table|laplace|freq|chebyshev|vol|cur)\b.*|\{.*|'.*|[^=]*=.*", re.S)
 POLYNOMIAL = re.compile(r"(?i)poly\s*\(\s*(\d{1,3})\s*\)")
 TRANSISTORS: dict[str, tuple[tuple[str, ...], dict[str, Kind]]] = {  # names of pins, and kinds by the types of models
@@ -41,7 +43,7 @@ REVERSED = (Kind.PNP, Kind.PMOS, Kind.PJF)  # whose emitter or source is above
 
 def read_spice(data: bytes, file: str, inner: str | None = None) -> Sheet:
     """Return the sheet of a circuit, or of its subcircuit with the name `inner`; a `Fault` has the line that breaks a rule."""
-    whole = circuit_of(decoded(data))
+    whole = circuit_of(text_of(data))
     known = [one.name for one in whole.all_inside()]
     circuit = whole
     if inner is not None:
@@ -52,6 +54,14 @@ def read_spice(data: bytes, file: str, inner: str | None = None) -> Sheet:
     if not circuit.elements:
         raise Fault("the circuit has no elements" + (f" outside its subcircuits {shown(', '.join(known))}" if known else ""))
     return Builder(circuit, whole.notes).sheet()
+
+
+def text_of(data: bytes) -> str:
+    """Return the text of a file: UTF-8, or else Latin-1, in which other programs write the sign of micro."""
+    try:
+        return decoded(data)
+    except Fault:
+        return data.decode("latin-1")
 
 
 class Builder:
@@ -95,9 +105,8 @@ class Builder:
             kind, form = TWO[letter]
             pins, rest = self.pins(line, TWO_ENDS.get(letter, PLAIN_ENDS))
             return Part(name, value_of(rest), kind, placed(pins), form=form)
-        if letter in BOXES:
-            pins, rest = self.pins(line, ends_of(line, letter))
-            return Part(name, value_of(rest), Kind.BOX, placed(pins), form=letter.upper())
+        if letter in BOXES or letter in CONTROLLED:
+            return self.controlled(line, letter)
         if letter in TRANSISTORS:
             return self.transistor(line, letter)
         if letter == "x":
@@ -106,6 +115,16 @@ class Builder:
             self.found.notes.append(f"{name}: {SKIPPED[letter]} are not drawn")
             return None
         raise Fault(f"an element of no known kind: {shown(name)}", line.number)
+
+    def controlled(self, line: Line, letter: str) -> Part:
+        """Return a source or switch that is controlled: a box, or a source with two pins if nodes do not control it."""
+        ends = ends_of(line, letter)
+        pins, rest = self.pins(line, POLES if ends == OUT else ends)
+        if ends != OUT:
+            return Part(line.words[0], value_of(rest), Kind.BOX, placed(pins))
+        is_current = letter == "b" and rest and CURRENT.fullmatch(rest[0])
+        form = "current" if is_current else CONTROLLED[letter]
+        return Part(line.words[0], value_of(rest), Kind.SOURCE, placed(pins), form=f"controlled {form}")
 
     def pins(self, line: Line, ends: Ends) -> tuple[list[Pin], list[str]]:
         """Return pins for the first nodes of an element, and the words after these."""
@@ -160,7 +179,7 @@ def ends_of(line: Line, letter: str) -> Ends:
     if match:
         del line.words[3]
         return OUT + tuple((f"C{number}{sign}", WEST) for number in range(1, int(match[1]) + 1) for sign in "+-")
-    return OUT if BEHAVIOUR.fullmatch(word) else BOXES[letter]
+    return OUT if BEHAVIOUR.fullmatch(word) else BOXES.get(letter, OUT)
 
 
 def value_of(words: Sequence[str]) -> str:
