@@ -2,7 +2,7 @@
 from __future__ import annotations
 
 import math
-from dataclasses import dataclass
+from dataclasses import dataclass, field
 
 from planarbend.schematics.boxes import Needs, needs_of
 from planarbend.schematics.drawn import STUB
@@ -34,6 +34,8 @@ class Figure:
         Of a box or flip-flop.
     texts : list of Text
         Beside a part that has its texts there, around the origin.
+    rooms : dict
+        For each side of a box that is to be smaller than the rectangle of its wires, the room for jogs.
     """
 
     part: Part
@@ -42,6 +44,7 @@ class Figure:
     shape: Shape | None
     needs: Needs | None
     texts: list[Text]
+    rooms: dict[int, int] = field(default_factory=dict)
 
     @property
     def is_point(self) -> bool:
@@ -69,8 +72,19 @@ class Figure:
         return found
 
     def margin(self, side: int, is_wired: list[bool]) -> int:
-        """Return the room for jogs between a symbol of fixed size and the rectangle of its wires."""
-        return COLUMN * sum(is_wired[place] for place in self.on_side(side)) if self.shape is not None else 0
+        """Return the room for jogs between a part and the rectangle of its wires."""
+        if self.shape is None:
+            return self.rooms.get(side, 0)
+        return COLUMN * sum(is_wired[place] for place in self.on_side(side))
+
+    def beyond(self, side: int, is_wired: list[bool]) -> float:
+        """Return how far what belongs to a part reaches beyond the rectangle of its wires."""
+        if self.shape is None:
+            return self.outside(side)
+        border = (2, 1, 0, 3)[side]
+        sign = 1 if side in (EAST, SOUTH) else -1
+        reach = max((sign * (text.box[border] - self.shape.box[border]) for text in self.texts), default=0.0)
+        return max(0.0, math.ceil(reach) - self.margin(side, is_wired))
 
     def outside(self, side: int) -> float:
         """Return how far what is outside a box reaches beyond the room that lines keep anyway."""

@@ -9,6 +9,7 @@ from dataclasses import dataclass, field
 from planarbend.schematics.boxes import box_shape
 from planarbend.schematics.drawn import STUB, Jog, Wire
 from planarbend.schematics.figures import COLUMN, Figure
+from planarbend.schematics.fitting import best_fit, columns_of
 from planarbend.schematics.parts import EAST, NORTH, SOUTH, WEST, Part
 from planarbend.schematics.shapes import APART, Shape, Text, step
 from planarbend.schematics.spacing import SAME, Spacing
@@ -59,7 +60,7 @@ def placed(spacing: Spacing) -> Placed:
             assert one.shape is not None
             shape = one.shape.moved(at)
         elif one.needs is not None:
-            at, shape = (0.0, 0.0), _box(spacing, number)
+            at, shape = (0.0, 0.0), _box(spacing, number, ends)
         else:
             at, shape = _symbol(spacing, number, ends)
         found.add(one, dataclasses.replace(one.pose, at=at), shape)
@@ -69,18 +70,26 @@ def placed(spacing: Spacing) -> Placed:
     return found
 
 
-def _box(spacing: Spacing, number: int) -> Shape:
-    """Return a box or a flip-flop of the size of its rectangle."""
-    one, is_wired = spacing.figures[number], spacing.is_wired(number)
-    left, top, right, bottom = spacing.rectangle(number)
-    frame = spacing.value[0][left], spacing.value[1][top], spacing.value[0][right], spacing.value[1][bottom]
+def _box(spacing: Spacing, number: int, ends: dict[int, list[Point]]) -> Shape:
+    """Return a box or a flip-flop in its rectangle; add the points from its pins to their nodes if it does not fill it."""
+    one = spacing.figures[number]
+    inner = [spacing.inner(number, axis) for axis in (0, 1)]
+    wires = [spacing.wires_at(number, axis) for axis in (0, 1)]
+    fits = [best_fit(one, axis, inner[axis], wires[axis], one.rooms) for axis in (0, 1)]
+    low, high = ([inner[axis][end] if fit is None else (fit.low, fit.high)[end] for axis, fit in enumerate(fits)] for end in (0, 1))
+    frame = low[0], low[1], high[0], high[1]
     points: list[Point] = [(0.0, 0.0)] * len(one.pins)
     for side in range(4):
         axis = 1 - side % 2
-        known = {place: spacing.at(spacing.node_of(one.pins[place]))[axis] for place in one.on_side(side) if is_wired[place]}
-        for place, level in along_side(one, side, frame, known).items():
-            border = (frame[2], frame[1], frame[0], frame[3])[side]
-            points[place] = (border, level) if axis else (level, border)
+        fit = fits[axis]
+        levels = along_side(one, side, frame, wires[axis]) if fit is None else fit.levels
+        border = (frame[2], frame[1], frame[0], frame[3])[side]
+        for place in one.on_side(side):
+            points[place] = (border, levels[place]) if axis else (levels[place], border)
+            if place in wires[axis]:
+                column = 0 if fit is None else fit.columns[side][place]
+                length = COLUMN * column + one.outside(side)
+                ends[one.pins[place]] = jog(points[place], spacing.at(spacing.node_of(one.pins[place])), side, length if column else 0.0)
     return box_shape(one.part, one.pose, frame, points)
 
 
@@ -139,7 +148,7 @@ def _symbol(spacing: Spacing, number: int, ends: dict[int, list[Point]]) -> tupl
         nodes = [spacing.at(spacing.node_of(one.pins[place])) for place in places]
         columns = columns_of([node[axis] for node in nodes], [shape.pins[place][axis] for place in places])
         for place, node, column in zip(places, nodes, columns):
-            ends[one.pins[place]] = jog(shape.pins[place], node, side, column)
+            ends[one.pins[place]] = jog(shape.pins[place], node, side, float(COLUMN * column))
     return at, shape
 
 
@@ -149,29 +158,11 @@ def best_level(wanted: Sequence[float], middle: float) -> float:
     return min(counts, key=lambda level: (-counts[level], abs(level - middle), level), default=middle)
 
 
-def columns_of(levels: Sequence[float], pins: Sequence[float]) -> list[int]:
-    """Return for each wire on a side the column of its jog, counted from the symbol; 0 if it is level with its pin.
-
-    Both lists ascend. No two wires meet.
-    """
-    found = [0] * len(pins)
-    for sign, order in ((1, range(len(pins))), (-1, range(len(pins) - 1, -1, -1))):
-        column, reach = 0, float("-inf")
-        for place in order:
-            level, pin = sign * levels[place], sign * pins[place]
-            if pin > level + SAME:
-                column = column + 1 if level < reach + COLUMN - SAME else 1
-                found[place], reach = column, pin
-            else:
-                column, reach = 0, float("-inf")
-    return found
-
-
-def jog(pin: Point, node: Point, side: int, column: int) -> list[Point]:
-    """Return the points from a pin to the node of its wire."""
-    if not column:
+def jog(pin: Point, node: Point, side: int, length: float) -> list[Point]:
+    """Return the points from a pin to the node of its wire, by a jog at a distance from the pin, which is 0 if there is none."""
+    if not length:
         return [pin, node]
-    corner = step(pin, side, COLUMN * column)
+    corner = step(pin, side, length)
     other = (corner[0], node[1]) if side in (EAST, WEST) else (node[0], corner[1])
     return [pin, corner, other, node]
 
@@ -203,7 +194,8 @@ def _add_wires(spacing: Spacing, ends: dict[int, list[Point]], found: Placed) ->
                 else:
                     points = [*ends[pin], *points] if place == 0 else [*points, *ends[pin][::-1]]
                 if len(ends[pin]) == 4:
-                    found.jogs.append(Jog(len(found.wires), 1 if place == 0 else -3, "symbol"))
+                    into = "symbol" if spacing.figures[wiring.part_of[pin]].needs is None else "box"
+                    found.jogs.append(Jog(len(found.wires), 1 if place == 0 else -3, into))
         line = cleaned(points)
         found.jogs = [dataclasses.replace(one, corner=len(line) + one.corner) if one.corner < 0 else one for one in found.jogs]
         found.wires.append(Wire(keys[wiring.edge[run[0] >> 1]], line))

@@ -15,6 +15,7 @@ from scipy.optimize import linprog
 from scipy.sparse import csr_matrix
 
 from planarbend.schematics.figures import Figure
+from planarbend.schematics.fitting import best_fit
 from planarbend.schematics.skeleton import Skeleton
 
 LINE, BOX, FLAG, TEXT = range(4)  # kinds of items
@@ -25,6 +26,7 @@ STEM = 8.0  # pixels of a segment at a pin
 SIZE_WEIGHT = 3.0  # of the size of a box, to that of a wire's length
 LEVEL_WEIGHT = 6.0  # of pins of a symbol that are not level with their wires
 PASSES = (0, 1, 0, 1, 0, 1)
+FITTED = 4  # the pass before which boxes that are too large get room for jogs
 SAME = 1e-6
 
 Place = tuple[int, float]  # a coordinate and what is added to it
@@ -86,9 +88,31 @@ class Spacing:
         self.value = [list(self.grid[0]), list(self.grid[1])]
         self.items = list(self._items())
         for step, axis in enumerate(PASSES):
+            if step == FITTED:
+                self._fit()
             self._solve(axis, step)
 
+    def _fit(self) -> None:
+        """Give room for jogs to the boxes that are too large for their pins."""
+        for number, one in enumerate(self.figures):
+            for axis in (0, 1) if one.needs is not None else ():
+                fit = best_fit(one, axis, self.inner(number, axis), self.wires_at(number, axis))
+                if fit is not None:
+                    one.rooms |= {side: fit.room(one, side) for side in (1 - axis, 3 - axis)}
+
     # Items
+
+    def inner(self, number: int, axis: int) -> tuple[float, float]:
+        """Return the ends of the rectangle of a cage along an axis, without room for jogs."""
+        one, is_wired, rectangle = self.figures[number], self.is_wired(number), self.rectangle(number)
+        return (self.value[axis][rectangle[axis]] + one.margin((2, 1)[axis], is_wired),
+                self.value[axis][rectangle[axis + 2]] - one.margin((0, 3)[axis], is_wired))
+
+    def wires_at(self, number: int, axis: int) -> dict[int, float]:
+        """Return where the wires of a cage are along an axis, by the places of their pins, on the sides along the axis."""
+        one, is_wired = self.figures[number], self.is_wired(number)
+        return {place: self.at(self.node_of(one.pins[place]))[axis] for side in (1 - axis, 3 - axis)
+                for place in one.on_side(side) if is_wired[place]}
 
     def key(self, node: int, axis: int) -> int:
         """Return the number of a node's coordinate."""
@@ -133,7 +157,7 @@ class Spacing:
                     yield Item(kind, ((x, box[0]), (y, box[1])), ((x, box[2]), (y, box[3])), owner)
             else:
                 left, top, right, bottom = self.rectangle(number)
-                east, north, west, south = (one.outside(side) for side in range(4))
+                east, north, west, south = (one.beyond(side, self.is_wired(number)) for side in range(4))
                 yield Item(BOX, ((left, -west), (top, -north)), ((right, east), (bottom, south)), owner)
 
     def _part_at(self, node: int) -> int:
@@ -204,9 +228,11 @@ class Spacing:
         """Add what a box or a flip-flop needs along an axis."""
         one, is_wired = self.figures[number], self.is_wired(number)
         assert one.needs is not None
-        found.apart.append((*ends, float(numpy.ceil((one.needs.width, one.needs.height)[axis]))))
+        before, after = one.margin((2, 1)[axis], is_wired), one.margin((0, 3)[axis], is_wired)
+        found.apart.append((*ends, float(numpy.ceil((one.needs.width, one.needs.height)[axis])) + before + after))
         for side in (1 - axis, 3 - axis):
             for first, last, length in one.spans(side, is_wired):
+                length += (before if first is None else 0) + (after if last is None else 0)
                 low = ends[0] if first is None else self.key(self.node_of(one.pins[first]), axis)
                 high = ends[1] if last is None else self.key(self.node_of(one.pins[last]), axis)
                 found.apart.append((low, high, float(numpy.ceil(length))))
