@@ -4,17 +4,19 @@ from __future__ import annotations
 import math
 from dataclasses import dataclass, field
 
-from planarbend.schematics.boxes import Needs, needs_of
+from planarbend.drawing.texts import width_of
+from planarbend.schematics.boxes import Needs, has_circle, needs_of
 from planarbend.schematics.drawn import STUB
 from planarbend.schematics.parts import EAST, NORTH, SOUTH, TURNED_OVER, WEST, Kind, Part
 from planarbend.schematics.shapes import APART, NUMBER, Shape, Text, beside, shape_of, step
 from planarbend.schematics.skeleton import Skeleton
 from planarbend.schematics.strokes import Box, Pose
-from planarbend.schematics.symbols import REACH
+from planarbend.schematics.symbols import BUBBLE, REACH
 from planarbend.schematics.wiring import pose
 
 COLUMN = 12  # pixels between jogs beside a symbol
 FREE = 12  # pixels around a box that lines keep anyway
+CLEAR = 5  # pixels around the number of a pin
 
 
 @dataclass(slots=True)
@@ -90,8 +92,9 @@ class Figure:
         """Return how far what is outside a box reaches beyond the room that lines keep anyway."""
         found = 0.0
         for place in self.on_side(side) if self.needs is not None else ():
-            number = len(self.part.pins[place].number) * NUMBER * 0.7
-            found = max(found, number + 8 - FREE)
+            pin = self.part.pins[place]
+            circle = 2 * BUBBLE if has_circle(pin) else 0.0
+            found = max(found, circle, circle + width_of(pin.number, NUMBER) + CLEAR - FREE)
         return math.ceil(found)
 
     def levels(self) -> dict[int, tuple[float, float]]:

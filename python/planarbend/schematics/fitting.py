@@ -9,7 +9,7 @@ from planarbend.schematics.shapes import APART
 
 SAME = 1e-6
 FULL, LARGE = 1.56, 2.9  # times what a box needs: up to the first it is not stretched, and above the second it is never left
-STRETCHED = 2.5  # what a stretched box costs, in jogs
+STRETCHED = 1.5  # what a stretched box costs, in jogs
 
 
 @dataclass(frozen=True, slots=True)

@@ -9,6 +9,7 @@ from planarbend.layout.engine import Engine
 from planarbend.schematics.directions import directed
 from planarbend.schematics.drawn import Jog, Schematic, Wire
 from planarbend.schematics.figures import figure, figures_of
+from planarbend.schematics.labelling import label
 from planarbend.schematics.parts import TURNED_OVER, Sheet
 from planarbend.schematics.placing import Placed, lone, placed
 from planarbend.schematics.plane import plane_graph
@@ -69,15 +70,16 @@ def assembled(sheet: Sheet, found: Sequence[Placed], places: Sequence[int]) -> S
         whole.parts += one.parts
         whole.poses += [dataclasses.replace(pose, at=moved(pose.at, by)) for pose in one.poses]
         whole.shapes += [shape.moved(by) for shape in one.shapes]
-        whole.beside += [[text.moved(by) for text in texts] for texts in one.beside]
         whole.wires += [Wire(wire.net, [moved(point, by) for point in wire.points]) for wire in one.wires]
         whole.junctions += [(net, moved(at, by)) for net, at in one.junctions]
         whole.crossings += [(moved(at, by), nets) for at, nets in one.crossings]
         whole.jogs += [Jog(jog.wire + first, jog.corner, jog.into) for jog in one.jogs]
     order = sorted(range(len(places)), key=places.__getitem__)
     drawn = Sheet(sheet.name, [whole.parts[at] for at in order], sheet.nets, sheet.notes)
-    return Schematic(drawn, [whole.poses[at] for at in order], [whole.shapes[at] for at in order],
-                     [whole.beside[at] for at in order], whole.wires, whole.junctions, whole.crossings, size, whole.jogs)
+    result = Schematic(drawn, [whole.poses[at] for at in order], [whole.shapes[at] for at in order], [[] for _ in order],
+                       whole.wires, whole.junctions, whole.crossings, size, whole.jogs)
+    label(result)
+    return result
 
 
 def moved(point: Point, by: Point) -> Point:

@@ -25,8 +25,8 @@ LEAST = 12.0  # pixels of a segment between two corners or junctions
 STEM = 8.0  # pixels of a segment at a pin
 SIZE_WEIGHT = 3.0  # of the size of a box, to that of a wire's length
 LEVEL_WEIGHT = 6.0  # of pins of a symbol that are not level with their wires
-PASSES = (0, 1, 0, 1, 0, 1)
-FITTED = 4  # the pass before which boxes that are too large get room for jogs
+PASSES = (0, 1, 0, 1, 0, 1, 0, 1)
+FITTED = (4, 6)  # passes before which boxes that are too large get room for jogs
 SAME = 1e-6
 
 Place = tuple[int, float]  # a coordinate and what is added to it
@@ -88,7 +88,7 @@ class Spacing:
         self.value = [list(self.grid[0]), list(self.grid[1])]
         self.items = list(self._items())
         for step, axis in enumerate(PASSES):
-            if step == FITTED:
+            if step in FITTED:
                 self._fit()
             self._solve(axis, step)
 
@@ -98,7 +98,7 @@ class Spacing:
             for axis in (0, 1) if one.needs is not None else ():
                 fit = best_fit(one, axis, self.inner(number, axis), self.wires_at(number, axis))
                 if fit is not None:
-                    one.rooms |= {side: fit.room(one, side) for side in (1 - axis, 3 - axis)}
+                    one.rooms |= {side: max(fit.room(one, side), one.rooms.get(side, 0)) for side in (1 - axis, 3 - axis)}
 
     # Items
 
