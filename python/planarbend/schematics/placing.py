@@ -43,8 +43,8 @@ class Placed:
         boxes = [shape.box for shape in self.shapes]
         boxes += [text.box for shape, texts in zip(self.shapes, self.beside) for text in (*shape.texts, *texts)]
         points = [(point, NEAR) for wire in self.wires for point in wire.points]
-        points += [(step(at, turned.side(pin.side), STUB), NEAR) for part, turned, shape in zip(self.parts, self.poses, self.shapes)
-                   for pin, at in zip(part.pins, shape.pins)]
+        for part, turned, shape in zip(self.parts, self.poses, self.shapes):
+            points += [(step(at, turned.side(pin.side), STUB), NEAR) for pin, at in zip(part.pins, shape.pins)]
         boxes += [(x - more, y - more, x + more, y + more) for (x, y), more in points]
         lefts, tops, rights, bottoms = zip(*boxes)
         return min(lefts), min(tops), max(rights), max(bottoms)
@@ -76,8 +76,8 @@ def _box(spacing: Spacing, number: int, ends: dict[int, list[Point]]) -> Shape:
     inner = [spacing.inner(number, axis) for axis in (0, 1)]
     wires = [spacing.wires_at(number, axis) for axis in (0, 1)]
     fits = [best_fit(one, axis, inner[axis], wires[axis], one.rooms) for axis in (0, 1)]
-    low, high = ([inner[axis][end] if fit is None else (fit.low, fit.high)[end] for axis, fit in enumerate(fits)] for end in (0, 1))
-    frame = low[0], low[1], high[0], high[1]
+    (left, right), (top, bottom) = (inner[axis] if fit is None else (fit.low, fit.high) for axis, fit in enumerate(fits))
+    frame = left, top, right, bottom
     points: list[Point] = [(0.0, 0.0)] * len(one.pins)
     for side in range(4):
         axis = 1 - side % 2
@@ -88,8 +88,8 @@ def _box(spacing: Spacing, number: int, ends: dict[int, list[Point]]) -> Shape:
             points[place] = (border, levels[place]) if axis else (levels[place], border)
             if place in wires[axis]:
                 column = 0 if fit is None else fit.columns[side][place]
-                length = COLUMN * column + one.outside(side)
-                ends[one.pins[place]] = jog(points[place], spacing.at(spacing.node_of(one.pins[place])), side, length if column else 0.0)
+                length = COLUMN * column + one.outside(side) if column else 0.0
+                ends[one.pins[place]] = jog(points[place], spacing.at(spacing.node_of(one.pins[place])), side, length)
     return box_shape(one.part, one.pose, frame, points)
 
 

@@ -86,6 +86,9 @@ class Spacing:
         for axis in (0, 1):
             self.grid[axis] = [self.grid[axis][skeleton.key(node, axis)] for node in range(len(skeleton.points))]
         self.value = [list(self.grid[0]), list(self.grid[1])]
+        plane = skeleton.plane
+        self.owner = {vertex: part for part, vertex in plane.vertex_of.items() if part < self.wiring.vertex_count}
+        self.owner |= {vertex: self.wiring.part_of[pin] for pin, vertex in plane.pin_vertex.items()}
         self.items = list(self._items())
         for step, axis in enumerate(PASSES):
             if step in FITTED:
@@ -162,39 +165,41 @@ class Spacing:
 
     def _part_at(self, node: int) -> int:
         """Return the part whose wire begins at a node, or -1."""
-        if not hasattr(self, "owner"):
-            plane = self.skeleton.plane
-            self.owner = {vertex: part for part, vertex in plane.vertex_of.items() if part < self.wiring.vertex_count}
-            self.owner |= {vertex: self.wiring.part_of[pin] for pin, vertex in plane.pin_vertex.items()}
         return self.owner.get(node, -1)
 
     # Demands
 
     def _apart(self, axis: int, step: int, found: Demands) -> None:
         """Add the distances between items whose rows overlap."""
-        along = self.grid[axis] if step < 2 else self.value[axis]
-        across = self.grid[1 - axis] if step == 0 else self.value[1 - axis]
-        scale_along, scale_across = float(step >= 2), float(step > 0)
         margin, thick = (0.25, 0.1) if step == 0 else (WIDEST, 0.5)
-        rows = []
-        for item in self.items:
-            low, before = item.low[axis]
-            (first, above), (last, below) = item.low[1 - axis], item.high[1 - axis]
-            rows.append((along[low] + scale_along * before, before,
-                         across[first] + scale_across * above, across[last] + scale_across * below))
+        rows = self._rows(axis, step)
         sky = Skyline(self.items)
         for place in sorted(range(len(rows)), key=lambda place: rows[place][:2]):
             item, (_, _, first, last) = self.items[place], rows[place]
-            for other in sky.between(first - margin, last + margin):
-                before = self.items[other]
+            for seen in sky.between(first - margin, last + margin):
+                before = self.items[seen]
                 gap = GAP[before.kind][item.kind]
                 near = gap - SAME if step else 0.25
-                if rows[other][3] + near < first or last + near < rows[other][2] or item.touches(before):
+                if rows[seen][3] + near < first or last + near < rows[seen][2] or item.touches(before):
                     continue
                 (high, after), (low, ahead) = before.high[axis], item.low[axis]
                 if high != low:
                     found.apart.append((high, low, gap + after - ahead))
             sky.cover(first - thick, last + thick, place)
+
+    def _rows(self, axis: int, step: int) -> list[tuple[float, float, float, float]]:
+        """Return for each item where it begins along an axis, what it reaches before that on the grid, and its rows: on the
+        grid as long as nothing better is known, where symbols have no size."""
+        along = self.grid[axis] if step < 2 else self.value[axis]
+        across = self.grid[1 - axis] if step == 0 else self.value[1 - axis]
+        size_along, size_across = float(step >= 2), float(step > 0)
+        found = []
+        for item in self.items:
+            start, before = item.low[axis]
+            (first, above), (last, below) = item.low[1 - axis], item.high[1 - axis]
+            found.append((along[start] + size_along * before, before, across[first] + size_across * above,
+                          across[last] + size_across * below))
+        return found
 
     def _lengths(self, axis: int, found: Demands) -> None:
         """Add the lengths of segments: at least what their ends need, and short."""
@@ -328,8 +333,8 @@ def least_sum(keys: Sequence[int], demands: Demands) -> dict[int, float]:
             values += [-sign, sign, -1.0]
             limits.append(sign * wanted)
     matrix = csr_matrix((values, (rows, columns)), (len(limits), count + extra))
-    bounds = [(0.0, None)] + [(None, None)] * (count - 1) + [(0.0, None)] * extra
-    bounds[0] = (0.0, 0.0)
+    bounds: list[tuple[float | None, float | None]] = [(0.0, 0.0)]
+    bounds += [(None, None)] * (count - 1) + [(0.0, None)] * extra
     found = linprog(cost, A_ub=matrix, b_ub=limits, bounds=bounds, method="highs-ds")
     if found.status:
         raise ArithmeticError(f"no coordinates were found: {found.message}")

@@ -11,6 +11,7 @@ from __future__ import annotations
 
 from collections.abc import Sequence
 from dataclasses import dataclass
+from typing import Any
 
 import numpy
 
@@ -87,8 +88,8 @@ class Turning:
             self.count += 3
         self.wraps[darts[-1]] = 1
 
-    def windings(self, outer: int) -> numpy.ndarray:
-        """Return the windings of `darts` for an outer face, given by its place in `walks`."""
+    def windings(self, outer: int) -> Any:
+        """Return the windings of `darts`, an array, for an outer face, given by its place in `walks`."""
         onward, wraps = self.wiring.onward, self.wraps
         found = [0] * len(onward)
         parent, order = {outer: NONE}, [outer]
