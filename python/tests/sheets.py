@@ -6,6 +6,7 @@ import random
 
 from planarbend.schematics.parts import EAST, NORTH, SOUTH, WEST, WISHES, Kind, Net, Part, Pin, Sheet
 
+NAMES = {Kind.NPN: "CBE", Kind.OPAMP: " +-"}
 SIDES = {Kind.RESISTOR: (NORTH, SOUTH), Kind.DIODE: (EAST, WEST), Kind.NPN: (NORTH, WEST, SOUTH),
          Kind.OPAMP: (EAST, WEST, WEST), Kind.POT: (NORTH, WEST, SOUTH), Kind.MUX: (EAST, WEST, WEST, SOUTH)}
 
@@ -18,9 +19,11 @@ def random_part(ref: str, kind: Kind, dice: random.Random) -> Part:
         sides = [EAST] + [WEST] * dice.randint(2, 3)
     else:
         sides = list(SIDES[kind])
-    pins = [Pin(str(number), "", side) for number, side in enumerate(sides, 1)]
+    names = NAMES.get(kind, " " * len(sides))
+    pins = [Pin(str(number), name.strip(), side) for number, (name, side) in enumerate(zip(names, sides), 1)]
     swaps = [list(range(1, len(pins)))] if kind is Kind.GATE else []
-    return Part(ref, "", kind, pins, kind in (Kind.NPN, Kind.POT, Kind.OPAMP, Kind.MUX), swaps, WISHES.get(kind, 0.0))
+    return Part(ref, "", kind, pins, kind in (Kind.NPN, Kind.POT, Kind.OPAMP, Kind.MUX), swaps, WISHES.get(kind, 0.0),
+                form="and" if kind is Kind.GATE else "")
 
 
 def random_sheet(seed: int, count: int) -> Sheet:

@@ -12,11 +12,11 @@ from dataclasses import dataclass
 from typing import Any
 
 import numpy
-from scipy.optimize import linprog
 from scipy.sparse import csc_matrix
 
 from planarbend.drawing.linked import NONE
 from planarbend.graph import Partition
+from planarbend.schematics.highs import solved
 from planarbend.schematics.turning import Turning
 
 MOST_COLUMNS = 4000  # of one linear program, in which several are solved together: a call takes longer than a small program
@@ -245,12 +245,8 @@ def _optimum(gains: Numbers, limits: Numbers, ends: Sequence[tuple[Numbers, Numb
     values = numpy.tile((-1.0, 1.0), len(gains))
     kept = rows.ravel() != NONE
     matrix = csc_matrix((values[kept], (rows.ravel()[kept], columns[kept])), (row_count, len(gains)))
-    for presolve in (True, False):  # the presolve of HiGHS 1.2 calls some feasible programs infeasible
-        found = linprog(-gains, A_eq=matrix, b_eq=numpy.zeros(row_count), bounds=limits, method="highs-ds",
-                        options={"presolve": presolve})
-        if found.status == 0:
-            return found.x, found.eqlin.marginals
-    raise ArithmeticError(f"no directions were found: {found.message}")
+    found = solved(-gains, "directions", A_eq=matrix, b_eq=numpy.zeros(row_count), bounds=limits)
+    return found.x, found.eqlin.marginals
 
 
 def _checked(case: Case, directions: Numbers, flow: Numbers) -> Solution:

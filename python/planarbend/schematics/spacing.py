@@ -11,11 +11,11 @@ from collections.abc import Iterable, Sequence
 from dataclasses import dataclass, field
 
 import numpy
-from scipy.optimize import linprog
 from scipy.sparse import csr_matrix
 
 from planarbend.schematics.figures import Figure
 from planarbend.schematics.fitting import best_fit
+from planarbend.schematics.highs import solved
 from planarbend.schematics.skeleton import Skeleton
 
 LINE, BOX, FLAG, TEXT = range(4)  # kinds of items
@@ -335,7 +335,5 @@ def least_sum(keys: Sequence[int], demands: Demands) -> dict[int, float]:
     matrix = csr_matrix((values, (rows, columns)), (len(limits), count + extra))
     bounds: list[tuple[float | None, float | None]] = [(0.0, 0.0)]
     bounds += [(None, None)] * (count - 1) + [(0.0, None)] * extra
-    found = linprog(cost, A_ub=matrix, b_ub=limits, bounds=bounds, method="highs-ds")
-    if found.status:
-        raise ArithmeticError(f"no coordinates were found: {found.message}")
+    found = solved(cost, "coordinates", A_ub=matrix, b_ub=limits, bounds=bounds)
     return {key: float(numpy.round(found.x[number], 6)) for number, key in enumerate(keys)}
