@@ -139,11 +139,11 @@ whole_fails p given vs fs plane range points all =
 zeros : (n : ℕ) (f : ℕ → ℤ) → ((k : ℕ) → k < n → f k ≡ pos 0) → total_below n f ≡ pos 0
 zeros n f none = total_below-same n f (λ _. pos 0) none ∙ nothing n
   where
-    nothing : (n : ℕ) → total_below n (λ _. pos 0) ≡ pos 0
-    nothing n = total_below-parts n (λ _. pos 0) (λ _. 0) (λ _. 0) (λ _ _. omega (arith, ints)) ∙ even (sum_below n (λ _. 0))
-
     even : (k : ℕ) → pos k -ℤ pos k ≡ pos 0
     even k = omega (arith, ints)
+
+    nothing : (n : ℕ) → total_below n (λ _. pos 0) ≡ pos 0
+    nothing n = total_below-parts n (λ _. pos 0) (λ _. 0) (λ _. 0) (λ _ _. omega (arith, ints)) ∙ even (sum_below n (λ _. 0))
 
 -- and none has no face: its vertices are points
 none_fails : (p : PlaneModel) (given : GivenModel) (vs fs : List Bool) → IsPlane p → ((d : ℕ) → d < darts p → IsAngle (angle_given given d)) → ArePoints p given → ShowsNone p given vs fs →
