@@ -115,6 +115,16 @@ beyond_first_few given can d =
       | inr past ↦ angle_few (angle_given given d) (subst IsAngle (sym (get_or_past given.angles d None past)) tt)
     ]
 
+-- nor does it where the list has none
+pub empty_along : (p : PlaneModel) (given : GivenModel) (d : ℕ) → length given.turns ≡ 0 → turns_given p given d ≡ None
+empty_along p given d none =
+    by_dart (is_lesser_of p.lists d) (slice_index_or given.turns d None) (slice_index_or given.turns (reverse_dart p d) None)
+    (get_or_past given.turns d None (omega (arith, none))) (get_or_past given.turns (reverse_dart p d) None (omega (arith, none)))
+  where
+    by_dart : (c : Bool) (g h : Option ℤ) → g ≡ None → h ≡ None → (if c then g else walked_back h) ≡ None
+    by_dart true g h one other = one
+    by_dart false g h one other = ap walked_back other
+
 -- walked back they are as many
 pub abs_back : (g : Option ℤ) → nat_abs (lefts_given (walked_back g)) ≡ nat_abs (lefts_given g)
 abs_back None = refl
