@@ -1,11 +1,11 @@
 -- What is given, as turns to the left and turns to the right: those of a dart are those of its reverse, exchanged, and no face
 -- has more than all edges have.
 use Rattle.std.proofs.Common.{◌≡◌, ◌≢◌, ℕ, zero, suc, ◌+◌, ◌-◌, ◌*◌, ◌<◌, ◌≤◌, ◌==◌, if◌then◌else◌, ltb, Bool, true, false, List, length, ◌∙◌, refl, subst, sym, ap, inl, inr, arith}
-use Rattle.std.specs.Prelude.{ℤ, pos, negsuc, neg_ℤ, ◌+ℤ◌, ◌-ℤ◌, ◌≤ℤ◌, nat_abs, nat_lt, slice_index_or, Option, Some, None}
+use Rattle.std.specs.Prelude.{ℤ, pos, negsuc, ◌+ℤ◌, ◌-ℤ◌, ◌≤ℤ◌, nat_abs, nat_lt, slice_index_or, Option, Some, None}
 use Rattle.std.proofs.lemmas.Bool.{cases_lt, cases_eq, cases_Bool, eq-eqb, ne_eqb, cond-true, cond-false, lt-ltb, le-ltb}
 use Rattle.std.proofs.lemmas.Int.{ints}
 use Rattle.std.proofs.lemmas.List.{get_or_past}
-use Rattle.common.specs.Sums.{sum_below, total_below}
+use Rattle.common.specs.Sums.{sum_below}
 use Rattle.common.proofs.Sums.{sum_below-same, sum_below-le, sum_below-add, sum_below-none, sum_below-member, sum_below-split, sum_below-turned, exchanged, total_below-parts}
 use Rattle.embedding.specs.Lesser.{is_lesser_of}
 use Rattle.faces.specs.Planes.{PlaneModel, IsPlane, HasEnds, darts, vertices, head, reverse_dart, face_at, degree}
@@ -114,6 +114,16 @@ beyond_first_few given can d =
       | inl inside ↦ angle_few (angle_given given d) (can.are_angles d None inside)
       | inr past ↦ angle_few (angle_given given d) (subst IsAngle (sym (get_or_past given.angles d None past)) tt)
     ]
+
+-- nor does it where the list has none
+pub empty_along : (p : PlaneModel) (given : GivenModel) (d : ℕ) → length given.turns ≡ 0 → turns_given p given d ≡ None
+empty_along p given d none =
+    by_dart (is_lesser_of p.lists d) (slice_index_or given.turns d None) (slice_index_or given.turns (reverse_dart p d) None)
+    (get_or_past given.turns d None (omega (arith, none))) (get_or_past given.turns (reverse_dart p d) None (omega (arith, none)))
+  where
+    by_dart : (c : Bool) (g h : Option ℤ) → g ≡ None → h ≡ None → (if c then g else walked_back h) ≡ None
+    by_dart true g h one other = one
+    by_dart false g h one other = ap walked_back other
 
 -- walked back they are as many
 pub abs_back : (g : Option ℤ) → nat_abs (lefts_given (walked_back g)) ≡ nat_abs (lefts_given g)

@@ -140,11 +140,19 @@ taken_bound p given old xs n plane can plain taken k l =
     let beyond = beyond_first_few given can in
     let turns = turns_few p given can in
     let added : sum_below n (added_at p given k) ≤ n * m =
-    omega (arith, sum_below-constant n m, sum_below-le n (added_at p given k) (λ _. m) (λ d _. one (vertices p + face_at p d == k) (beyond_first (angle_given given d)) (right_part (turns_given p given d))
-    (beyond d) (omega (arith, both_parts (turns_given p given d), turns d)))) in
+    omega (
+      arith,
+      sum_below-constant n m,
+      sum_below-le n (added_at p given k) (λ _. m) (λ d _. one (vertices p + face_at p d == k) (beyond_first (angle_given given d)) (right_part (turns_given p given d))
+          (beyond d) (omega (arith, both_parts (turns_given p given d), turns d))),
+    ) in
     let took : sum_below n (taken_at p given k) ≤ n * m =
-    omega (arith, sum_below-constant n m, sum_below-le n (taken_at p given k) (λ _. m) (λ d _. two (head p d - 1 == k) (vertices p + face_at p d == k) (beyond_first (angle_given given d)) (left_part (turns_given p given d))
-    (beyond d) (omega (arith, both_parts (turns_given p given d), turns d)))) in
+    omega (
+      arith,
+      sum_below-constant n m,
+      sum_below-le n (taken_at p given k) (λ _. m) (λ d _. two (head p d - 1 == k) (vertices p + face_at p d == k) (beyond_first (angle_given given d)) (left_part (turns_given p given d))
+          (beyond d) (omega (arith, both_parts (turns_given p given d), turns d))),
+    ) in
     close (get_or xs k (pos 0)) (get_or old k (pos 0)) (sum_below n (added_at p given k)) (sum_below n (taken_at p given k)) (n * m) (taken.each k inside) (plain_bound p old plane plain k inside) added took
   where
     one : (c : Bool) (b r : ℕ) → b ≤ 3 → r ≤ MAX_GIVEN_TURNS → (if c then b + r else 0) ≤ MAX_GIVEN_TURNS + 3

@@ -86,6 +86,18 @@ impl<'a> Given<'a> {
         ensures value { result ≡ turns_given plane.now self.now dart }
         ensures few { nat_abs (lefts_given result) ≤ MAX_GIVEN_TURNS }
     {
+        if self.turns.is_empty() {
+            return None;
+        }
+        self.turns_of_edge(plane, dart)
+    }
+
+    /// The same, where the list is not empty.
+    fn turns_of_edge(&self, plane: &Plane, dart: u16) -> Option<i32>
+        requires { dart < darts plane.now }
+        ensures value { result ≡ turns_given plane.now self.now dart }
+        ensures few { nat_abs (lefts_given result) ≤ MAX_GIVEN_TURNS }
+    {
         let reverse = plane.graph().reverse(dart);
         if dart < reverse {
             self.turns_in_list(dart)

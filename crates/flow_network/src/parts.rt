@@ -1,9 +1,9 @@
 //! Supplies and arcs of the flow network of a plane (Tamassia 1987).
 
-ghost use Rattle.std.specs.Prelude.{◌≡◌, ◌+◌, ◌-◌, ◌<◌, ◌≤◌, ◌==◌, if◌then◌else◌, ℕ, pos, negsuc, ◌-ℤ◌, ◌≤ℤ◌, IfOk, length, slice_index_or};
+ghost use Rattle.std.specs.Prelude.{◌≡◌, ◌+◌, ◌-◌, ◌<◌, ◌≤◌, ◌==◌, ◌↔◌, if◌then◌else◌, IsTrue, ℕ, pos, negsuc, ◌-ℤ◌, ◌≤ℤ◌, IfOk, length, slice_index_or};
 ghost use Rattle.faces.specs.Planes.{darts, vertices, head, reverse_dart, face_at, degree};
 ghost use Rattle.networks.specs.Networks.{no_arc};
-ghost use Rattle.flow_network.specs.Given.{CanBeGiven, angle_given, turns_given, beyond_first};
+ghost use Rattle.flow_network.specs.Given.{CanBeGiven, nothing_given, angle_given, turns_given, beyond_first};
 ghost use Rattle.flow_network.specs.FaceNet.{vertex_degree, vertex_has_to_turn, face_has_to_turn, corner_cap, crossing_cap};
 
 use crate::given::{Given, beyond, lefts};
@@ -62,11 +62,7 @@ fn beyond_at(plane: &Plane, given: &Given<'_>, dart: u16, vertex: u16) -> i32
 /// Returns the supply of each node of the plane's flow network: of all vertices, then of all faces.
 ///
 /// Each is what the vertex or the face has to turn besides what is given. Reuses the buffer of `old`.
-pub fn supplies_of(
-    old: Vec<i32>,
-    plane: &Plane,
-    given: &Given<'_>,
-) -> Result<Vec<i32>, AllocError>
+pub fn supplies_of(old: Vec<i32>, plane: &Plane, given: &Given<'_>) -> Result<Vec<i32>, AllocError>
     ensures nodes { IfOk result (λ s. length s.items ≡ vertices plane.now + plane.now.faces) }
     ensures at_vertex { IfOk result (λ s. (v : ℕ) → 1 ≤ v → v ≤ vertices plane.now
         → slice_index_or s.items (v - 1) (pos 0) ≡ vertex_has_to_turn plane.now given.now v) }
@@ -129,9 +125,13 @@ fn take_given(supplies: &mut [i32], plane: &Plane, given: &Given<'_>)
 }
 
 /// The capacity of the corner arc of a dart: 0 if its angle is given, else 3.
-fn cap_at(given: &Given<'_>, dart: u16) -> Cap
+fn cap_at(given: &Given<'_>, is_nothing: bool, dart: u16) -> Cap
+    requires { IsTrue is_nothing ↔ (given.now ≡ nothing_given) }
     ensures { result ≡ corner_cap (angle_given given.now dart) }
 {
+    if is_nothing {
+        return Cap::AtMost(3);
+    }
     match given.angle(dart) {
         Some(_) => Cap::AtMost(0),
         None => Cap::AtMost(3),
@@ -139,10 +139,14 @@ fn cap_at(given: &Given<'_>, dart: u16) -> Cap
 }
 
 /// The capacity of the crossing arc of a dart: 0 if its turns are given, else unlimited.
-fn cap_across(plane: &Plane, given: &Given<'_>, dart: u16) -> Cap
-    requires { dart < darts plane.now }
+fn cap_across(plane: &Plane, given: &Given<'_>, is_nothing: bool, dart: u16) -> Cap
+    requires within { dart < darts plane.now }
+    requires nothing { IsTrue is_nothing ↔ (given.now ≡ nothing_given) }
     ensures { result ≡ crossing_cap (turns_given plane.now given.now dart) }
 {
+    if is_nothing {
+        return Cap::Any;
+    }
     match given.turns(plane, dart) {
         Some(_) => Cap::AtMost(0),
         None => Cap::Any,
@@ -196,12 +200,13 @@ fn write_arcs(arcs: &mut [Arc], plane: &Plane, given: &Given<'_>)
     let graph = plane.graph();
     let first_face = u32::from(graph.vertices());
     let count = usize::from(graph.darts());
+    let is_nothing = given.is_nothing();
     'write: for dart in 0..graph.darts() {
         let vertex = u32::from(graph.head(dart)) - 1;
         let face = first_face + u32::from(plane.face_of(dart));
         let across = first_face + u32::from(plane.face_of(graph.reverse(dart)));
-        let corner_cap = cap_at(given, dart);
-        let crossing_cap = cap_across(plane, given, dart);
+        let corner_cap = cap_at(given, is_nothing, dart);
+        let crossing_cap = cap_across(plane, given, is_nothing, dart);
         let place = usize::from(dart);
         arcs[place] = Arc {
             from: vertex,

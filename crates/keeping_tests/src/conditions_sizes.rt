@@ -199,7 +199,9 @@ fn each_number_of_conditions(rt: HostRuntime) {
     let mut straight_list = Vec::new(alloc);
     let mut inner_list = Vec::new(alloc);
     for _ in 0..140 {
-        straight_list.extend_from_slice(&straight).expect(&rt, "memory");
+        straight_list
+            .extend_from_slice(&straight)
+            .expect(&rt, "memory");
         inner_list.extend_from_slice(&inner).expect(&rt, "memory");
     }
     same!(&rt, (straight_list.len(), inner_list.len()), (1120, 560));

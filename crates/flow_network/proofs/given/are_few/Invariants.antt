@@ -1,4 +1,4 @@
-use Rattle.std.proofs.Common.{◌≡◌, ◌≤◌, ℕ}
+use Rattle.std.proofs.Common.{◌≡◌, ◌≤◌}
 use Rattle.std.specs.Prelude.{nat_abs, slice_index_or, None}
 use Rattle.common.specs.Sums.{sum_below}
 use Rattle.flow_network.specs.declared.given.TheConstants.{MAX_GIVEN_TURNS}

@@ -1,8 +1,9 @@
-use Rattle.std.proofs.Common.{◌≡◌, ◌≢◌, ◌+◌, ◌-◌, ◌<◌, ℕ, List, length, get_or, arith, ap, subst, ◌∙◌}
-use Rattle.std.specs.Prelude.{ℤ, pos}
+use Rattle.std.proofs.Common.{◌≡◌, ◌≢◌, ◌+◌, ◌-◌, ◌<◌, ◌≤◌, ℕ, List, length, arith, ap, sym, subst, ◌∙◌}
+use Rattle.std.specs.Prelude.{ℤ, pos, nat_abs}
 use Rattle.embedding.specs.Darts.{head_of, dart_count}
 use Rattle.faces.specs.Planes.{darts, vertices, head, face_at}
 use Rattle.faces.proofs.Ends.{plane_ends}
+use Rattle.flow_network.specs.declared.given.TheConstants.{MAX_GIVEN_TURNS}
 use Rattle.flow_network.specs.Given.{angle_given, turns_given, beyond_first, lefts_given}
 use Rattle.flow_network.proofs.GivenParts.{beyond_first_few, turns_few}
 use Rattle.flow_network.proofs.Taken.{AreTaken, ArePlain, taken_near, taken_next, taken_vertex, taken_face, difference_fits, difference_is, gain_fits, sum_fits, sum_is, written_near}
@@ -29,8 +30,9 @@ overflow_sub-supplies-in-take c =
     let p = c.args.plane.now in
     let given = c.args.given.now in
     let d = c.take.dart in
-    gain_fits _ _ (beyond_first (angle_given given d)) (c.beyond-angle.ensures ∙ ap (λ (k : ℕ). pos k) (ap beyond_first c.angle.ensures.value)) (beyond_first_few given c.requires.can d)
-    (omega (arith, c.lefts.ensures ∙ ap lefts_given c.turns.ensures.value, turns_few p given c.requires.can d))
+    let turns : c.lefts.result ≡ lefts_given (turns_given p given d) = c.lefts.ensures ∙ ap lefts_given c.turns.ensures.value in
+    gain_fits _ c.lefts.result (beyond_first (angle_given given d)) (c.beyond-angle.ensures ∙ ap (λ (k : ℕ). pos k) (ap beyond_first c.angle.ensures.value)) (beyond_first_few given c.requires.can d)
+    (subst (λ (t : ℤ). nat_abs t ≤ MAX_GIVEN_TURNS) (sym turns) (turns_few p given c.requires.can d))
 
 pub overflow_add-supplies : goal.overflow_add-supplies
 overflow_add-supplies c =
@@ -48,10 +50,11 @@ overflow_add-supplies c =
     let within : c.from-first_face.result + c.from.result < length c.take.supplies = omega (arith, face, ends.face_named d inside, c.take.invariant.size, c.requires.nodes) in
     let apart : c.from-vertex.result - 1 ≢ c.from-first_face.result + c.from.result = λ e. omega (arith, e, face, vertex, ends.head_from d inside, ends.head_to d inside) in
     let plain : ArePlain p c.args.supplies.now = record { nodes = c.requires.nodes; at_vertex = c.requires.at_vertex; at_face = c.requires.at_face } in
-    sum_fits _ _ _ (beyond_first (angle_given given d))
+    let turns : c.lefts.result ≡ lefts_given (turns_given p given d) = c.lefts.ensures ∙ ap lefts_given c.turns.ensures.value in
+    sum_fits _ _ c.lefts.result (beyond_first (angle_given given d))
     (written_near c.take.supplies _ _ _ apart (taken_near p given _ _ d plane c.requires.can plain c.take.invariant (omega (arith, inside, ends.few_darts)) _ within))
     (c.beyond-angle.ensures ∙ ap (λ (k : ℕ). pos k) (ap beyond_first c.angle.ensures.value)) (beyond_first_few given c.requires.can d)
-    (omega (arith, c.lefts.ensures ∙ ap lefts_given c.turns.ensures.value, turns_few p given c.requires.can d))
+    (subst (λ (t : ℤ). nat_abs t ≤ MAX_GIVEN_TURNS) (sym turns) (turns_few p given c.requires.can d))
 
 pub take-preserved : goal.take-preserved
 take-preserved c =
