@@ -6,7 +6,7 @@ kicad-demos, yosys; the first is downloaded with apt-get if it is not installed,
 separate process `python3 -m planarbend draw`, and schematic_judge.py judges each drawing by the file.
 
 Figures: crossings; bends, those of jogs at boxes included; jogs into symbols; parts that are upright, of those that are to be;
-boxes taller or wider than 1.6 times their need, and the worst; pairs of parallel wires nearer than 12 pixels, and of parts
+boxes taller or wider than 1.6 times their need, and the worst; pairs of parallel wires nearer than 12 pixels, and of boxes
 nearer than 18.
 """
 from __future__ import annotations

@@ -273,8 +273,9 @@ def look_at_boxes(drawing: dict[str, Any], found: Verdict) -> None:
     for one, first, other, second in touching(texts, boxes):
         if first[0] != second[0]:
             found.need(overlap(one, other) < SAME, f"the text {first[1]} is on the part {second[1]}")
-    wide = [((box[0] - BOX_GAP, box[1] - BOX_GAP, box[2], box[3]), (box, name)) for box, name in boxes]
-    found.counts["near_boxes"] = sum(overlap(one[0], other[0]) > SAME - BOX_GAP for _, one, _, other in pairs_of(wide))
+    cages = [tuple(part["box"]) for part in drawing["parts"] if part["kind"] in CAGES]
+    wide = [((box[0] - BOX_GAP, box[1] - BOX_GAP, box[2], box[3]), box) for box in cages]
+    found.counts["near_boxes"] = sum(overlap(one, other) > SAME - BOX_GAP for _, one, _, other in pairs_of(wide))
 
 
 def look_at_pins(drawing: dict[str, Any], found: Verdict) -> None:

@@ -90,9 +90,9 @@ def clean(name: str) -> str:
 def sheet_file(whole: list[Any], path: Path, inner: str) -> tuple[Path, list[str]]:
     """The file of a sheet directly inside a sheet, and its path of identifiers."""
     for one in sub(whole, "sheet"):
-        found = properties(one)
-        if found.get("Sheetname", found.get("Sheet name")) == inner:
-            return path.parent / found.get("Sheetfile", found.get("Sheet file", "")), [value(one, "uuid", "")]
+        name, file = sub(one, "property")[0][2], sub(one, "property")[1][2]
+        if name == inner:
+            return path.parent / file, [value(one, "uuid", "")]
     raise AssertionError(f"{path} has no sheet {inner}")
 
 
@@ -238,9 +238,8 @@ def drawn_pins(whole: list[Any], known: dict[str, tuple[str, int]]) -> tuple[lis
         if places:
             sides[reference] = [(number, side) for side, _, number in sorted(places)]
     for one in sub(whole, "sheet"):
-        fields = properties(one)
         for pin in sub(one, "pin"):
-            found.append(((fields.get("Sheetname", fields.get("Sheet name", "")), clean(pin[1])), spot(pin)))
+            found.append(((sub(one, "property")[0][2], clean(pin[1])), spot(pin)))
     return found, sides
 
 

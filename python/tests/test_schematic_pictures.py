@@ -14,12 +14,12 @@ from schematic_judge import judge
 from schematic_rows import rows
 from test_schematic_judge import CIRCUIT, by_hand
 
-from planarbend.schematics.boxes import box_shape, extent, needs_of
+from planarbend.schematics.boxes import box_shape, extent, needs_of, outside
 from planarbend.schematics.drawn import Schematic, Wire
 from planarbend.schematics.flags import flag
 from planarbend.schematics.labelling import Room, label
 from planarbend.schematics.parts import EAST, NORTH, SOUTH, TURNED_OVER, WEST, Kind, Part, Pin
-from planarbend.schematics.picture import svg
+from planarbend.schematics.picture import svg, title_of
 from planarbend.schematics.readers import read
 from planarbend.schematics.shapes import beside, shape_of
 from planarbend.schematics.strokes import Pose, Stroke, circle
@@ -114,9 +114,15 @@ class Symbols(unittest.TestCase):
         self.assertEqual(Stroke("line", circle(10, 20, 3)).box(), (7, 17, 13, 23))
 
 
+    def test_a_fourth_pin_of_a_transistor(self) -> None:
+        part = Part("M1", "x", Kind.NMOS, [Pin("B", "B", EAST), Pin("D", "D", NORTH), Pin("G", "G", WEST), Pin("S", "S", SOUTH)])
+        shape = shape_of(part, Pose())
+        self.assertEqual((shape.box, shape.pins), ((-24, -24, 24, 24), [(24, 0), (0, -24), (-24, 0), (0, 24)]))
+        self.assertEqual(shape_of(point_part(Kind.NMOS), Pose()).box, (-24, -24, 10, 24))
+
     def test_forms_of_sources_and_diodes(self) -> None:
         for kind, form in ((Kind.SOURCE, "voltage"), (Kind.SOURCE, "current"), (Kind.SOURCE, "controlled voltage"),
-                           (Kind.SOURCE, "controlled current"), (Kind.DIODE, "zener"), (Kind.DIODE, "schottky")):
+                           (Kind.SOURCE, "controlled current"), (Kind.DIODE, "zener"), (Kind.DIODE, "schottky"), (Kind.TWO, "tvs")):
             plain, part = point_part(kind), point_part(kind)
             part.form = form
             shape = shape_of(part, Pose())
@@ -150,7 +156,7 @@ class Rectangles(unittest.TestCase):
             shape = shape_of(part, Pose(pose.turn, pose.mirror, True))
             self.assertEqual(len(shape.pins), len(part.pins))
             for stroke in shape.strokes:
-                self.assertIn(stroke.style, ("line", "bold", "body", "ink", "paper"))
+                self.assertIn(stroke.style, ("line", "bold", "body", "ink", "circle"))
                 left, top, right, bottom = stroke.box()
                 self.assertTrue(left >= shape.box[0] - 0.01 and top >= shape.box[1] - 0.01 and right <= shape.box[2] + 0.01
                                 and bottom <= shape.box[3] + 0.01, (part.form, pose, stroke, shape.box))
@@ -168,6 +174,14 @@ class Rectangles(unittest.TestCase):
             apart = 24.0 if part.kind is Kind.OPAMP else 20.0
             self.assertEqual([other - one for one, other in zip(heights, heights[1:])], [apart] * (len(heights) - 1), part.form)
             self.assertAlmostEqual(sum(heights), 0.0)
+
+    def test_multiplexers(self) -> None:
+        for side, y in ((SOUTH, 25.0), (NORTH, -25.0)):
+            for shape, right, strokes in (("line", 12.0, 2), ("inverted", 18.0, 3)):
+                pins = [Pin("Y", "", EAST, "output", None, shape), Pin("A", "0", WEST), Pin("B", "1", WEST), Pin("S", "", side)]
+                found = shape_of(Part("m", "", Kind.MUX, pins), Pose(0, False, True))
+                self.assertEqual(found.pins, [(right, 0.0), (-12.0, -10.0), (-12.0, 10.0), (0.0, y)])
+                self.assertEqual(len(found.strokes), strokes)
 
     def test_names_stay_at_their_pins(self) -> None:
         for part, pose in itertools.product(self.parts(), POSES):
@@ -211,11 +225,23 @@ class Boxes(unittest.TestCase):
                 self.assertTrue(text.box[0] >= 0 and text.box[1] >= 0 and text.box[2] <= needs.width and text.box[3] <= needs.height,
                                 (pose, text))
 
+    def test_what_reaches_beyond_a_box(self) -> None:
+        for pose in POSES:
+            size = 200.0
+            points = [{EAST: (size, 100.0), WEST: (0.0, 100.0), NORTH: (100.0, 0.0), SOUTH: (100.0, size)}[pose.side(pin.side)]
+                      for pin in self.PART.pins]
+            shape = box_shape(self.PART, pose, (0.0, 0.0, size, size), points)
+            boxes = [text.box for text in shape.texts if text.role == "number"]
+            boxes += [stroke.box() for stroke in shape.strokes if stroke.style == "circle"]
+            for side in range(4):
+                far = [(box[2] - size, -box[1], -box[0], box[3] - size)[side] for box in boxes]
+                self.assertAlmostEqual(outside(self.PART, pose, side), max(0.0, *far), msg=str((pose, side)))
+
     def test_names_on_upright_sides_are_read_upwards(self) -> None:
         shape = box_shape(self.PART, Pose(), (0.0, 0.0, 200.0, 200.0), [(200, 160), (200, 60), (100, 0), (0, 60), (0, 80), (0, 100), (100, 200)])
         self.assertEqual({text.text for text in shape.texts if text.is_upwards}, {"VCC", "GROUND", "8", "7"})
         self.assertEqual([text.text for text in shape.texts if text.role == "number"], ["4", "5", "8", "1", "2", "3", "7"])
-        self.assertEqual([stroke.style for stroke in shape.strokes], ["body", "paper", "line"])  # the circle, then the wedge
+        self.assertEqual([stroke.style for stroke in shape.strokes], ["body", "circle", "line"])  # the circle, then the wedge
 
 
 class Texts(unittest.TestCase):
@@ -228,6 +254,20 @@ class Texts(unittest.TestCase):
             self.assertEqual(judge(json.loads(drawing.json()), path, "spice").faults, [])
         self.assertEqual([[text.text for text in texts] for texts in drawing.beside], [["R1", "1"], ["R2", "1"], ["R3", "1"], ["R4", "1"]])
         self.assertEqual([text.text for text in drawing.names], ["b", "a", "c"])
+        before = drawing.json()
+        label(drawing)  # once more
+        self.assertEqual(drawing.json(), before)
+
+    def test_texts_that_are_in_the_way_are_moved(self) -> None:
+        drawing = drawn_by_hand()
+        label(drawing)
+        kept = drawing.beside[0]
+        drawing.beside[0] = [text.moved((0.0, 60.0 - text.box[1])) for text in kept[:1]] + kept[1:]
+        drawing.beside[1] = [text.moved((0.0, 30.0)) for text in drawing.beside[1]]  # onto the wire of b
+        moved = list(drawing.beside[1])
+        label(drawing)
+        self.assertNotEqual(drawing.beside[1], moved)
+        self.assertEqual([text.text for text in drawing.beside[1]], ["R2", "1"])
 
     def test_sides_without_pins_come_first(self) -> None:
         for turn, sides in ((0, (NORTH, SOUTH)), (1, (EAST, WEST))):
@@ -239,6 +279,9 @@ class Texts(unittest.TestCase):
                 left, top, right, bottom = texts[0].box
                 found.append(EAST if left > 0 and turn else WEST if right < 0 and turn else NORTH if bottom < 0 else SOUTH)
             self.assertEqual(tuple(found), sides)
+            gaps = [shape.box[1] - places[0][-1].box[3], places[1][0].box[1] - shape.box[3]] if turn == 0 else \
+                [places[0][0].box[0] - shape.box[2], shape.box[0] - places[1][0].box[2]]
+            self.assertEqual([round(gap, 3) for gap in gaps], [2.0, 2.0] if turn == 0 else [4.0, 4.0])
             self.assertEqual(len(places), 6)
 
     def test_names_that_nobody_gave_are_not_written(self) -> None:
@@ -283,11 +326,20 @@ class Files(unittest.TestCase):
                 texts = sorted(text.text or "" for text in root.iter(f"{SVG}text"))
                 self.assertEqual(texts, sorted(text.text for _, text in drawing.texts()), name)
 
+    def test_dark_pictures_have_no_light_colours(self) -> None:
+        path = support.TESTS / "schematics" / "two_units.kicad_sch"
+        text = svg(rows(read(path.read_bytes(), str(path))), "dark")
+        colours = {found.lower() for found in re.findall(r'(?:fill|stroke)="(#\w+|\w+)"', text)} - {"none", "transparent"}
+        light = {"#e6edf3", "#56c27d", "#a9bccf"}  # of lines and texts
+        self.assertEqual(colours, light | {"#12171d", "#2b2a22"})
+
     def test_titles_tell_pins(self) -> None:
         path = support.TESTS / "schematics" / "two_units.kicad_sch"
         text = svg(rows(read(path.read_bytes(), str(path))))
-        for title in ("Q1 BC547, pin 1 (C)", "U1A LM358, pin 3 (+)", "R1 10k, pin 1", "R2"):
+        for title in ("Q1 BC547, pin C", "U1A LM358, pin +", "R1 10k, pin 1", "R2"):
             self.assertIn(f"<title>{title}</title>", text)
+        part = Part("U1", "x", Kind.BOX, [Pin("1", "GND", WEST), Pin("2", "GND", WEST), Pin("3", "IN", WEST)])
+        self.assertEqual([title_of(part, pin) for pin in part.pins], ["U1 x, pin GND (1)", "U1 x, pin GND (2)", "U1 x, pin IN"])
 
     def test_kinds_that_are_turned_over(self) -> None:
         self.assertEqual(TURNED_OVER, {Kind.OPAMP, Kind.GATE, Kind.MUX})

@@ -3,6 +3,7 @@ KiCad's demonstration sheets, yosys's own netlists, faults by their words and li
 from __future__ import annotations
 
 import collections
+import doctest
 import json
 import random
 import shutil
@@ -17,10 +18,14 @@ from schematic_judge import judge, judge_alone
 from schematic_oracle import lists, sub
 from schematic_rows import rows
 
+from planarbend.schematics import readers
 from planarbend.schematics.flags import split
 from planarbend.schematics.names import is_ground, is_negative, is_power
 from planarbend.schematics.parts import EAST, NORTH, SOUTH, WEST, Kind, Part, Pin, Sheet, mirrored
 from planarbend.schematics.readers import FORMS, ReadError, read
+from planarbend.schematics.readers.kicad_page import Placed
+from planarbend.schematics.readers.kicad_sheet import by_arrow
+from planarbend.schematics.readers.kicad_symbols import LibraryPin, Symbol
 from planarbend.schematics.readers.kicad_wires import Lines
 from planarbend.schematics.readers.kinds import kind_of
 
@@ -127,9 +132,43 @@ class KiCad(Case):
     def test_polarity_is_not_guessed(self) -> None:
         self.assertIn("Q2: a box, since the file does not say whether it is NPN or PNP", self.sheet.notes)
 
+    def test_hidden_pins_are_noted(self) -> None:
+        whole = (FILES / "two_units.kicad_sch").read_text()
+        place = whole.index('(name "V+"')
+        start = whole.rindex("(length 2.54)", 0, place)
+        sheet = read((whole[:start] + "(length 2.54) hide" + whole[start + 13:]).encode(), "x.kicad_sch")
+        self.assertEqual([pin.number for pin in by_ref(sheet)["U1A"].pins], ["1", "3", "2", "4"])
+        self.assertIn("U1A: pins that the file hides are not drawn: V+ (8)", sheet.notes)
+
+    def test_labels_have_precedence(self) -> None:
+        whole = (FILES / "two_units.kicad_sch").read_text()
+        local = '(label "LOCAL" (at 90 97.46 0))\n  (hierarchical_label "IN"'
+        sheet = read(whole.replace('(hierarchical_label "IN"', local).encode(), "x.kicad_sch")
+        self.assertEqual(joined(sheet, "IN"), {("U1A", "3"), ("IN", "1")})
+
+    def test_arrows_of_field_effect_transistors(self) -> None:
+        def kind(words: str, tip: tuple[int, int], back: tuple[int, int], sides: tuple[int, int, int] = (NORTH, WEST, SOUTH)) -> Kind | None:
+            points = ((25, 50), (-50, 0), (25, -50))
+            found = [(LibraryPin(Pin(name, name, side), at, 1, 1, False), at) for name, side, at in zip("DGS", sides, points)]
+            return by_arrow(Placed(Symbol(words, False, {}, arrows=[((10, 5), (10, 0)), (tip, back)]), "Q1", "", found), "G", Kind.NMOS, Kind.PMOS)
+
+        self.assertIs(kind("MOSFET", (0, 0), (8, 0)), Kind.NMOS)  # it points to the gate; the diode before it is left out
+        self.assertIs(kind("MOSFET", (8, 0), (0, 0)), Kind.PMOS)
+        self.assertIsNone(kind("J310", (0, 0), (8, 0)))  # a junction transistor has its arrow elsewhere
+        self.assertIsNone(kind("MOSFET", (0, 0), (8, 0), (NORTH, WEST, EAST)))
+
     def test_wishes(self) -> None:
         self.assertEqual([self.parts[ref].upright for ref in ("U1A", "Q1", "R1", "Q2")], [20.0, 1.6, 0.0, 20.0])
         self.assertEqual([self.parts[ref].mirror for ref in ("U1A", "Q1", "R1", "Q2")], [True, True, False, False])
+
+    def test_a_pin_in_another_function(self) -> None:
+        whole = (FILES / "two_units.kicad_sch").read_text()
+        listed = '(name "C" (effects (font (size 1.27 1.27))))'
+        whole = whole.replace(listed, listed + ' (alternate "COLLECTOR" output inverted)', 1)
+        place = whole.index('"Q1"')
+        whole = whole[:place] + whole[place:].replace("))\n  (symbol", ') (pin "1" (alternate "COLLECTOR")))\n  (symbol', 1)
+        pin = next(pin for pin in by_ref(read(whole.encode(), "x.kicad_sch"))["Q1"].pins if pin.number == "1")
+        self.assertEqual((pin.name, pin.etype, pin.shape), ("COLLECTOR", "output", "inverted"))
 
     def test_faults(self) -> None:
         whole = (FILES / "two_units.kicad_sch").read_text()
@@ -162,6 +201,11 @@ class Hierarchy(Case):
         self.assertEqual((box.kind, box.value), (Kind.BOX, "inner.kicad_sch"))
         self.assertEqual([(pin.name, pin.side, pin.etype) for pin in box.pins],
                          [("OUT", EAST, "output"), ("IN", WEST, "input"), ("D[0..7]", SOUTH, "bidirectional")])
+
+    def test_names_of_fields_may_be_translated(self) -> None:
+        whole = (FILES / "root.kicad_sch").read_text().replace('"Sheetname"', '"Nom feuille"').replace('"Sheetfile"', '"Fichier de feuille"')
+        self.assertEqual([(part.ref, part.value) for part in read(whole.encode(), "x.kicad_sch").parts if part.kind is Kind.BOX],
+                         [("amp", "inner.kicad_sch"), ("second", "inner.kicad_sch")])
 
     def test_wires_and_buses_join_sheets(self) -> None:
         sheet = of("root.kicad_sch")
@@ -304,6 +348,9 @@ class Yosys(Case):
         names = {"open": {"hide_name": 0, "bits": [9], "attributes": {}}}
         sheet = self.sheet({"g": cell("$_NOT_", A=("i", [9]), Y=("o", [7]))}, names=names)
         self.assertIn((Kind.LABEL, "open", "open"), flags(sheet))
+        for bits, made in (([9, 10], "g.A"), ([6, 9, 10], "g.A[2:1]"), ([9, 6], "g.A[0]")):
+            sheet = self.sheet({"g": cell("$neg", A=("i", bits), Y=("o", [7]))})
+            self.assertEqual([name for kind, name, _ in flags(sheet) if kind is Kind.LABEL], [made])
 
     def test_an_instance_takes_directions_from_its_module(self) -> None:
         whole = json.loads(module({"u": {**cell("sub", p=("i", [6]), q=("o", [7])), "port_directions": {}}}, self.PORTS))
@@ -359,6 +406,7 @@ class Spice(Case):
         inside = of("ring.cir", "INVERTER")
         self.assertEqual({ref: part.kind for ref, part in by_ref(inside).items()}, {"M1": Kind.NMOS, "M2": Kind.PMOS})
         self.assertEqual(flags(inside), [(Kind.LABEL, "in", "in"), (Kind.LABEL, "out", "out")])
+        self.assertEqual([part.value for part in by_ref(inside).values()], ["NM W={width} L=0.35u", "PM W={width*2} L=0.35u"])
 
     def test_a_subcircuit_that_is_not_defined_is_a_box_with_numbers(self) -> None:
         sheet = text("X1 a b c thing w=1 l = 2\nR1 a b 1\nR2 b c 1")
@@ -423,7 +471,7 @@ class Kinds(unittest.TestCase):
                 ("L", "L", "", (Kind.INDUCTOR, "")), ("D", "D", "KA", (Kind.DIODE, "")), ("D", "D", "", (Kind.TWO, "")),
                 ("D_Zener", "D", "KA", (Kind.DIODE, "zener")), ("D_Schottky", "D", "AK", (Kind.DIODE, "schottky")),
                 ("LED", "D", "KA", (Kind.LED, "")), ("D_LED_x", "D", "KA", (Kind.LED, "")), ("LEDGER", "D", "KA", (Kind.DIODE, "")),
-                ("D_TVS", "D", "AA", (Kind.TWO, "")), ("Crystal", "Y", "", (Kind.CRYSTAL, "")), ("VSOURCE", "V", "", (Kind.SOURCE, "")),
+                ("D_TVS", "D", "AA", (Kind.TWO, "tvs")), ("SW_TVS", "SW", "", (Kind.TWO, "")), ("Crystal", "Y", "", (Kind.CRYSTAL, "")), ("VSOURCE", "V", "", (Kind.SOURCE, "")),
                 ("Fuse", "F", "", (Kind.TWO, "")), ("RN", "RN", "", (Kind.TWO, ""))):
             first, second = names or ("", "")
             self.assertEqual(self.kind(words, prefix, (first, WEST), (second, EAST)), wanted, words)
@@ -439,6 +487,7 @@ class Kinds(unittest.TestCase):
             self.assertEqual(self.kind(words, "Q", (first, NORTH), (middle, WEST), (last, SOUTH))[0], wanted, words)
         self.assertEqual(self.kind("NPN", "Q", ("C", NORTH), ("B", EAST), ("E", WEST))[0], Kind.BOX)  # base and emitter opposite
         self.assertEqual(self.kind("POT", "RV", ("1", NORTH), ("2", EAST), ("3", SOUTH))[0], Kind.POT)
+        self.assertEqual(self.kind("POT", "RV", ("1", NORTH), ("2", EAST), ("3", SOUTH), ("4", SOUTH))[0], Kind.BOX)
         self.assertEqual(self.kind("Thermistor", "RV", ("1", NORTH), ("2", EAST), ("3", SOUTH))[0], Kind.BOX)
 
     def test_opamps(self) -> None:
@@ -475,6 +524,10 @@ class Kinds(unittest.TestCase):
 
 
 class Forms(Case):
+    def test_examples_in_docstrings(self) -> None:
+        found = doctest.testmod(readers)
+        self.assertEqual((found.failed, found.attempted), (0, 2))
+
     def test_the_form_is_found(self) -> None:
         for name, form in (("two_units.kicad_sch", "schematic"), ("stage.net", "netlist"), ("counter.json", "yosys"), ("ring.cir", "spice")):
             data = (FILES / name).read_bytes()
@@ -502,7 +555,7 @@ class Flags(Case):
         self.assertEqual(sum(kind is Kind.LABEL for kind, *_ in flags(split(circuit))), 9)
         self.assertEqual(sum(kind is Kind.LABEL for kind, *_ in flags(split(circuit, 9))), 0)
         self.assertEqual(sum(kind is Kind.LABEL for kind, *_ in flags(split(circuit, None))), 0)
-        self.assertEqual(flags(split(circuit, 8, ["hub", "0"])), [])
+        self.assertEqual(flags(split(circuit, 8, ["hub", "0"])), [(Kind.GROUND, "0", "0")])
 
     def test_pieces_of_a_wired_net_are_one(self) -> None:
         sheet = split(of("two_units.kicad_sch"), 8, ["OUT2"])

@@ -79,9 +79,26 @@ def box_shape(part: Part, pose: Pose, frame: Box, pins: Sequence[Point]) -> Shap
         strokes += mark_strokes(pin, at, side)
         if pin.name:
             texts.append(name_text(pin, at, side))
-        if pin.number and pin.number != pin.name and part.kind is Kind.BOX and part.is_named and not part.form:
+        if has_number(part, pin):
             texts.append(number_text(pin, at, side))
     return Shape(frame, list(pins), strokes, texts)
+
+
+def has_number(part: Part, pin: Pin) -> bool:
+    """Return whether the number of a pin is written beside its box."""
+    return bool(pin.number) and pin.number != pin.name and part.kind is Kind.BOX and part.is_named and not part.form
+
+
+def outside(part: Part, pose: Pose, side: int) -> float:
+    """Return how far circles and numbers of the pins on a side of a box or flip-flop reach beyond its border."""
+    found = 0.0
+    for pin in part.pins:
+        if pose.side(pin.side) == side:
+            found = max(found, 2 * BUBBLE if has_circle(pin) else 0.0)
+            if has_number(part, pin):
+                left, top, right, bottom = number_text(pin, (0.0, 0.0), side).box
+                found = max(found, (right, -top, -left, bottom)[side])
+    return found
 
 
 def middle_texts(part: Part, pose: Pose, frame: Box) -> list[Text]:
@@ -102,7 +119,7 @@ def mark_strokes(pin: Pin, at: Point, side: int) -> list[Stroke]:
         (a, b), (c, d) = (step(at, side + 1 & 3, 4), step(at, side + 3 & 3, 4))
         found.append(Stroke("line", f"M{a:g} {b:g}L{tip[0]:g} {tip[1]:g}L{c:g} {d:g}"))
     if has_circle(pin):
-        found.append(Stroke("paper", circle(*step(at, side, BUBBLE), BUBBLE)))
+        found.append(Stroke("circle", circle(*step(at, side, BUBBLE), BUBBLE)))
     return found
 
 

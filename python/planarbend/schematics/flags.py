@@ -33,13 +33,15 @@ def split(sheet: Sheet, most: int | None = MOST_PINS, wired: Collection[str] = (
     most : int, optional
         None: only power nets are split.
     wired : collection of str
-        The names of nets that are drawn as wires; if the sheet has one in several pieces, these become one.
+        The names of nets that are drawn as wires; if the sheet has one in several pieces, these become one. A power net among
+        them has one flag.
     """
     found = joined(sheet, wired)
     flags: list[Part] = []
     for key, ends in found.ends().items():
         net, pins = found.nets[key], [end for end in ends if not found.parts[end[0]].is_flag]
         if net.name in wired or not net.is_power and (most is None or len(pins) <= most):
+            flags += [flag(kind_of(net), net.name, key)] if net.is_power else []
             continue
         del found.nets[key]
         for number, (part, pin) in enumerate(pins, 1):

@@ -41,12 +41,11 @@ class Room:
 
 
 def room_of(drawing: Schematic) -> Room:
-    """Return the room in which parts, wires, stubs and texts of a drawing are taken."""
+    """Return the room in which parts with their own texts, wires and stubs of a drawing are taken."""
     found = Room()
     for shape in drawing.shapes:
-        found.take(shape.box)
-    for _, text in drawing.texts():
-        found.take(text.box)
+        for box in (shape.box, *(text.box for text in shape.texts)):
+            found.take(box)
     lines = [list(pair) for wire in drawing.wires for pair in zip(wire.points, wire.points[1:])]
     for line in [*lines, *([at, to] for _, _, at, to in drawing.stubs())]:
         left, top, right, bottom = around(line)
@@ -55,11 +54,12 @@ def room_of(drawing: Schematic) -> Room:
 
 
 def label(drawing: Schematic) -> None:
-    """Add the references and values of parts that have none yet, at the best free place of each, then the names of nets that a
+    """Place the references and values of parts, each where it is, or else at the best free place, then the names of nets that a
     person named and no flag shows. What finds no free place beside its part goes to the first one; a net's name is left out."""
     room = room_of(drawing)
+    drawing.names.clear()
     for number, (part, pose, shape) in enumerate(zip(drawing.sheet.parts, drawing.poses, drawing.shapes)):
-        places = [] if drawing.beside[number] else beside(part, pose, shape)
+        places = [texts for texts in (drawing.beside[number], *beside(part, pose, shape)) if texts]
         if places:
             free = (texts for texts in places if all(room.is_free(text.box) for text in texts))
             drawing.beside[number] = next(free, places[0])

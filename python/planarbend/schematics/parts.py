@@ -109,7 +109,7 @@ class Part:
         Whether it is upright also after a half turn.
     form : str
         Of a gate: and, or, xor, nand, nor, xnor, not or buffer; of a source: voltage or current, after "controlled" if it is;
-        of a diode: zener or schottky; of a box, a text for its middle (`+`); else empty.
+        of a diode: zener or schottky; of another part of two pins: tvs; of a box, a text for its middle (`+`); else empty.
     is_named : bool
         Whether `ref` is written beside it: false if the file has no name for it that a person gave.
     """
@@ -186,6 +186,7 @@ def mirrored(part: Part) -> Part:
 def ordered(pins: Sequence[tuple[Pin, float, float]]) -> list[Pin]:
     """Return pins in the order that `Part.pins` wants, from their places: x to the east, y to the north."""
     def key(one: tuple[Pin, float, float]) -> tuple[int, float]:
+        """Return the side of a pin, and how far it is along the side."""
         pin, x, y = one
         return pin.side, (y, -x, -y, x)[pin.side]
 

@@ -2,7 +2,7 @@
 from __future__ import annotations
 
 from planarbend.drawing.texts import FAMILY, svg_text, xml_text
-from planarbend.drawing.themes import PAPER, paper, themed
+from planarbend.drawing.themes import paper, themed
 from planarbend.schematics.drawn import Schematic
 from planarbend.schematics.parts import Part, Pin
 from planarbend.schematics.shapes import Text
@@ -14,7 +14,7 @@ STROKE, WIRE_STROKE, BOLD = 1.3, 1.2, 2.2  # pixels
 DOT = 2.4  # pixels, the radius of a junction's dot
 CROSS = 2.0  # pixels, half the size of the cross at a pin that is not connected
 STYLES = {"line": "", "bold": f' stroke-width="{BOLD}"', "body": f' fill="{BODY}"', "ink": f' fill="{INK}"',
-          "paper": f' fill="{PAPER}"'}
+          "circle": f' fill="{BODY}"'}
 QUIET = ("name", "number")  # roles of texts that are written in the colour of names
 
 
@@ -62,15 +62,18 @@ def part_elements(drawing: Schematic) -> list[str]:
 def pin_element(part: Part, pin: Pin, at: Point) -> str:
     """Return a place without colour at a pin, which has its title."""
     dot = f'<circle cx="{at[0]:.1f}" cy="{at[1]:.1f}" r="3" stroke="none" fill="transparent"/>'
-    return titled(title_of(part, pin.number, pin.name), [dot])
+    return titled(title_of(part, pin), [dot])
 
 
-def title_of(part: Part, number: str = "", name: str = "") -> str:
-    """Return the title of a part, or of one of its pins: `Q1 BC547, pin 1 (C)`."""
+def title_of(part: Part, pin: Pin | None = None) -> str:
+    """Return the title of a part, or of one of its pins: `Q1 BC547, pin C`. A pin without a name has its number, and one of
+    several with one name has both."""
     title = part.ref if part.value in ("", part.ref) else f"{part.ref} {part.value}"
-    if not number:
+    if pin is None:
         return title
-    return f"{title}, pin {number}" + (f" ({name})" if name not in ("", number) else "")
+    is_alone = sum(one.name == pin.name for one in part.pins) == 1
+    number = "" if is_alone or not pin.name else f" ({pin.number})"
+    return f"{title}, pin {pin.name or pin.number}{number}"
 
 
 def stroke_element(stroke: Stroke) -> str:

@@ -17,6 +17,7 @@ INSET = 10.0  # from the corner of a box to a pin
 MARGIN = 4.0  # from the border of a box to a name inside
 BESIDE = 4.0  # from a part to its texts
 PITCH = 20.0  # between the inputs of a gate
+WIDEST = 30.0  # of the value inside an op-amp
 PLAIN_GROUNDS = ("GND", "0")  # grounds whose symbol has no name
 TOWARDS = ((1, 0), (0, -1), (-1, 0), (0, 1))  # the steps in the four directions
 
@@ -90,8 +91,9 @@ def shape_of(part: Part, pose: Pose) -> Shape:
     texts = [dataclasses.replace(one, box=turned_text(one, pose)) for one in own.texts]
     if part.kind is Kind.OPAMP and pose.turn % 2 == 0:
         x, y = pose.point((-4.0, 0.0))
+        small = 6.0 if width_of(part.value, 6.0) <= WIDEST else 5.0
         texts += [text_at(text, (x, y + down), size, role) for text, role, down, size, widest in
-                  ((part.ref, "ref", -4.6, 8.0, 22.0), (part.value, "value", 3.4, 5.0, 29.0))
+                  ((part.ref, "ref", -5.4, 8.0, 22.0), (part.value, "value", 3.0, small, WIDEST))
                   if text and width_of(text, size) <= widest]
     return Shape(pose.box(own.box), [pose.point(pin) for pin in own.pins], [one.moved(pose.point) for one in own.strokes], texts)
 
@@ -232,7 +234,7 @@ def pin_strokes(at: Point, border: Point, pin: Pin) -> list[Stroke]:
         return [Stroke("line", f"M{at[0]:g} {at[1]:g}L{border[0]:g} {border[1]:g}")]
     middle = step(border, pin.side, BUBBLE)
     end = step(border, pin.side, 2 * BUBBLE)
-    return [Stroke("line", f"M{at[0]:g} {at[1]:g}L{end[0]:g} {end[1]:g}"), Stroke("paper", circle(*middle, BUBBLE))]
+    return [Stroke("line", f"M{at[0]:g} {at[1]:g}L{end[0]:g} {end[1]:g}"), Stroke("circle", circle(*middle, BUBBLE))]
 
 
 def mux(part: Part) -> Shape:
@@ -246,5 +248,5 @@ def mux(part: Part) -> Shape:
     strokes = [Stroke("body", "M-12 -25L12 -15L12 15L-12 25Z")]
     strokes += [Stroke("line", f"M0 {20 * sign}L0 {25 * sign}") for side, sign in ((NORTH, -1), (SOUTH, 1))
                 if any(pin.side == side for pin in part.pins)]
-    strokes += [Stroke("paper", circle(12 + BUBBLE, 0, BUBBLE))] * is_inverted
+    strokes += [Stroke("circle", circle(12 + BUBBLE, 0, BUBBLE))] * is_inverted
     return Shape((-12, -25, right, 25), pins, strokes, [text_at(pin.name, (-6, level[id(pin)]), NAME, "name") for pin in inputs])

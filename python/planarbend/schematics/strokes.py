@@ -14,7 +14,7 @@ Box = tuple[float, float, float, float]  # left, top, right, bottom
 @dataclass(frozen=True, slots=True)
 class Stroke:
     """A line or an area: `path` is SVG with the commands M, L, C and Z and absolute points; `style` is line, bold, body (a
-    filled outline), ink (filled with the colour of lines) or paper (an outline filled like what is behind all)."""
+    filled outline), ink (filled with the colour of lines) or circle (of an inverted pin, filled like a body)."""
 
     style: str
     path: str

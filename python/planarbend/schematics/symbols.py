@@ -72,6 +72,8 @@ FORMS: dict[str, Symbol] = {  # of sources and diodes
     "controlled voltage": Symbol((-24, -14, 24, 14), (*DIAMOND, *SIGNS), TWO),
     "controlled current": Symbol((-24, -14, 24, 14), (*DIAMOND, *ARROW), TWO),
     "zener": Symbol((-24, -9, 24, 9), (*DIODE[:2], Stroke("bold", "M3.5 -7L7 -7L7 7L10.5 7")), TWO),
+    "tvs": Symbol((-24, -9, 24, 9), (Stroke("line", "M-24 0L-12 0M12 0L24 0"), Stroke("body", "M-12 -7L-12 7L0 0Z"),
+                                    Stroke("body", "M12 -7L12 7L0 0Z"), Stroke("bold", "M-3 -9L0 -7L0 7L3 9")), TWO),
     "schottky": Symbol((-24, -9, 24, 9), (*DIODE[:2], Stroke("bold", "M11 -4L11 -7L7 -7L7 7L3 7L3 4")), TWO)}
 BULK = Stroke("line", "M0 0L24 0")  # the fourth pin of a transistor
 TIED = Stroke("line", "M0 0L0 8")  # a bulk that is tied to the source

@@ -23,15 +23,15 @@ def read(data: bytes, name: str, form: str | None = None, inner: str | None = No
     name : str
         Its name, for messages; the sheets of a KiCad hierarchy are looked for beside it.
     form : str, optional
-        One of `FORMS`: a KiCad schematic or netlist, JSON of yosys, or a SPICE netlist; found from the content by default.
+        One of `FORMS`; found from the content by default.
     inner : str, optional
-        The name of a sheet of a KiCad hierarchy, of a module, or of a subcircuit; by default the root, the top module, or what
-        is outside all subcircuits.
+        The name of a sheet of a KiCad hierarchy, of a module, or of a subcircuit; by default the root, the top module, or all
+        outside subcircuits.
 
     Returns
     -------
     Sheet
-        It has at least one part. Power nets have no flags yet: see `planarbend.schematics.flags.split`.
+        It has at least one part. Power nets have no flags yet (`planarbend.schematics.flags.split`).
 
     Raises
     ------
@@ -43,8 +43,8 @@ def read(data: bytes, name: str, form: str | None = None, inner: str | None = No
     Examples
     --------
     >>> sheet = read(b"A divider\\nR1 in out 10k\\nR2 out 0 22k\\nV1 in 0 5\\n.end\\n", "divider.cir")
-    >>> [(part.ref, part.kind.value, [pin.net for pin in part.pins]) for part in sheet.parts]
-    [('R1', 'resistor', ['in', 'out']), ('R2', 'resistor', ['out', '0']), ('V1', 'source', ['in', '0'])]
+    >>> [(part.ref, part.kind.value, {pin.number: pin.net for pin in part.pins}) for part in sheet.parts[:2]]
+    [('R1', 'resistor', {'2': 'out', '1': 'in'}), ('R2', 'resistor', {'2': '0', '1': 'out'})]
     """
     if form is not None and form not in READERS:
         raise ValueError(f"no such format: {form} (known: {', '.join(FORMS)})")

@@ -85,7 +85,9 @@ def placed_of(one: Expression, symbols: dict[str, Symbol], names: dict[str, tupl
     reference, unit = names.get(one.value("uuid") or "", (fields.get("Reference", ""), whole_number(one, "unit", 1)))
     (x, y), turns = place_of(one)
     style = whole_number(one, "convert", whole_number(one, "body_style", 1))
-    pins = [(pin, moved(pin.at, (x, -y), turns, one.value("mirror"))) for pin in symbol.of_unit(unit, style)]
+    chosen = {pin.words[1]: pin.value("alternate") or "" for pin in one.all("pin") if len(pin.words) > 1}
+    pins = [(pin.as_alternate(chosen.get(pin.pin.number, "")), moved(pin.at, (x, -y), turns, one.value("mirror")))
+            for pin in symbol.of_unit(unit, style)]
     if symbol.unit_count > 1:
         reference += LETTERS[unit - 1] if 0 < unit <= len(LETTERS) else f".{unit}"
     value = fields.get("Value", "")
@@ -156,5 +158,6 @@ def box_of(one: Expression) -> Placed:
 
 
 def names_of(fields: dict[str, str]) -> tuple[str, str]:
-    """Return the name and the file of a sheet inside a sheet."""
-    return fields.get("Sheetname", fields.get("Sheet name", "")), fields.get("Sheetfile", fields.get("Sheet file", ""))
+    """Return the name and the file of a sheet inside a sheet: its first two fields, whose names version 6 translates."""
+    first, second, *_ = [*fields.values(), "", ""]
+    return fields.get("Sheetname", first), fields.get("Sheetfile", second)

@@ -21,7 +21,7 @@ ARROWS = {frozenset("BCE"): ("E", Kind.NPN, Kind.PNP), frozenset("GDS"): ("G", K
 
 @dataclasses.dataclass(slots=True)
 class Piece:
-    """Pins that wires join: the places of parts and pins; its labels in order of precedence, and its power nets."""
+    """Pins that wires join: the places of parts and pins; its labels, and the names of its power symbols."""
 
     pins: list[tuple[int, int]] = dataclasses.field(default_factory=list)
     labels: list[Label] = dataclasses.field(default_factory=list)
@@ -69,7 +69,7 @@ class Wiring:
         for place, part in enumerate(parts):
             for at, (pin, point) in enumerate(part.pins):
                 found[self.joints.find(self.place(point, pin.pin.name if part.is_sheet else ""))].pins.append((place, at))
-        for label in sorted(self.page.labels, key=lambda one: one.rank):
+        for label in self.page.labels:
             found[self.joints.find(self.place(label.at, label.name))].labels.append(label)
         for one in self.page.placed:
             if one.is_power:
@@ -89,6 +89,8 @@ def sheet_of(page: Page, name: str) -> Sheet:
     found = Sheet(name, notes=list(wiring.notes()))
     placed = [shown_pins(one, wiring, found) for one in page.placed if one.is_part or one.is_sheet]
     found.parts = [part_of(one, found) for one in placed]
+    counts = collections.Counter(part.ref for part in found.parts)
+    found.notes += (f"{count} parts have the reference {ref}" for ref, count in counts.items() if count > 1)
     for pieces in nets_of(wiring.pieces(placed)):
         add_net(found, pieces, placed)
     for one, part in zip(placed, found.parts):

@@ -22,13 +22,22 @@ Point = tuple[int, int]
 
 @dataclass(frozen=True, slots=True)
 class LibraryPin:
-    """A pin of a library symbol: `at` is where wires reach it; it belongs to a unit and a body style."""
+    """A pin of a library symbol: `at` is where wires reach it; it belongs to a unit and a body style. `alternates` are the types
+    and shapes of its other functions, by their names."""
 
     pin: Pin
     at: Point
     unit: int
     style: int
     is_hidden: bool
+    alternates: dict[str, tuple[str, str]] = field(default_factory=dict, compare=False)
+
+    def as_alternate(self, name: str) -> LibraryPin:
+        """Return the pin in another function, or itself if it does not have one of this name."""
+        if name not in self.alternates:
+            return self
+        etype, shape = self.alternates[name]
+        return dataclasses.replace(self, pin=dataclasses.replace(self.pin, name=name, etype=etype, shape=shape))
 
 
 @dataclass(slots=True)
@@ -147,7 +156,8 @@ def library_pin(pin: Expression, unit: int, style: int) -> LibraryPin:
     at, turns = place_of(pin)
     name = text_of(pin, "name")
     found = Pin(text_of(pin, "number"), "" if name in UNNAMED else name, (turns + 2) % 4, pin.words[1], None, pin.words[2])
-    return LibraryPin(found, at, unit, style, is_set(pin, "hide"))
+    alternates = {one.words[1]: (one.words[2], one.words[3]) for one in pin.all("alternate") if len(one.words) > 3}
+    return LibraryPin(found, at, unit, style, is_set(pin, "hide"), alternates)
 
 
 def text_of(pin: Expression, head: str) -> str:

@@ -23,7 +23,8 @@ POLARITY = [(Kind.PNP, re.compile(r"(?i)(?<![a-z])PNP(?![a-z])")), (Kind.NPN, re
 JUNCTION = [(Kind.NJF, re.compile(r"(?i)(?<![a-z])N-?J-?FET|\bN-?channel\b.*\bJ-?FET")),
             (Kind.PJF, re.compile(r"(?i)(?<![a-z])P-?J-?FET|\bP-?channel\b.*\bJ-?FET"))]
 IS_JUNCTION = re.compile(r"(?i)J-?FET|\bjunction")
-DIODES = [("zener", re.compile(r"(?i)zener")), ("schottky", re.compile(r"(?i)schottky"))]
+DIODES = {Kind.DIODE: (("zener", re.compile(r"(?i)zener")), ("schottky", re.compile(r"(?i)schottky"))),
+          Kind.TWO: (("tvs", re.compile(r"(?i)(?:\b|_)TVS(?:\b|_)|bidirectional|diac\b")),)}  # in both directions alike
 
 # Gates by the numbers of the families 74 and 4000, and by words of descriptions.
 GATES_74 = {"00": "nand", "01": "nand", "03": "nand", "10": "nand", "12": "nand", "20": "nand", "30": "nand", "37": "nand",
@@ -62,7 +63,8 @@ def kind_of(words: str, prefix: str, pins: Sequence[Pin]) -> tuple[Kind, str]:
         return Kind.GATE, form
     if len(pins) == 2 and len(sides) == 2 and sum(sides) % 2 == 0:
         kind = of_two(words, prefix, pins)
-        return kind, next((form for form, pattern in DIODES if kind is Kind.DIODE and pattern.search(words)), "")
+        forms = DIODES.get(kind, ()) if prefix == "D" else ()
+        return kind, next((form for form, pattern in forms if pattern.search(words)), "")
     if len(pins) == 3 and len(sides) == 3:
         found = transistor(words, pins)
         if found is None and prefix in POTS and POTENTIOMETER.search(words):
