@@ -2,14 +2,11 @@
 from __future__ import annotations
 
 import importlib.util
-import itertools
-import math
 import os
 import random
 import subprocess
 import sys
 import unittest
-from collections.abc import Iterator
 from unittest import mock
 
 import support
@@ -43,6 +40,14 @@ for one in wirings_of(part_of_sheet(sheet, components(sheet)[0]), seed=5):
     wiring = one.embedding
     print(wiring.crossings, wiring.origin, wiring.onward, wiring.edge, wiring.dart_of, wiring.is_mirrored, wiring.places)
 """
+
+
+def setUpModule() -> None:
+    """Search for as short a time as is enough for these sheets."""
+    for name, value in (("WORK", 150_000), ("LEAST_STARTS", 4)):
+        patch = mock.patch(f"planarbend.schematics.wirings.{name}", value)
+        patch.start()
+        unittest.addModuleCleanup(patch.stop)
 
 
 def box(ref: str, sides: list[int], nets: list[str], **more) -> Part:
@@ -414,68 +419,89 @@ class Directions(unittest.TestCase):
 
 
 def best_of_all(turning: Turning, outer: int, is_wished: bool) -> float:
-    """The least cost for an outer face, by a mixed-integer program: angles at junctions, turns of wires, the directions of
-    darts modulo whole turns, faces that turn by 4. It shares no variable with the circulation."""
-    wiring = turning.wiring
-    names: dict[object, int] = {}
-    low, high, cost, rows = [], [], [], []
-
-    def name(key: object, least: float = -60, most: float = 60, price: float = 0) -> int:
-        if key not in names:
-            names[key] = len(names)
-            low.append(least)
-            high.append(most)
-            cost.append(price)
-        return names[key]
-
-    def equal(terms: list[tuple[int, float]], value: float) -> None:
-        rows.append((terms, value))
-
-    def angle(dart: int) -> tuple[list[tuple[int, float]], float]:
-        """The corner at the end of a dart: terms and a constant."""
-        vertex, after = wiring.origin[dart ^ 1], wiring.onward[dart]
-        if vertex >= wiring.vertex_count:
-            return ([(name(("angle", dart), 1, 2), 1)], 0) if wiring.is_junction(vertex) else ([], 1)
-        places = wiring.pins_of[vertex]
-        one, other = places.index(wiring.pin_at[after]), places.index(wiring.pin_at[dart ^ 1])
-        sides = [pin.side for pin in turning.parts[vertex].pins]
-        return [], sides[other] - sides[one] + (4 if other <= one else 0)
-
-    def turn(dart: int) -> list[tuple[int, float]]:
-        return [(name(("left", dart), 0, 60, 1), 1), (name(("left", dart ^ 1), 0, 60, 1), -1)]
-
+    """The least cost for an outer face, by a mixed-integer program of the angles at junctions, the turns of wires, the
+    directions of darts and how often parts turn as a whole. It shares no variable with the circulation."""
+    program = Integers(turning)
     for face, walk in enumerate(turning.walks):
         terms, total = [], 0.0
         for dart in walk:
-            some, constant = angle(dart)
-            terms += turn(dart) + [(variable, -value) for variable, value in some]
+            some, constant = program.angle(dart)
+            terms += program.turn(dart) + [(variable, -value) for variable, value in some]
             total += 2 - constant
-        equal(terms, (-4 if face == outer else 4) - total)
-    for vertex, darts in rotation_of(wiring).items():
-        if wiring.is_junction(vertex):
-            equal([term for dart in darts for term in angle(dart ^ 1)[0]], 4)
-        for one, after in zip(darts, darts[1:]):  # counter-clockwise: the corner between them is at the end of after's twin
-            some, constant = angle(after ^ 1)
-            equal([(name(("heads", after)), 1), (name(("heads", one)), -1), *((term, -value) for term, value in some)], constant)
+        program.equal(terms, (-4 if face == outer else 4) - total)
+    for vertex, darts in rotation_of(turning.wiring).items():
+        if turning.wiring.is_junction(vertex):
+            program.equal([term for dart in darts for term in program.angle(dart ^ 1)[0]], 4)
+        for one, after in zip(darts, darts[1:]):  # the corner between them is at the end of the twin of `after`
+            some, constant = program.angle(after ^ 1)
+            program.equal([(program.name(("heads", after)), 1), (program.name(("heads", one)), -1),
+                           *((term, -value) for term, value in some)], constant)
     for dart in turning.darts:
-        equal([(name(("heads", dart ^ 1)), 1), (name(("heads", dart)), -1), (name(("whole", dart)), -4),
-               *((term, -value) for term, value in turn(dart))], -2)
+        program.equal([(program.name(("heads", dart ^ 1)), 1), (program.name(("heads", dart)), -1),
+                       (program.name(("whole", dart)), -4), *((term, -value) for term, value in program.turn(dart))], -2)
     for wish in turning.wishes if is_wished else ():
-        pin = next(pin for pin in wiring.pins_of[wish.variable] if wiring.dart_of[pin] != NONE)
-        side = turning.parts[wish.variable].pins[wiring.pins_of[wish.variable].index(pin)].side
+        program.wish(wish)
+    return program.least()
+
+
+class Integers:
+    """A mixed-integer program of the shape of a wiring."""
+
+    def __init__(self, turning: Turning) -> None:
+        self.turning, self.wiring = turning, turning.wiring
+        self.names: dict[object, int] = {}
+        self.low, self.high, self.cost, self.rows = [], [], [], []
+
+    def name(self, key: object, least: float = -60, most: float = 60, price: float = 0) -> int:
+        """The number of a variable."""
+        if key not in self.names:
+            self.names[key] = len(self.names)
+            self.low.append(least)
+            self.high.append(most)
+            self.cost.append(price)
+        return self.names[key]
+
+    def equal(self, terms: list[tuple[int, float]], value: float) -> None:
+        """A sum has a value."""
+        self.rows.append((terms, value))
+
+    def angle(self, dart: int) -> tuple[list[tuple[int, float]], float]:
+        """The corner at the end of a dart: terms and a constant."""
+        wiring = self.wiring
+        vertex, after = wiring.origin[dart ^ 1], wiring.onward[dart]
+        if vertex >= wiring.vertex_count:
+            return ([(self.name(("angle", dart), 1, 2), 1)], 0) if wiring.is_junction(vertex) else ([], 1)
+        places = wiring.pins_of[vertex]
+        one, other = places.index(wiring.pin_at[after]), places.index(wiring.pin_at[dart ^ 1])
+        sides = [pin.side for pin in self.turning.parts[vertex].pins]
+        return [], sides[other] - sides[one] + (4 if other <= one else 0)
+
+    def turn(self, dart: int) -> list[tuple[int, float]]:
+        """How much a dart turns to the left."""
+        return [(self.name(("left", dart), 0, 60, 1), 1), (self.name(("left", dart ^ 1), 0, 60, 1), -1)]
+
+    def wish(self, wish: Wish) -> None:
+        """A part has the direction that is wanted, or pays for the distance."""
+        wiring, part = self.wiring, wish.variable
+        pin = next(pin for pin in wiring.pins_of[part] if wiring.dart_of[pin] != NONE)
+        side = self.turning.parts[part].pins[wiring.pins_of[part].index(pin)].side
         most, price = (0, 0) if wish.weight is None else (60, wish.weight)
-        equal([(name(("heads", wiring.dart_of[pin])), 1), (name(("turns", wish.variable)), -wish.period),
-               (name(("more", wish.variable), 0, most, price), -1), (name(("less", wish.variable), 0, most, price), 1)],
-              side + wish.want)
-    matrix = numpy.zeros((len(rows), len(names)))
-    for place, (terms, _) in enumerate(rows):
-        for variable, value in terms:
-            matrix[place, variable] += value
-    values = numpy.array([value for _, value in rows], dtype=float)
-    found = milp(numpy.array(cost, dtype=float), integrality=numpy.ones(len(names)), bounds=Bounds(low, high),
-                 constraints=LinearConstraint(matrix, values, values), options={"presolve": False})  # HiGHS 1.2 calls some of these infeasible
-    assert found.status == 0, found.message
-    return float(found.fun)
+        self.equal([(self.name(("heads", wiring.dart_of[pin])), 1), (self.name(("turns", part)), -wish.period),
+                    (self.name(("more", part), 0, most, price), -1), (self.name(("less", part), 0, most, price), 1)],
+                   side + wish.want)
+
+    def least(self) -> float:
+        """The least cost."""
+        matrix = numpy.zeros((len(self.rows), len(self.names)))
+        for place, (terms, _) in enumerate(self.rows):
+            for variable, value in terms:
+                matrix[place, variable] += value
+        values = numpy.array([value for _, value in self.rows], dtype=float)
+        found = milp(numpy.array(self.cost, dtype=float), integrality=numpy.ones(len(self.names)),
+                     bounds=Bounds(self.low, self.high), constraints=LinearConstraint(matrix, values, values),
+                     options={"presolve": False})  # HiGHS 1.2 calls some of these infeasible
+        assert found.status == 0, found.message
+        return float(found.fun)
 
 
 @needs_scipy

@@ -4,19 +4,19 @@ from __future__ import annotations
 import math
 from dataclasses import dataclass, field
 
-from planarbend.drawing.texts import width_of
-from planarbend.schematics.boxes import Needs, has_circle, needs_of
+from planarbend.schematics.boxes import Needs, needs_of, outside
 from planarbend.schematics.drawn import STUB
 from planarbend.schematics.parts import EAST, NORTH, SOUTH, TURNED_OVER, WEST, Kind, Part
-from planarbend.schematics.shapes import APART, NUMBER, Shape, Text, beside, shape_of, step
+from planarbend.schematics.shapes import APART, Shape, Text, beside, shape_of, step
 from planarbend.schematics.skeleton import Skeleton
 from planarbend.schematics.strokes import Box, Pose
-from planarbend.schematics.symbols import BUBBLE, REACH
+from planarbend.schematics.symbols import REACH
 from planarbend.schematics.wiring import pose
 
 COLUMN = 12  # pixels between jogs beside a symbol
 FREE = 12  # pixels around a box that lines keep anyway
-CLEAR = 5  # pixels around the number of a pin
+CLEAR = 3  # pixels around the number of a pin
+CIRCLE = 6  # pixels of the circle of an inverted pin: it belongs to the box
 
 
 @dataclass(slots=True)
@@ -90,12 +90,10 @@ class Figure:
 
     def outside(self, side: int) -> float:
         """Return how far what is outside a box reaches beyond the room that lines keep anyway."""
-        found = 0.0
-        for place in self.on_side(side) if self.needs is not None else ():
-            pin = self.part.pins[place]
-            circle = 2 * BUBBLE if has_circle(pin) else 0.0
-            found = max(found, circle, circle + width_of(pin.number, NUMBER) + CLEAR - FREE)
-        return math.ceil(found)
+        if self.needs is None:
+            return 0.0
+        reach = outside(self.part, self.pose, side)
+        return math.ceil(max(min(reach, CIRCLE), reach + CLEAR - FREE)) if reach else 0.0
 
     def levels(self) -> dict[int, tuple[float, float]]:
         """Return the pins of a symbol of fixed size, by their places: from its left upper corner."""

@@ -14,7 +14,7 @@ def solved(cost: Any, what: str, **demands: Any) -> Any:
     ArithmeticError
         HiGHS finds none, nor does it without its presolve: that of HiGHS 1.2 calls some feasible programs infeasible.
     """
-    found = None
+    found: Any = None
     for presolve in (True, False):
         found = linprog(cost, method="highs-ds", options={"presolve": presolve}, **demands)
         if found.status == 0:

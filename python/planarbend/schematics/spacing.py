@@ -25,8 +25,8 @@ LEAST = 12.0  # pixels of a segment between two corners or junctions
 STEM = 8.0  # pixels of a segment at a pin
 SIZE_WEIGHT = 3.0  # of the size of a box, to that of a wire's length
 LEVEL_WEIGHT = 6.0  # of pins of a symbol that are not level with their wires
-PASSES = (0, 1, 0, 1, 0, 1, 0, 1)
-FITTED = (4, 6)  # passes before which boxes that are too large get room for jogs
+PASSES = (0, 1) * 5
+FITTED = (4, 6, 8)  # passes before which boxes that are too large get room for jogs
 SAME = 1e-6
 
 Place = tuple[int, float]  # a coordinate and what is added to it
