@@ -13,11 +13,11 @@ use Rattle.ortho_rep.specs.declared.turn.TheConstants.{MAX_REPEATS}
 use Rattle.faces.specs.Planes.{PlaneModel, HasEnds, darts, vertices, head, reverse_dart, face_at}
 use Rattle.flow_network.specs.Given.{GivenModel, CanBeGiven, nothing_given, turns_given, turns_in_all}
 use Rattle.flow_network.proofs.GivenParts.{left_part, right_part, left_back, both_parts, all_parts}
-use Rattle.ortho_rep.specs.Keeping.{one_way}
 use Rattle.ortho_rep.specs.Turns.{lefts, rights}
 use Rattle.ortho_rep.specs.Representation.{Rep, whole_turn}
 use Rattle.ortho_rep.specs.Prices.{AreTurnsPriced, AreTurnsKept, ProveKeeping, Prove}
-use Rattle.ortho_rep.proofs.TurnCounts.{lefts-add-rights, lefts-lefts_only, lefts-rights_only}
+use Rattle.ortho_rep.proofs.TurnCounts.{lefts-add-rights}
+use Rattle.ortho_rep.proofs.GivenFlow.{lefts_one_way}
 use Rattle.ortho_rep.proofs.WeakDuality.{weighed, part_at, paired, left_sums, right_sums, turning-split, lefts_of, rights_are}
 
 -- 1 where the price is at most k
@@ -96,11 +96,6 @@ low_faces p a s w ends rep few =
         let same : pos (left_sums p a s f) -ℤ pos (right_sums p a s f) ≡ whole_turn p f = sym (turning-split p a s f) ∙ rep.faces f b in
         let top : whole_turn p f ≤ℤ pos 4 = whole_turn-le (eqb f p.outer) in
         omega (arith, ints)
-
--- given turns to the left are as many as are given
-pub lefts_one_way : (t : ℤ) → lefts (one_way t) ≡ left_part (Some t)
-lefts_one_way (pos n) = lefts-lefts_only n
-lefts_one_way (negsuc n) = lefts-rights_only (n + 1)
 
 -- what crosses into a low face comes from one, or is given
 low_crossing : (given : Option ℤ) (k : ℤ) (turns : List Turn) (face across : ℤ) → AreTurnsKept given turns face across → low k across * lefts turns ≤ low k face * lefts turns + left_part given

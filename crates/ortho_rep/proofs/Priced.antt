@@ -49,3 +49,14 @@ plain_angle p a s v q d priced = priced.angle
 
 pub plain_turns : (p : PlaneModel) (a : ℕ → ℕ) (s : ℕ → List Turn) (v q : ℕ → ℤ) (d : ℕ) → IsPricedAt p nothing_given a s v q d → AreTurnsPriced (s d) (q (face_at p d)) (q (face_at p (reverse_dart p d)))
 plain_turns p a s v q d priced = subst (λ (g : Option ℤ). AreTurnsKept g (s d) (q (face_at p d)) (q (face_at p (reverse_dart p d)))) (none_along p d) priced.turns
+
+-- what is kept at equal values
+pub angle_moved : (g g' : Option ℕ) (a b : ℕ) (v v' f f' : ℤ) → g ≡ g' → a ≡ b → v ≡ v' → f ≡ f' → IsAngleKept g a v f → IsAngleKept g' b v' f'
+angle_moved g g' a b v v' f f' eg ea ev ef h =
+    subst (λ (z : ℤ). IsAngleKept g' b v' z) ef
+    (subst (λ (z : ℤ). IsAngleKept g' b z f) ev (subst (λ (k : ℕ). IsAngleKept g' k v f) ea (subst (λ (k : Option ℕ). IsAngleKept k a v f) eg h)))
+
+pub turns_moved : (g g' : Option ℤ) (s t : List Turn) (f f' c c' : ℤ) → g ≡ g' → s ≡ t → f ≡ f' → c ≡ c' → AreTurnsKept g s f c → AreTurnsKept g' t f' c'
+turns_moved g g' s t f f' c c' eg es ef ec h =
+    subst (λ (z : ℤ). AreTurnsKept g' t f' z) ec
+    (subst (λ (z : ℤ). AreTurnsKept g' t z c) ef (subst (λ (k : List Turn). AreTurnsKept g' k f c) es (subst (λ (k : Option ℤ). AreTurnsKept k s f c) eg h)))

@@ -104,8 +104,11 @@ fn are_one_way(turns: &[Turn], lefts: i32) -> bool
     ensures { IsTrue result ↔ (turns.now ≡ one_way lefts) }
 {
     let count = lefts.unsigned_abs() as usize;
-    let turn = if lefts < 0 { Turn::Right } else { Turn::Left };
-    turns.len() == count && turns.iter().all(|made| *made == turn)
+    if turns.len() != count {
+        return false;
+    }
+    let made = count_lefts(turns);
+    if lefts < 0 { made == 0 } else { made == count }
 }
 
 /// Whether an angle agrees with the prices of its vertex and its face.

@@ -1,15 +1,16 @@
 //! Orthogonal representations with the fewest bends (least shapes), by a flow of least cost (Tamassia 1987), also among those
 //! that keep what is given.
 
-ghost use Rattle.std.specs.Prelude.{◌≡◌, ◌+◌, ◌<◌, ◌≤◌, ◌++◌, ℕ, nat_abs, None, OnOk, IfOk, IfErr, length, map, replicate, slice_index, slice_index_or, vec_len, ◌^◌};
+ghost use Rattle.std.specs.Prelude.{◌≡◌, ◌+◌, ◌<◌, ◌≤◌, ◌++◌, nat_abs, OnOk, IfOk, IfErr, length, map, replicate, slice_index, slice_index_or, vec_len, ◌^◌};
 ghost use Rattle.std.specs.List.{range_with_len};
-ghost use Rattle.faces.specs.Planes.{darts, vertices, reverse_dart};
+ghost use Rattle.faces.specs.Planes.{darts, vertices};
+ghost use Rattle.networks.specs.Networks.{node_count};
 ghost use Rattle.networks.specs.Flow.{Solves, amounts, at_nodes};
-ghost use Rattle.flow_network.specs.Given.{GivenModel, nothing_given, turns_given};
+ghost use Rattle.flow_network.specs.Given.{CanBeGiven, nothing_given};
 ghost use Rattle.flow_network.specs.declared.given.TheConstants.{MAX_GIVEN_TURNS};
 ghost use Rattle.flow_network.specs.FaceNet.{IsKeepingNetOf};
 ghost use Rattle.ortho_rep.specs.declared.turn.TheConstants.{MAX_REPEATS};
-ghost use Rattle.ortho_rep.specs.OfFlow.{lefts_then_rights, angles_of, strings_of};
+ghost use Rattle.ortho_rep.specs.OfFlow.{angles_of, strings_of};
 ghost use Rattle.ortho_rep.specs.Repeats.{turns_in, AreRepeats, HaveShapes};
 ghost use Rattle.ortho_rep.specs.Representation.{IsShape, IsLeast};
 ghost use Rattle.ortho_rep.specs.Keeping.{one_way, IsLeastKeeping, HasNoneKeeping};
@@ -89,8 +90,9 @@ pub fn least_shape_keeping_in(
     ensures none { IfErr result (λ fault. fault ≡ SolveFault.Infeasible → HasNoneKeeping plane.now given.now) }
     ensures always { given.now ≡ nothing_given → IfErr result (λ fault. fault ≡ SolveFault.Memory) }
 {
-    // Only the proof needs this: `graph` says that the plane is one.
+    // Only the proof needs these: `graph` says that the plane is one, `is_nothing` that the lists can be given.
     let _graph = plane.graph();
+    let _nothing = given.is_nothing();
     let net = FaceNet::build_keeping_in(alloc, &mut scratch.net, plane, given)?;
     let solved = solve_in(alloc, &mut scratch.solver, net.network())?;
     let made = shape_in(alloc, &mut scratch.lists, plane, given, &net, &solved)?;
@@ -114,11 +116,13 @@ pub(crate) fn shape_in(
     ensures least { IfOk result (λ found. IsLeastKeeping plane.now given.now found.0) }
     ensures proof { IfOk result (λ found. IsProofKeeping plane.now given.now found.0 found.1) }
 {
+    // Only the proof needs this: `is_nothing` says that the lists can be given.
+    let _nothing = given.is_nothing();
     let vertices = plane.graph().vertices();
     let lent = mem::replace(&mut lists.darts, Vec::new(alloc));
     let darts = darts_in(lent, plane, given, net, solved)?;
     let lent = mem::replace(&mut lists.prices, Vec::new(alloc));
-    let prices = prices_in(lent, plane, given, net, solved)?;
+    let prices = prices_in(lent, plane, net, solved)?;
     Ok((
         Shape::of_darts(darts),
         Prices::concatenated(prices, usize::from(vertices)),
@@ -141,6 +145,7 @@ fn darts_in(
     net: &FaceNet,
     solved: &Solved,
 ) -> Result<Vec<DartShape>, AllocError>
+    requires can { CanBeGiven given.now.angles given.now.turns }
     requires net { IsKeepingNetOf plane.now given.now net.now }
     requires solves { Solves net.now.network solved.now }
     ensures repeats { IfOk result (λ found. AreRepeats found.items) }
@@ -150,37 +155,59 @@ fn darts_in(
     let darts = plane.graph().darts();
     let mut found = emptied(lent, usize::from(darts))?;
     for dart in 0..darts {
-        found.push(dart_shape(plane, given, net, solved, dart))?;
+        let angle = dart_angle(plane, given, net, solved, dart);
+        let (turn, count) = dart_turns(plane, given, net, solved, dart);
+        found.push(DartShape { angle, turn, count })?;
     }
     Ok(found)
 }
 
-/// The angle and the turns of a dart: what is given, or else what a flow has.
-fn dart_shape(
+/// The angle of a dart: what is given, or else one right angle and what its corner arc carries.
+fn dart_angle(
     plane: &Plane,
     given: &Given<'_>,
     net: &FaceNet,
     solved: &Solved,
     dart: u16,
-) -> DartShape
+) -> u8
     requires net { IsKeepingNetOf plane.now given.now net.now }
     requires solves { Solves net.now.network solved.now }
     requires within { dart < darts plane.now }
-    ensures angle { result.angle ≡ angles_of given.now (amounts solved.now.flow) dart }
-    ensures turns { turns_in result ≡ strings_of plane.now given.now (amounts solved.now.flow) dart }
-    ensures short { result.count ≤ MAX_REPEATS }
+    ensures { result ≡ angles_of given.now (amounts solved.now.flow) dart }
+{
+    match given.angle(dart) {
+        Some(angle) => angle,
+        None => solved.flow(net.corner_arc(dart)) as u8 + 1,
+    }
+}
+
+/// Which way a dart turns, and how often: what is given, or else what crosses its edge. No least flow crosses an edge both
+/// ways, so all are left turns or all are right turns.
+fn dart_turns(
+    plane: &Plane,
+    given: &Given<'_>,
+    net: &FaceNet,
+    solved: &Solved,
+    dart: u16,
+) -> (Turn, u16)
+    requires can { CanBeGiven given.now.angles given.now.turns }
+    requires net { IsKeepingNetOf plane.now given.now net.now }
+    requires solves { Solves net.now.network solved.now }
+    requires within { dart < darts plane.now }
+    ensures turns { replicate result.1 result.0 ≡ strings_of plane.now given.now (amounts solved.now.flow) dart }
+    ensures short { result.1 ≤ MAX_REPEATS }
 {
     // Only the proof needs this: `outer` says that there is a face.
     let _outer = plane.outer();
-    let angle = match given.angle(dart) {
-        Some(angle) => angle,
-        None => solved.flow(net.corner_arc(dart)) as u8 + 1,
-    };
-    let (turn, count) = match given.turns(plane, dart) {
-        Some(turns) => given_turns(turns),
-        None => flow_turns(plane, net, solved, dart),
-    };
-    DartShape { angle, turn, count }
+    if let Some(turns) = given.turns(plane, dart) {
+        return given_turns(turns);
+    }
+    let lefts = crossing_flow(net, solved, dart);
+    if lefts > 0 {
+        return (Turn::Left, lefts as u16);
+    }
+    let rights = crossing_flow(net, solved, plane.graph().reverse(dart));
+    (Turn::Right, rights as u16)
 }
 
 /// Which way given turns go, and how many they are.
@@ -196,33 +223,14 @@ fn given_turns(turns: i32) -> (Turn, u16)
     }
 }
 
-/// Which way a dart turns in a flow, and how often. No least flow uses an edge both ways, so all are left turns or all are
-/// right turns.
-fn flow_turns(plane: &Plane, net: &FaceNet, solved: &Solved, dart: u16) -> (Turn, u16)
-    requires net { (given : GivenModel) × (IsKeepingNetOf plane.now given net.now) × (turns_given plane.now given dart ≡ None) }
-    requires solves { Solves net.now.network solved.now }
-    requires within { dart < darts plane.now }
-    ensures turns { replicate result.1 result.0 ≡ lefts_then_rights (amounts solved.now.flow (darts plane.now + dart))
-        (amounts solved.now.flow (darts plane.now + reverse_dart plane.now dart)) }
-    ensures short { result.1 ≤ MAX_REPEATS }
-{
-    let lefts = crossing_flow(net, solved, dart);
-    if lefts > 0 {
-        return (Turn::Left, lefts as u16);
-    }
-    let rights = crossing_flow(net, solved, plane.graph().reverse(dart));
-    (Turn::Right, rights as u16)
-}
-
 /// The potentials of the vertices followed by those of the faces, as in the network, in the buffer of one list.
 fn prices_in(
     lent: Vec<i32>,
     plane: &Plane,
-    given: &Given<'_>,
     net: &FaceNet,
     solved: &Solved,
 ) -> Result<Vec<i32>, AllocError>
-    requires net { IsKeepingNetOf plane.now given.now net.now }
+    requires nodes { node_count net.now.network ≡ vertices plane.now + plane.now.faces }
     requires solves { Solves net.now.network solved.now }
     ensures { IfOk result (λ prices. prices.items
         ≡ map (at_nodes solved.now.potential) (range_with_len 0 (vertices plane.now + plane.now.faces))) }
