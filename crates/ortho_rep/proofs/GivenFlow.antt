@@ -1,8 +1,9 @@
 -- What a flow carries and what is given, of one dart: an angle and its turns are the two together, since nothing flows where
 -- something is given.
 use Rattle.std.proofs.Common.{◌≡◌, ℕ, zero, suc, ◌+◌, ◌-◌, ◌≤◌, List, length, replicate, ◌∙◌, refl, sym, ap, subst, inl, inr, arith}
-use Rattle.std.specs.Prelude.{ℤ, pos, negsuc, neg_ℤ, nat_abs, Option, Some, None}
+use Rattle.std.specs.Prelude.{ℤ, pos, negsuc, neg_ℤ, nat_abs, ◌<ℤ◌, ◌≤ℤ◌, Option, Some, None}
 use Rattle.std.proofs.lemmas.Bool.{cases_lt}
+use Rattle.std.proofs.lemmas.Int.{ints}
 use Rattle.std.proofs.lemmas.List.{get_or_past, length-replicate}
 use Rattle.networks.specs.Flow.{IsWithinCap}
 use Rattle.ortho_rep.specs.declared.turn.Turn.{Turn}
@@ -100,3 +101,11 @@ one_way_by_counts (negsuc n) turns long left = lefts-none turns left ∙ ap (λ 
   where
     more : (n : ℕ) → nat_abs (negsuc n) ≡ n + 1
     more n = omega arith
+
+pub left_part_right : (t : ℤ) → t <ℤ pos 0 → left_part (Some t) ≡ 0
+left_part_right (pos n) less = absurd (omega (arith, ints, less))
+left_part_right (negsuc n) less = refl
+
+pub left_part_left : (t : ℤ) → pos 0 ≤ℤ t → left_part (Some t) ≡ nat_abs t
+left_part_left (pos n) more = refl
+left_part_left (negsuc n) more = absurd (omega (arith, ints, more))

@@ -1,16 +1,16 @@
 //! Orthogonal representations with the fewest bends (least shapes), by a flow of least cost (Tamassia 1987), also among those
 //! that keep what is given.
 
-ghost use Rattle.std.specs.Prelude.{◌≡◌, ◌+◌, ◌<◌, ◌≤◌, ◌++◌, nat_abs, OnOk, IfOk, IfErr, length, map, replicate, slice_index, slice_index_or, vec_len, ◌^◌};
+ghost use Rattle.std.specs.Prelude.{◌≡◌, ◌+◌, ◌<◌, ◌≤◌, ◌++◌, nat_abs, None, OnOk, IfOk, IfErr, length, map, replicate, slice_index, slice_index_or, vec_len, ◌^◌};
 ghost use Rattle.std.specs.List.{range_with_len};
-ghost use Rattle.faces.specs.Planes.{darts, vertices};
+ghost use Rattle.faces.specs.Planes.{darts, vertices, reverse_dart};
 ghost use Rattle.networks.specs.Networks.{node_count};
 ghost use Rattle.networks.specs.Flow.{Solves, amounts, at_nodes};
-ghost use Rattle.flow_network.specs.Given.{CanBeGiven, nothing_given};
+ghost use Rattle.flow_network.specs.Given.{CanBeGiven, nothing_given, turns_given};
 ghost use Rattle.flow_network.specs.declared.given.TheConstants.{MAX_GIVEN_TURNS};
 ghost use Rattle.flow_network.specs.FaceNet.{IsKeepingNetOf};
 ghost use Rattle.ortho_rep.specs.declared.turn.TheConstants.{MAX_REPEATS};
-ghost use Rattle.ortho_rep.specs.OfFlow.{angles_of, strings_of};
+ghost use Rattle.ortho_rep.specs.OfFlow.{lefts_then_rights, angles_of, strings_of};
 ghost use Rattle.ortho_rep.specs.Repeats.{turns_in, AreRepeats, HaveShapes};
 ghost use Rattle.ortho_rep.specs.Representation.{IsShape, IsLeast};
 ghost use Rattle.ortho_rep.specs.Keeping.{one_way, IsLeastKeeping, HasNoneKeeping};
@@ -181,8 +181,7 @@ fn dart_angle(
     }
 }
 
-/// Which way a dart turns, and how often: what is given, or else what crosses its edge. No least flow crosses an edge both
-/// ways, so all are left turns or all are right turns.
+/// Which way a dart turns, and how often: what is given, or else what crosses its edge.
 fn dart_turns(
     plane: &Plane,
     given: &Given<'_>,
@@ -197,16 +196,36 @@ fn dart_turns(
     ensures turns { replicate result.1 result.0 ≡ strings_of plane.now given.now (amounts solved.now.flow) dart }
     ensures short { result.1 ≤ MAX_REPEATS }
 {
-    // Only the proof needs this: `outer` says that there is a face.
-    let _outer = plane.outer();
-    if let Some(turns) = given.turns(plane, dart) {
-        return given_turns(turns);
+    match given.turns(plane, dart) {
+        Some(turns) => given_turns(turns),
+        None => flow_turns(plane, given, net, solved, dart),
     }
+}
+
+/// Which way a dart turns whose turns are not given, and how often. No least flow crosses an edge both ways, so all are left
+/// turns or all are right turns.
+fn flow_turns(
+    plane: &Plane,
+    given: &Given<'_>,
+    net: &FaceNet,
+    solved: &Solved,
+    dart: u16,
+) -> (Turn, u16)
+    requires can { CanBeGiven given.now.angles given.now.turns }
+    requires net { IsKeepingNetOf plane.now given.now net.now }
+    requires solves { Solves net.now.network solved.now }
+    requires within { dart < darts plane.now }
+    requires free { turns_given plane.now given.now dart ≡ None }
+    ensures turns { replicate result.1 result.0 ≡ lefts_then_rights (amounts solved.now.flow (darts plane.now + dart))
+        (amounts solved.now.flow (darts plane.now + reverse_dart plane.now dart)) }
+    ensures short { result.1 ≤ MAX_REPEATS }
+{
+    let graph = plane.graph();
     let lefts = crossing_flow(net, solved, dart);
     if lefts > 0 {
         return (Turn::Left, lefts as u16);
     }
-    let rights = crossing_flow(net, solved, plane.graph().reverse(dart));
+    let rights = crossing_flow(net, solved, graph.reverse(dart));
     (Turn::Right, rights as u16)
 }
 

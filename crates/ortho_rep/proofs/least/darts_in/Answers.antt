@@ -12,11 +12,11 @@ loop-dart-preserved c =
     let x = amounts c.args.solved.now.flow in
     let given = c.args.given.now in
     let found = c.loop-dart.found.items in
-    let made = c.dart_turns.result in
+    let made = c.dart_turns-turn.result in
     let one : DartShape = record { angle = c.dart_angle-angle.result; turn = made.0; count = made.1 } in
     rw c.in_ok-push.ensures.items (
-      shapes-more (angles_of given x) (strings_of c.args.plane.now given x) c.loop-dart.dart found one c.loop-dart.invariant.0 c.dart_angle-angle.ensures c.dart_turns.ensures.turns,
-      repeats-more found one c.loop-dart.invariant.1 c.dart_turns.ensures.short,
+      shapes-more (angles_of given x) (strings_of c.args.plane.now given x) c.loop-dart.dart found one c.loop-dart.invariant.0 c.dart_angle-angle.ensures c.dart_turns-turn.ensures.turns,
+      repeats-more found one c.loop-dart.invariant.1 c.dart_turns-turn.ensures.short,
     )
 
 pub returns-clause-flow : goal.returns-clause-flow
