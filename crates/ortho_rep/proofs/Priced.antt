@@ -1,5 +1,5 @@
 -- One dart's prices: what they say whether its angle and its turns are given or not.
-use Rattle.std.proofs.Common.{◌≡◌, ◌<◌, ◌≤◌, ℕ, List, ap, refl, subst, ◌∙◌, arith}
+use Rattle.std.proofs.Common.{◌≡◌, ◌<◌, ◌≤◌, ℕ, List, ap, refl, sym, subst, ◌∙◌, arith}
 use Rattle.std.specs.Prelude.{ℤ, pos, ◌+ℤ◌, ◌-ℤ◌, ◌≤ℤ◌, Option, Some, None}
 use Rattle.ortho_rep.specs.declared.turn.Turn.{Turn}
 use Rattle.ortho_rep.specs.Turns.{lefts}
@@ -49,6 +49,12 @@ plain_angle p a s v q d priced = priced.angle
 
 pub plain_turns : (p : PlaneModel) (a : ℕ → ℕ) (s : ℕ → List Turn) (v q : ℕ → ℤ) (d : ℕ) → IsPricedAt p nothing_given a s v q d → AreTurnsPriced (s d) (q (face_at p d)) (q (face_at p (reverse_dart p d)))
 plain_turns p a s v q d priced = subst (λ (g : Option ℤ). AreTurnsKept g (s d) (q (face_at p d)) (q (face_at p (reverse_dart p d)))) (none_along p d) priced.turns
+
+pub plain_priced : (p : PlaneModel) (a : ℕ → ℕ) (s : ℕ → List Turn) (v q : ℕ → ℤ) (d : ℕ) → IsAnglePriced (a d) (v (head p d)) (q (face_at p d)) → AreTurnsPriced (s d) (q (face_at p d)) (q (face_at p (reverse_dart p d))) → IsPricedAt p nothing_given a s v q d
+plain_priced p a s v q d angle turns = record {
+  angle = angle;
+  turns = subst (λ (g : Option ℤ). AreTurnsKept g (s d) (q (face_at p d)) (q (face_at p (reverse_dart p d)))) (sym (none_along p d)) turns;
+}
 
 -- what is kept at equal values
 pub angle_moved : (g g' : Option ℕ) (a b : ℕ) (v v' f f' : ℤ) → g ≡ g' → a ≡ b → v ≡ v' → f ≡ f' → IsAngleKept g a v f → IsAngleKept g' b v' f'
