@@ -273,12 +273,12 @@ one_sided_of_flow p net x q ends is fit d b left =
     elim (cases_eq (x (darts p + r)) 0) [
       | inl none ↦ none
       | inr some ↦ absurd (omega (
-          arith,
-          ints,
-          tight d b left,
-          tight r (ends.reverse_dart_in_range d b) (omega arith),
-          ap (λ (e : ℕ). q (vertices p + face_at p e)) (ends.reverse_dart_back d b),
-          ))
+        arith,
+        ints,
+        tight d b left,
+        tight r (ends.reverse_dart_in_range d b) (omega arith),
+        ap (λ (e : ℕ). q (vertices p + face_at p e)) (ends.reverse_dart_back d b),
+      ))
     ]
 
 -- the strings of a least-cost flow are short

@@ -36,9 +36,7 @@ pub fn certify_keeping(plane: &Plane, given: &Given<'_>, shape: &Shape, prices: 
     ensures exact { IsTrue result ↔ IsProofKeeping plane.now given.now shape.now prices.now }
     ensures least { IsTrue result → IsShape plane.now shape.now → IsLeastKeeping plane.now given.now shape.now }
 {
-    has_darts(plane, shape)
-        && has_prices(plane, prices)
-        && are_priced(plane, given, shape, prices)
+    has_darts(plane, shape) && has_prices(plane, prices) && are_priced(plane, given, shape, prices)
 }
 
 /// Whether each vertex and each face has a price.

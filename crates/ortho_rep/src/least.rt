@@ -163,13 +163,7 @@ fn darts_in(
 }
 
 /// The angle of a dart: what is given, or else one right angle and what its corner arc carries.
-fn dart_angle(
-    plane: &Plane,
-    given: &Given<'_>,
-    net: &FaceNet,
-    solved: &Solved,
-    dart: u16,
-) -> u8
+fn dart_angle(plane: &Plane, given: &Given<'_>, net: &FaceNet, solved: &Solved, dart: u16) -> u8
     requires net { IsKeepingNetOf plane.now given.now net.now }
     requires solves { Solves net.now.network solved.now }
     requires within { dart < darts plane.now }
