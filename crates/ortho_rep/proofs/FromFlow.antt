@@ -1,6 +1,6 @@
 -- A flow in the network of a plane with what is given is an orthogonal representation that keeps it, and its potentials are
 -- prices.
-use Rattle.std.proofs.Common.{◌≡◌, ◌≤◌, ◌<◌, ℕ, ◌+◌, ◌-◌, ◌⊎◌, Bool, true, false, cond, eqb, List, length, replicate, length-append, refl, sym, ap, ◌∙◌, subst, inl, inr, arith}
+use Rattle.std.proofs.Common.{◌≡◌, ◌≤◌, ◌<◌, ℕ, ◌+◌, ◌-◌, ◌⊎◌, Bool, true, false, cond, eqb, length, replicate, length-append, refl, sym, ap, ◌∙◌, subst, inl, inr, arith}
 use Rattle.std.specs.Prelude.{ℤ, slice_index_or, pos, ◌+ℤ◌, ◌-ℤ◌, ◌≤ℤ◌, Option, Some, None}
 use Rattle.std.proofs.lemmas.Bool.{cases_eq, eq-eqb, ne_eqb}
 use Rattle.std.proofs.lemmas.Int.{ints}
@@ -12,15 +12,14 @@ use Rattle.faces.specs.Planes.{PlaneModel, HasEnds, darts, vertices, head, rever
 use Rattle.networks.specs.declared.arc.Arc.{Arc}
 use Rattle.networks.specs.Networks.{NetworkModel, arc_count, arc_at}
 use Rattle.networks.specs.Flow.{Flow, HasPotentials, IsWithinCap, IsUnsaturated, outflow, inflow, net_outflow}
-use Rattle.ortho_rep.specs.declared.turn.Turn.{Turn}
 use Rattle.ortho_rep.specs.declared.turn.TheConstants.{MAX_REPEATS}
 use Rattle.ortho_rep.specs.declared.turn.Turn.TheVariants.{Left, Right}
-use Rattle.flow_network.specs.Given.{GivenModel, CanBeGiven, IsAngle, angle_given, turns_given, walked_back, beyond_first}
+use Rattle.flow_network.specs.Given.{GivenModel, CanBeGiven, angle_given, turns_given, walked_back, beyond_first}
 use Rattle.flow_network.specs.FaceNet.{IsKeepingNet, vertex_degree, beyond_at_vertex, beyond_in_face, lefts_in_face, vertex_has_to_turn, face_has_to_turn, corner_cap, crossing_cap}
 use Rattle.flow_network.proofs.GivenParts.{left_part, right_part, turns_back, lefts_of_face, rights_of_face, face_parts}
 use Rattle.ortho_rep.specs.Turns.{mirrored, lefts, rights}
 use Rattle.ortho_rep.specs.Representation.{Rep, IsShape, angles_around, turning_around, whole_turn}
-use Rattle.ortho_rep.specs.Keeping.{one_way, Keeps, IsLeastKeeping}
+use Rattle.ortho_rep.specs.Keeping.{Keeps, IsLeastKeeping}
 use Rattle.ortho_rep.specs.OfFlow.{lefts_then_rights, angle_or, angles_of, turns_or, strings_of}
 use Rattle.ortho_rep.specs.Prices.{PricesModel, IsAngleKept, AreTurnsKept, ProveKeeping, IsProofKeeping, vertex_price, face_price}
 use Rattle.ortho_rep.specs.Shapes.{ShapeModel, angle_at, turns_at}

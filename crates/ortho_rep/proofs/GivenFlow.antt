@@ -13,7 +13,7 @@ use Rattle.flow_network.specs.FaceNet.{corner_cap, crossing_cap}
 use Rattle.flow_network.proofs.GivenParts.{left_part, right_part}
 use Rattle.ortho_rep.specs.Turns.{mirrored, lefts, rights}
 use Rattle.ortho_rep.specs.Keeping.{one_way}
-use Rattle.ortho_rep.specs.OfFlow.{lefts_then_rights, angle_or, turns_or}
+use Rattle.ortho_rep.specs.OfFlow.{angle_or, turns_or}
 use Rattle.ortho_rep.proofs.TurnCounts.{lefts-all, lefts-none, lefts-lefts_only, lefts-rights_only, rights-lefts_only, rights-rights_only}
 use Rattle.ortho_rep.proofs.FlowStrings.{same-exchanged, lefts-lefts_then_rights, rights-lefts_then_rights, mirrored-lefts_then_rights}
 

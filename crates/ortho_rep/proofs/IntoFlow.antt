@@ -10,7 +10,7 @@ use Rattle.networks.specs.declared.arc.Arc.{Arc}
 use Rattle.networks.specs.Networks.{NetworkModel, node_count, arc_at, supply_at}
 use Rattle.networks.specs.Flow.{Flow, HasNoFlow, IsWithinCap, net_outflow}
 use Rattle.flow_network.specs.Given.{GivenModel, CanBeGiven, angle_given, turns_given, walked_back}
-use Rattle.flow_network.specs.FaceNet.{IsKeepingNet, vertex_degree, beyond_at_vertex, beyond_in_face, lefts_in_face, vertex_has_to_turn, face_has_to_turn, corner_cap, crossing_cap}
+use Rattle.flow_network.specs.FaceNet.{IsKeepingNet, vertex_degree, beyond_at_vertex, beyond_in_face, lefts_in_face, corner_cap, crossing_cap}
 use Rattle.flow_network.proofs.GivenParts.{turns_back}
 use Rattle.ortho_rep.specs.declared.turn.Turn.{Turn}
 use Rattle.ortho_rep.specs.Turns.{lefts, rights}

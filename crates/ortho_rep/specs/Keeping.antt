@@ -1,5 +1,5 @@
 -- Representations that keep what is given: angles at the heads of darts, and turns along edges.
-use Rattle.std.specs.Prelude.{◌≡◌, ℕ, ◌+◌, ◌<◌, ◌≤◌, ℤ, pos, negsuc, List, replicate, Option, Some}
+use Rattle.std.specs.Prelude.{◌≡◌, ℕ, ◌+◌, ◌<◌, ◌≤◌, ℤ, pos, negsuc, List, replicate, Some}
 use Rattle.faces.specs.Planes.{PlaneModel, darts}
 use Rattle.flow_network.specs.Given.{GivenModel, angle_given, turns_given}
 use Rattle.ortho_rep.specs.declared.turn.Turn.{Turn}

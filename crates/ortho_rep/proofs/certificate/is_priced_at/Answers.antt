@@ -1,12 +1,11 @@
-use Rattle.std.proofs.Common.{rules, w32, ◌≡◌, ◌∙◌, ℕ, ℤ, List, sym}
-use Rattle.std.specs.Prelude.{IsTrue, Option}
+use Rattle.std.proofs.Common.{rules, w32, ◌≡◌, sym}
+use Rattle.std.specs.Prelude.{IsTrue}
 use Rattle.std.proofs.lemmas.Int.{to_z-of_z}
 use mir.Val.{SFits}
 use Rattle.faces.specs.Planes.{head, face_at, reverse_dart}
 use Rattle.flow_network.specs.Given.{angle_given, turns_given}
-use Rattle.ortho_rep.specs.declared.turn.Turn.{Turn}
 use Rattle.ortho_rep.specs.Shapes.{angle_at, turns_at}
-use Rattle.ortho_rep.specs.Prices.{IsAngleKept, AreTurnsKept, vertex_price, face_price}
+use Rattle.ortho_rep.specs.Prices.{IsAngleKept, vertex_price, face_price}
 use Rattle.ortho_rep.proofs.Priced.{angle_moved, turns_moved}
 use Rattle.ortho_rep.proofs.certificate.is_priced_at.Goals as goal
 
