@@ -7,7 +7,8 @@ use Rattle.std.proofs.lemmas.List.{get_or-set_same, get_or-set_other}
 use Rattle.faces.specs.Planes.{PlaneModel, darts, head, reverse_dart, face_at}
 use Rattle.ortho_rep.specs.declared.turn.Turn.{Turn}
 use Rattle.ortho_rep.specs.Turns.{lefts}
-use Rattle.ortho_rep.specs.Prices.{PricesModel, IsAnglePriced, AreTurnsPriced, vertex_price, face_price}
+use Rattle.ortho_rep.specs.Shapes.{ShapeModel, angle_at, turns_at}
+use Rattle.ortho_rep.specs.Prices.{PricesModel, IsAnglePriced, AreTurnsPriced, Prove, vertex_price, face_price}
 use Rattle.ortho_rep.proofs.FlowStrings.{lefts-lefts_then_rights}
 use Rattle.ortho_rep.proofs.Priced.{plain_angle, plain_turns, plain_priced}
 use Rattle.straightening.specs.Flows.{Agree, angle_in, string_in}
@@ -45,6 +46,19 @@ moved p a a' l l' t angles turns agree = λ d b.
       | inr e ↦ inr e
     ])
     (plain_turns p (angle_in a) (string_in p l) (vertex_price t) (face_price t) d (agree d b)))
+
+-- prices that prove a shape fit a flow with its angles and no more left turns
+pub loaded : (p : PlaneModel) (shape : ShapeModel) (a l : List ℕ) (t : PricesModel)
+    → ((d : ℕ) → d < darts p → angle_in a d ≡ angle_at shape d)
+    → ((d : ℕ) → d < darts p → slice_index l d ≤ lefts (turns_at shape d))
+    → Prove p (angle_at shape) (turns_at shape) (vertex_price t) (face_price t) → Agree p a l t
+loaded p shape a l t angles turns prove = λ d b.
+    plain_priced p (angle_in a) (string_in p l) (vertex_price t) (face_price t) d
+    (angle_priced (angle_at shape d) (slice_index a d) (vertex_price t (head p d)) (face_price t (face_at p d)) (inl (angles d b))
+    (plain_angle p (angle_at shape) (turns_at shape) (vertex_price t) (face_price t) d (prove d b)))
+    (turns_priced (turns_at shape d) (string_in p l d) (face_price t (face_at p d)) (face_price t (face_at p (reverse_dart p d)))
+    (inl (omega (arith, turns d b, lefts-lefts_then_rights (slice_index l d) (slice_index l (reverse_dart p d)))))
+    (plain_turns p (angle_at shape) (turns_at shape) (vertex_price t) (face_price t) d (prove d b)))
 
 -- an entry that is written, and all others
 pub set-other : (l : List ℕ) (k x d : ℕ) → (slice_index (slice_set l k x) d ≡ slice_index l d) ⊎ (d ≡ k)
