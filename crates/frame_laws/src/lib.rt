@@ -1,6 +1,0 @@
-//! Angles and turns that can always be kept: points, each a vertex with a whole turn of given angles.
-#![tactic(auto)]
-
-mod points;
-
-pub use points::points_have_no_cut;
