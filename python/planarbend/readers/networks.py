@@ -9,7 +9,7 @@ from collections.abc import Hashable, Iterable
 from typing import Any
 
 from planarbend.graph import Arrow, Graph
-from planarbend.readers import graphics
+from planarbend.readers import graphics, graphml_ports
 from planarbend.readers.building import Builder
 from planarbend.readers.fault import Fault, decoded, shown
 
@@ -64,6 +64,8 @@ def read_graphml(data: bytes) -> Graph:
         built.edge(tail, head, label_of(values) or "", Arrow.FORWARD if is_arrow else Arrow.NONE)
         built.looks.add_edge(len(built.edges) - 1, graphics.graphml_edge(lines[int(key)], values))
         built.directed |= is_arrow
+    graphml_ports.add_ports(built, elements, lines)
+    graphml_ports.add_clusters(built, root)
     return built
 
 
