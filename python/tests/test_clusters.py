@@ -69,7 +69,7 @@ class Dot(unittest.TestCase):
 
     def test_a_node_in_two_clusters_belongs_to_the_first(self) -> None:
         for first, second in (("cluster_a", "cluster_b"), ("cluster_z", "cluster_a")):
-            graph = of(f'graph {{ subgraph {first} {{ x; y }} subgraph "{second}" {{ x; subgraph cluster_in {{ y }} z }} }}')
+            graph = of(f'graph {{ // subgraph {second} {{\n subgraph {first} {{ x; y }} subgraph "{second}" {{ x; subgraph cluster_in {{ y }} z }} }}')
             self.assertEqual(members(graph), {first: {"x", "y"}, second: {"z"}, "cluster_in": set()})
             self.assertEqual(sorted(graph.looks.warnings), [
                 f"the node x is in several clusters, and is drawn in the first of them: {first}, {second}",

@@ -12,6 +12,7 @@ from planarbend.readers.building import Builder
 from planarbend.readers.gvpr import Entry
 
 BEGINNING = "cluster"  # of the names of subgraphs that are clusters
+COMMENT = re.compile(r'("(?:[^"\\]|\\.)*")|//[^\n]*|/\*.*?\*/|^#[^\n]*', re.S | re.M)
 
 
 @dataclass(slots=True)
@@ -61,7 +62,8 @@ class Clusters:
 
     def __init__(self, graph: Builder, text: str, attributes: Attributes) -> None:
         """Return the adder of clusters of a text to its graph, all of whose nodes are known."""
-        self.graph, self.text, self.attributes = graph, text, attributes
+        self.graph, self.attributes = graph, attributes
+        self.text = COMMENT.sub(lambda match: match[1] or " ", text)
         self.innermost: dict[int, int] = {}
         self.twice: dict[int, list[int]] = {}
 
