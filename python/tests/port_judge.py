@@ -283,15 +283,16 @@ class Judge:
     # Fields
 
     def fields_of(self, one: Said) -> Wanted | None:
-        """The fields of a node; None if it has none, or one without a port."""
-        label, is_record = one.get("label", "\\N"), one.get("shape") in ("record", "Mrecord")
+        """The fields of a node; None if it has none, a record with one field and no port, or a table without a port."""
+        label = one.get("label", "\\N")
+        is_record = one.get("shape") in ("record", "Mrecord") and not re.match(r"\s*<\s*table\b", label, re.I)
         try:
-            found = record(label, self.said.get("rankdir") in ("LR", "RL")) if is_record and not label.startswith("<table") else table(label)
+            found = record(label, self.said.get("rankdir") in ("LR", "RL")) if is_record else table(label)
         except Refused:
             return None
         if found is None or one.get("shape") == "point":
             return None
-        return found if len(found.inner) > 1 or any(inner.port for inner in found.all()) else None
+        return found if is_record and len(found.inner) > 1 or any(inner.port for inner in found.all()) else None
 
     def fields(self, name: str, wanted: Wanted) -> None:
         """Looks at the fields of a node."""

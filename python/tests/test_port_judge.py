@@ -8,10 +8,11 @@ from collections.abc import Callable
 from typing import Any
 
 import support
+from attribute_judge import resolved, words_of
 from dot_grammar import PortGrammar
 from planarbend.clusters import within
 from planarbend.readers import read
-from port_judge import Judge, resolved, words_of
+from port_judge import Judge
 
 FILE = b"""digraph { compound=true; node [shape=record];
   subgraph cluster_a { label=A; color=red; r [label="<p>x|{y|<q>z}|w"]; subgraph cluster_b { style=filled; fillcolor=gold; label=B; s [label="s"] } }

@@ -104,7 +104,8 @@ class Tables(unittest.TestCase):
             self.assertEqual((ports, leaves(graph.fields[0])), (wanted, [("x", ""), ("y", "p"), ("z", "")]))
 
     def test_other_labels_have_no_fields(self) -> None:
-        for label in ("<b>x</b>", "<table><tr><td>x</td></tr></table>", "x<br/>y"):
+        """A table without a port is a text, as before."""
+        for label in ("<b>x</b>", "<table><tr><td>x</td><td>y</td></tr></table>", "x<br/>y"):
             self.assertEqual(of(f"graph {{ a [label=<{label}>] }}").fields, {}, label)
 
 

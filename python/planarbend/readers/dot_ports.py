@@ -32,7 +32,7 @@ class Ports:
         self.strange: dict[str, list[str]] = {}
 
     def node(self, entry: Entry) -> None:
-        """Add the fields of a node."""
+        """Add the fields of a node: those of a record that has several or a port, and of a table with a port."""
         number, (is_html, label) = self.graph.places[entry.names[0]], entry.labels[0]
         shape = entry.values["shape"]
         if is_html and shape != "point":
@@ -40,7 +40,8 @@ class Ports:
             self.tables.add(number)
         else:
             fields = self.record(entry.names[0], label) if shape in RECORDS else None
-        if fields is not None and (len(fields.fields) > 1 or any(one.port for one, _ in fields.walk())):
+        is_divided = fields is not None and not is_html and len(fields.fields) > 1
+        if fields is not None and (is_divided or any(one.port for one, _ in fields.walk())):
             self.graph.fields[number] = fields
 
     def record(self, node: str, label: str) -> Field | None:
