@@ -17,9 +17,9 @@ if TYPE_CHECKING:
     from planarbend.layout.laid_out import (GraphError, GraphLost, GraphRefused, GraphUndrawn, Layout, Layouts, Record,
                                             layout_of, layouts)
 
-__all__ = ["Arrow", "Cluster", "Compass", "Edge", "End", "Field", "Graph", "GraphError", "GraphLost", "GraphRefused", "GraphUndrawn",
-           "Kind", "Layout", "Layouts", "NoProgram", "PlanarbendError", "Record", "RunFailed", "Side", "Span", "Vertex", "layout_of",
-           "layouts", "program"]
+__all__ = ["Arrow", "Cluster", "Compass", "Edge", "End", "Field", "Graph", "GraphError", "GraphLost", "GraphRefused",
+           "GraphUndrawn", "Kind", "Layout", "Layouts", "NoProgram", "PlanarbendError", "Record", "RunFailed", "Side", "Span", "Vertex",
+           "layout_of", "layouts", "program"]
 
 
 def __getattr__(name: str) -> Any:

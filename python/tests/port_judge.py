@@ -320,8 +320,8 @@ class Judge:
             inside = [some for some in self.elements if some.kind == "text" and holds(at, some.points[0] * 2)]
             shown = "".join(words_of("".join(some.text for some in inside)))
             self.check("texts of fields", shown == text, f"node {name}: the text {shown!r} for {text!r}")
-        for key, places in lines.items():
-            self.check("lines of fields", max(places) - min(places) <= SLACK, f"node {name}: {key[0]} {key[1]} at {sorted(places)}")
+        for (kind, number), places in lines.items():
+            self.check("lines of fields", max(places) - min(places) <= SLACK, f"node {name}: {kind} {number} at {sorted(places)}")
         for kind, near, far in (("row", box[1], box[3]), ("column", box[0], box[2])):
             order = [min(places) for key, places in sorted(lines.items()) if key[0] == kind]
             is_right = all(one < other for one, other in itertools.pairwise(order))

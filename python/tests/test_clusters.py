@@ -75,6 +75,11 @@ class Dot(unittest.TestCase):
                 f"the node x is in several clusters, and is drawn in the first of them: {first}, {second}",
                 f"the node y is in several clusters, and is drawn in the first of them: {first}, {second}, cluster_in"])
 
+    def test_deep_nesting(self) -> None:
+        text = "".join(f"subgraph cluster_{number} {{ " for number in range(1500)) + "a" + "}" * 1500
+        graph = of(f"graph {{ {text} }}")
+        self.assertEqual((len(graph.clusters), graph.clusters[-1].members, graph.clusters[-1].parent), (1500, [0], 1498))
+
     def test_empty_clusters(self) -> None:
         graph = of('graph { a; subgraph cluster_e { label=<<b>empty</b> one> } subgraph other { b } }')
         self.assertEqual([(one.name, one.label, one.members) for one in graph.clusters], [("cluster_e", "empty one", [])])

@@ -77,6 +77,10 @@ class Records(unittest.TestCase):
             graph = of(f'graph {{ a [shape=record, label="{label}"] }}')
             self.assertEqual((graph.fields, graph.looks.warnings), ({}, ["nodes whose label is none of a record: a"]), label)
 
+    def test_braces_without_end(self) -> None:
+        for deep, count in ((50, 1), (5000, 0)):
+            self.assertEqual(len(of(f'graph {{ a [shape=record, label="{"{" * deep}<p>x{"}" * deep}"] }}').fields), count)
+
     def test_one_field_without_a_port_is_a_plain_box(self) -> None:
         self.assertEqual(of('graph { a [shape=record]; b [shape=record, label="x"]; c [label="x|y"] }').fields, {})
 
@@ -102,6 +106,11 @@ class Tables(unittest.TestCase):
                        "<td>z</td></tr></table>>] }")
             ports = [one.port for one, _ in graph.fields[0].walk() if one.fields][1:]
             self.assertEqual((ports, leaves(graph.fields[0])), (wanted, [("x", ""), ("y", "p"), ("z", "")]))
+
+    def test_tables_that_graphviz_refuses(self) -> None:
+        for label in ("<table><td port='p'>x</td></table>", "<tr><td port='p'>x</td></tr>", "<table><tr><td port='p'>x</tr></table>",
+                      "<table><tr><table port='p'></table></tr></table>", "<table>" + "<tr><td port='p'><table>" * 200):
+            self.assertEqual(of(f"graph {{ a [label=<{label}>] }}").fields, {}, label)
 
     def test_other_labels_have_no_fields(self) -> None:
         """A table without a port is a text, as before."""

@@ -19,8 +19,8 @@ NODE_KEYS = ("shape", "style", "color", "fillcolor", "fontcolor", "penwidth", "f
 EDGE_KEYS = ("style", "color", "fillcolor", "fontcolor", "penwidth", "fontsize", "fontname", "URL", "href", "tooltip",
              "colorscheme", "arrowhead", "arrowtail")
 GRAPH_KEYS = ("bgcolor", "fontcolor", "fontsize", "fontname", "colorscheme")
-CLUSTER_KEYS = ("style", "color", "fillcolor", "pencolor", "bgcolor", "fontcolor", "penwidth", "fontsize", "fontname", "URL", "href",
-                "tooltip", "colorscheme", "peripheries", "labelloc", "labeljust")
+CLUSTER_KEYS = ("style", "color", "fillcolor", "pencolor", "bgcolor", "fontcolor", "penwidth", "fontsize", "fontname", "URL",
+                "href", "tooltip", "colorscheme", "peripheries", "labelloc", "labeljust")
 COLOURS = ("color", "fillcolor", "fontcolor", "bgcolor", "pencolor")
 NO_COLOUR = Colour("none")
 PLAIN_FILL = Colour("lightgrey")  # of a filled node without a colour

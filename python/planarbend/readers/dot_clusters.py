@@ -67,17 +67,19 @@ class Clusters:
         self.innermost: dict[int, int] = {}
         self.twice: dict[int, list[int]] = {}
 
-    def add(self, clusters: list[Found], parent: int | None = None) -> None:
-        """Add some clusters that lie in a parent, and all that lie in them. A node in two clusters of which none lies in the
-        other belongs to the first."""
-        for one in in_order(clusters, self.text):
-            number, (name, _) = len(self.graph.clusters), one.entry.names
+    def add(self, clusters: list[Found]) -> None:
+        """Add the outermost clusters, and all that lie in them. A node in two clusters of which none lies in the other belongs to
+        the first."""
+        waiting: list[tuple[Found, int | None]] = [(one, None) for one in reversed(in_order(clusters, self.text))]
+        while waiting:
+            one, parent = waiting.pop()
+            number, name = len(self.graph.clusters), one.entry.names[0]
             is_html, label = one.entry.labels[0]
             text = texts.of_html(label) if is_html else texts.plain(label, {"G": name})
             look = self.attributes.cluster(one.entry.values, {"G": name})
             self.graph.clusters.append(Cluster(name, text, parent, look=look))
             self.take(number, one.nodes)
-            self.add(one.inner, number)
+            waiting += [(inner, number) for inner in reversed(in_order(one.inner, self.text))]
 
     def take(self, number: int, nodes: Sequence[str]) -> None:
         """Take nodes into a cluster, unless they are in another one that is not around it."""

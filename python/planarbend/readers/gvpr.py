@@ -82,7 +82,8 @@ COLUMNS = {"g": (1, 2, (*GRAPH_KEYS, *WHOLE_KEYS)), "n": (1, 1, NODE_KEYS),
 
 
 def entries_of(data: bytes) -> list[Entry]:
-    """Return the graph, its nodes and its edges, in Graphviz's order; raise a `Fault` if Graphviz is missing or refuses the text."""
+    """Return the graph, its nodes and its edges, in Graphviz's order; raise a `Fault` if Graphviz is missing, or refuses the
+    text."""
     head = DOT.match(data)
     labelled = data[:head.end()] + DEFAULT + data[head.end():] if head else data
     canonical = run([program("nop", PACKAGE)], labelled)  # `dot -Tcanon` would lay the graph out

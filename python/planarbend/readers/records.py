@@ -7,6 +7,9 @@ from planarbend.ports import Field, Span
 from planarbend.readers import texts
 
 
+DEEPEST = 100  # braces within each other
+
+
 class BadLabel(ValueError):
     """A label is none of a record."""
 
@@ -23,6 +26,7 @@ class Record:
     def __init__(self, label: str, names: Mapping[str, str]) -> None:
         """Return the label at its beginning."""
         self.label, self.names, self.place = "".join(letter for letter in label if letter >= " "), dict(names), 0
+        self.depth = 0
 
     def whole(self, is_column: bool) -> Field:
         """Return all fields of the label."""
@@ -54,11 +58,7 @@ class Record:
             elif sign == "{":
                 if set(text) - {" "} or port is not None or inner is not None:
                     raise BadLabel
-                self.place += 1
-                inner = self.grid(not is_column)
-                if self.label[self.place:self.place + 1] != "}":
-                    raise BadLabel
-                self.place += 1
+                inner = self.inner(not is_column)
             elif sign == ">" or inner is not None and sign != " ":
                 raise BadLabel
             else:
@@ -67,6 +67,17 @@ class Record:
         if inner is not None:
             return Field(at=at, fields=inner.fields)
         return Field(shown(text, self.names), port or "", at)
+
+    def inner(self, is_column: bool) -> Field:
+        """Return what is between an opening brace and its closing one, and go after that."""
+        self.place, self.depth = self.place + 1, self.depth + 1
+        if self.depth > DEEPEST:
+            raise BadLabel
+        found = self.grid(is_column)
+        if self.label[self.place:self.place + 1] != "}":
+            raise BadLabel
+        self.place, self.depth = self.place + 1, self.depth - 1
+        return found
 
     def port(self) -> str:
         """Return what is between a less-than sign and the next greater-than sign, and go after that."""

@@ -10,7 +10,12 @@ from planarbend.ports import Field, Span
 
 XML_NAMES = ("lt", "gt", "amp", "quot")
 ENTITY = re.compile(r"&([A-Za-z][A-Za-z0-9]*);")
-MOST = 1000  # rows or columns that a cell may span
+MOST = 200  # rows or columns that a cell may span
+DEEPEST = 100  # tables and cells within each other
+
+
+class BadTable(ValueError):
+    """A label that Graphviz refuses."""
 
 
 @dataclass(slots=True)
@@ -37,7 +42,7 @@ def fields_of(label: str) -> Field | None:
     port; a cell with a table in it has the table's cells as fields, with a field around them if both have a port."""
     try:
         table = Reader(label).table
-    except expat.ExpatError:
+    except (expat.ExpatError, BadTable):
         return None
     return None if table is None else placed(table, Span())
 
@@ -63,14 +68,20 @@ class Reader:
                 inner.table = made
             elif inner is None and self.table is None:
                 self.table = made
+            else:
+                raise BadTable
             self.open.append(made)
         elif kind == "TR" and isinstance(inner, Table):
             inner.rows.append([])
         elif kind == "TD" and isinstance(inner, Table) and inner.rows:
             inner.rows[-1].append(Cell(given.get("PORT", ""), spanned(given.get("ROWSPAN")), spanned(given.get("COLSPAN"))))
             self.open.append(inner.rows[-1][-1])
+        elif kind in ("TR", "TD"):
+            raise BadTable
         elif kind == "BR":
             self.add("\n")
+        if len(self.open) > DEEPEST:
+            raise BadTable
 
     def end(self, element: str) -> None:
         """End an element."""
