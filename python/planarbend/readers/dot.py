@@ -1,4 +1,4 @@
-"""Reads DOT by Graphviz's own parser: `nop` writes out what it read, and `gvpr` lists its nodes and edges."""
+"""Makes a graph of what Graphviz's own parser reads in a DOT text."""
 from __future__ import annotations
 
 from planarbend.graph import Arrow, Graph
@@ -20,8 +20,10 @@ def read_dot(data: bytes) -> Graph:
 
     Nodes of clusters and other subgraphs are nodes of the graph; invisible nodes and edges too. Labels are plain text: the
     fields of a record with bars between them, an HTML label without its markup. An edge's label is `label`, or `xlabel` if
-    that is empty. Arrows are by `dir`, `arrowhead` and `arrowtail`. A `Fault` is raised if Graphviz is missing, refuses the
-    text (with its line), or finds no graph or several. What else the file says about nodes, edges and the whole is their look.
+    that is empty. Arrows are by `dir`, `arrowhead` and `arrowtail`. Clusters, the fields of records and of tables with ports,
+    and where edges end by their ports, `lhead` and `ltail`, are data of the graph. A `Fault` is raised if Graphviz is
+    missing, refuses the text (with its line), or finds no graph or several. What else the file says about nodes, edges and
+    the whole is their look.
     """
     entries = entries_of(data)
     graphs = [entry for entry in entries if entry.kind == "g"]

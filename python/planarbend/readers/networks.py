@@ -29,8 +29,9 @@ def label_of(data: dict[str, Any]) -> str | None:
 def read_graphml(data: bytes) -> Graph:
     """Return the graph of a GraphML text: its first `graph`, with the nodes and edges of graphs inside its nodes.
 
-    Edges keep their order and each its own direction. Labels are the data named `label` or `name`, or the first label of yEd.
-    A `Fault` is raised if the text is not XML or not GraphML, has a hyperedge, or an edge to a node that it does not have.
+    Ports are fields of their nodes; a node with nodes inside has a cluster. Edges keep their order and each its own direction.
+    Labels are the data named `label` or `name`, or the first label of yEd. A `Fault` is raised if the text is not XML or not
+    GraphML, has a hyperedge, or an edge to a node that it does not have.
     """
     from xml.etree import ElementTree
 
