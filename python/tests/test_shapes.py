@@ -99,6 +99,17 @@ class Plans(unittest.TestCase):
                 self.assertEqual(nodes, (count - 1) // 2 if plan.spines else count)
 
 
+    def test_few_spines(self) -> None:
+        """Two vertices with 11 and 7 connections, 16 of them to leaves. As cages they have 11 and 7 nodes, as spines 6 and 4."""
+        planar = planarize(18, [(0, 1), *((0, leaf) for leaf in range(2, 12)), *((1, leaf) for leaf in range(12, 18))])
+        cages, larger, smaller, both = (Plan(frozenset({0, 1} - set(spines)), tuple((vertex, 0) for vertex in spines))
+                                        for spines in ((), (0,), (1,), (0, 1)))
+        for most, wanted in ((34, [cages]), (33, [larger, smaller]), (31, [larger, smaller]), (30, [larger, both]),
+                             (29, [larger, both]), (28, [both]), (26, [both])):
+            engine: Any = SimpleNamespace(most_vertices=most, keeps=True)
+            self.assertEqual(Search(planar, engine, Options(effort=0)).fitting_plans(), wanted, most)
+
+
 class Mending(unittest.TestCase):
     def test_no_plan_is_tried_twice(self) -> None:
         """Each of three plans leads to all three, and none makes the box a rectangle."""
