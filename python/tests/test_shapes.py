@@ -100,7 +100,7 @@ class Plans(unittest.TestCase):
 
 
     def test_few_spines(self) -> None:
-        """Two vertices with 11 and 7 connections, 16 of them to leaves. As cages they have 11 and 7 nodes, as spines 6 and 4."""
+        """Two vertices with 11 and 7 connections, 16 of them to leaves: as cages they take 11 and 7 nodes, else 6 and 4."""
         planar = planarize(18, [(0, 1), *((0, leaf) for leaf in range(2, 12)), *((1, leaf) for leaf in range(12, 18))])
         cages, larger, smaller, both = (Plan(frozenset({0, 1} - set(spines)), tuple((vertex, 0) for vertex in spines))
                                         for spines in ((), (0,), (1,), (0, 1)))

@@ -200,7 +200,7 @@ class Search:
 
         is_kept = self.is_dense(best.expansion) and self.prices([self.planar], best.plan)[0][0] > 0
         other = climbed(self.planar, lambda planars: self.prices(planars, best.plan, is_kept), self.random,
-                        rounds=ROUNDS * self.options.effort, width=WIDTH)
+                        rounds=ROUNDS * self.options.effort * (1 + is_kept), width=WIDTH)
         if other is self.planar:
             return []
         search = Search(other, self.engine, replace(self.options, seed=0, outer=()), self.budget)
