@@ -119,7 +119,7 @@ class Dense(unittest.TestCase):
     def search(seed: int, dense: int) -> tuple[Search, list[Shape]]:
         """A search, and the shapes that it finds."""
         search = Search(planarize(*hubs(seed)), library.LibraryEngine(), Options())
-        with mock.patch("planarbend.drawing.choose.DENSE", dense):
+        with mock.patch.multiple("planarbend.drawing.choose", DENSE=dense, MOST_SQUARES=1):
             return search, search.run()
 
     def test_boxes_are_rectangles_with_few_calls(self) -> None:

@@ -29,6 +29,7 @@ MOST_MENDS = 4  # rounds in which edges may bend instead of boxes
 MOST_MENDED = 4  # shapes with which each of these rounds continues
 MOST_PICKED = 4  # shapes that are tried in pixels
 MOST_COMPACT = 8  # further shapes that are tried in pixels for a compact drawing
+MOST_SQUARES = 4_000_000  # calls for boxes of a dense graph, times the square of its nodes, for each plan
 LARGE = 80  # nodes from which other embeddings are tried even if nothing bends
 DENSE = 600  # nodes from which plans are compared by few calls of an engine that keeps conditions
 ROUNDS, WIDTH = 8, 12  # of the search for another embedding: rounds for each unit of effort, and embeddings in each
@@ -256,7 +257,9 @@ class Search:
         for expansion in map(self.expanded, itertools.islice(plans, MOST_KEPT)):
             if expansion is not None:
                 forms = outer_forms(expansion, outer) if outer else self.numberings(expansion, dice)
-                most = 1 if self.is_dense(expansion) and not outer else MOST_FACES  # no numbering has fewer bends
+                most = MOST_FACES
+                if self.is_dense(expansion) and not outer:
+                    most = max(1, MOST_SQUARES // len(expansion.rotation) ** 2)  # numberings: none has fewer bends
                 found += there(self.kept(itertools.islice(forms, most), "first" if outer else "best", bool(outer)))
         return found
 
