@@ -15,7 +15,7 @@ returns-in_err-solved-clause-none c =
     let told = err_from_is_err_and c.from_residual-in_err-solved.result c.from_residual-in_err-solved.ensures.1 in
     let same : told.0 ≡ c.in_err-solved.field-0.0 = told.2 in
     subst (λ r. IfErr r (λ fault. fault ≡ Infeasible → HasNoneKeeping plane c.args.given.now)) (sym told.1)
-    (λ none. none_without_flow plane net c.graph-graph.ensures.ends c.is_nothing-nothing.ensures.can c.in_ok-net.ensures.net.network
+    (λ none. none_without_flow plane net c.graph-graph.ensures.ends c.in_ok-net.ensures.net.network
     (subst HasNoFlow c.network.ensures (c.in_err-solved.ensures.infeasible (sym same ∙ none))))
 
 pub returns-clause-least : goal.returns-clause-least
