@@ -65,8 +65,7 @@ def make(archive):
     shutil.rmtree(folder, ignore_errors=True)  # of a script that was killed
     folder.mkdir(parents=True)
     own, whole, static, shared = (folder / name for name in ("planarbend.o", "whole.o", "libplanarbend.a", SONAME))
-    run(COMPILER, *FLAGS, f'-DPLANARBEND_VERSION="{version()}"', f"-I{SOURCE}", "-c", SOURCE / "planarbend.c", "-o",
-        own)
+    run(COMPILER, *FLAGS, f"-I{SOURCE}", "-c", SOURCE / "planarbend.c", "-o", own)
     run("ld", "-r", "-o", whole, own, "--whole-archive", archive)
     run("objcopy", *[f"--keep-global-symbol={name}" for name in exported()], whole)
     run("ar", "rcsD", static, whole)

@@ -1,5 +1,5 @@
 /*
- * What of the library is not proved: the calls of planarbend.h, texts, and the three functions by which the proved code
+ * What of the library is not proved: the call of planarbend.h, texts, and the three functions by which the proved code
  * asks for memory. crates/planarbend_c has the rest.
  */
 #include "planarbend.h"
@@ -25,15 +25,42 @@ struct source {
     bool is_wide;
 };
 
-/* What a call under conditions is asked for. */
+struct conditions {
+    const planarbend_turns_along *turns;
+    size_t turns_count;
+    const planarbend_angle_at *angles;
+    size_t angles_count;
+    const planarbend_dart *inner;
+    size_t inner_count;
+};
+
+/* What the proved call is asked for. */
 struct request {
     struct source source;
     uint32_t outer;
     uint32_t drawing;
-    planarbend_conditions conditions;
+    struct conditions conditions;
 };
 
-/* Where a call under conditions puts a cut. */
+/* Where it puts what it finds. */
+struct lists {
+    uint8_t *angles;
+    size_t angles_room;
+    planarbend_turns *turns;
+    size_t turns_room;
+    int32_t *vertex_prices;
+    size_t vertex_prices_room;
+    int32_t *face_prices;
+    size_t face_prices_room;
+    planarbend_point *points;
+    size_t points_room;
+    uint32_t *corner_starts;
+    size_t corner_starts_room;
+    planarbend_point *corners;
+    size_t corners_room;
+};
+
+/* Where it puts a cut. */
 struct cut_lists {
     uint8_t *vertices;
     size_t vertices_room;
@@ -42,11 +69,9 @@ struct cut_lists {
     uint32_t outer_face;
 };
 
-/* The proved calls. A list of room 0 is left out; no pointer is null. */
-uint32_t planarbend_c_layout(const struct source *source, uint32_t outer, uint32_t drawing, planarbend_counts *counts,
-                             planarbend_lists *lists);
-uint32_t planarbend_c_layout_keeping(const struct request *request, planarbend_counts *counts, planarbend_lists *lists,
-                                     struct cut_lists *cut);
+/* The proved call. A list of room 0 is left out; no pointer is null. */
+uint32_t planarbend_c_layout(const struct request *request, planarbend_counts *counts, struct lists *lists,
+                             struct cut_lists *cut);
 
 /* ---- memory that is kept */
 
@@ -186,102 +211,76 @@ void planarbend_free(planarbend *object) {
 
 /* ---- the call */
 
-/* Gives a list that is not wanted a pointer that is not null; false where a null pointer is said to have room. */
-#define WITHOUT_NULL(list, room, nothing) ((room) > 0 ? (list) != NULL : ((list) = (nothing)) != NULL)
+/* Takes a list of the caller, or `nothing` for one of length 0, which is neither read nor written; false if it is null. */
+#define TAKE(list, count, from, from_count, nothing) \
+    (((count) = (from_count)) > 0 ? ((list) = (from)) != NULL : ((list) = (nothing)) != NULL)
 
-static bool without_nulls(planarbend_lists *lists) {
-    void *nothing = lists; /* of length 0, so it is neither read nor written */
-    return WITHOUT_NULL(lists->angles, lists->angles_room, nothing)
-        && WITHOUT_NULL(lists->turns, lists->turns_room, nothing)
-        && WITHOUT_NULL(lists->vertex_prices, lists->vertex_prices_room, nothing)
-        && WITHOUT_NULL(lists->face_prices, lists->face_prices_room, nothing)
-        && WITHOUT_NULL(lists->points, lists->points_room, nothing)
-        && WITHOUT_NULL(lists->corner_starts, lists->corner_starts_room, nothing)
-        && WITHOUT_NULL(lists->corners, lists->corners_room, nothing);
+/* These take over what the caller gives; false if a size or a number is unknown, or a null pointer is not allowed. */
+
+static bool take_source(struct source *own, const planarbend_request *theirs) {
+    static const uint16_t nothing;
+    own->is_wide = theirs->record16_count > 0;
+    return (theirs->record8_count == 0 || theirs->record16_count == 0)
+        && TAKE(own->bytes, own->byte_count, theirs->record8, theirs->record8_count, (const uint8_t *)&nothing)
+        && TAKE(own->entries, own->entry_count, theirs->record16, theirs->record16_count, &nothing);
 }
 
-/* Whether a list of darts may be read; one without darts gets a pointer that is not null. */
-static bool without_null(const planarbend_dart **darts, size_t count) {
-    static const planarbend_dart none;
-    if (count == 0) *darts = &none;
-    return *darts != NULL;
+static bool take_conditions(struct conditions *own, const planarbend_request *theirs) {
+    static const planarbend_turns_along no_turns;
+    static const planarbend_angle_at no_angle;
+    static const planarbend_dart no_dart;
+    return TAKE(own->turns, own->turns_count, theirs->turns, theirs->turns_count, &no_turns)
+        && TAKE(own->angles, own->angles_count, theirs->angles, theirs->angles_count, &no_angle)
+        && TAKE(own->inner, own->inner_count, theirs->inner, theirs->inner_count, &no_dart);
 }
 
-/* Whether the source may be read; a list without entries gets a pointer that is not null. */
-static bool may_be_read(struct source *source) {
-    static const uint16_t nothing = 0;
-    if (source->byte_count == 0) source->bytes = (const uint8_t *)&nothing;
-    if (source->entry_count == 0) source->entries = &nothing;
-    return source->bytes != NULL && source->entries != NULL;
+static bool take_request(struct request *own, const planarbend_request *theirs) {
+    if (theirs == NULL || theirs->size != sizeof *theirs || theirs->outer < 0 || theirs->drawing < 0) return false;
+    own->outer = (uint32_t)theirs->outer;
+    own->drawing = (uint32_t)theirs->drawing;
+    return take_source(&own->source, theirs) && take_conditions(&own->conditions, theirs);
 }
 
-/* The call with conditions, and its cut where one is wanted. */
-static uint32_t called_keeping(const struct request *request, planarbend_counts *counts, planarbend_lists *lists,
-                               planarbend_cut *cut) {
-    uint8_t nothing = 0;
-    struct cut_lists found = {&nothing, 0, &nothing, 0, 0};
-    if (cut == NULL) return planarbend_c_layout_keeping(request, counts, lists, &found);
-    found.vertices = cut->vertices;
-    found.vertices_room = sizeof cut->vertices;
-    found.faces = cut->faces;
-    found.faces_room = sizeof cut->faces;
-    uint32_t result = planarbend_c_layout_keeping(request, counts, lists, &found);
-    if (result == PLANARBEND_NO_SHAPE) cut->outer_face = found.outer_face;
-    return result;
+#define TAKE_LIST(list) TAKE(own->list, own->list##_room, theirs->list, theirs->list##_room, nothing)
+
+static bool take_lists(struct lists *own, const planarbend_lists *theirs) {
+    static const planarbend_lists none = {.size = sizeof none};
+    void *nothing = own;
+    if (theirs == NULL) theirs = &none;
+    return theirs->size == sizeof *theirs && TAKE_LIST(angles) && TAKE_LIST(turns) && TAKE_LIST(vertex_prices)
+        && TAKE_LIST(face_prices) && TAKE_LIST(points) && TAKE_LIST(corner_starts) && TAKE_LIST(corners);
 }
 
-/* All calls: `conditions` is null where there are none. */
-static int called(planarbend *object, struct source source, int outer, int drawing,
-                  const planarbend_conditions *conditions, planarbend_counts *counts, const planarbend_lists *lists,
-                  planarbend_cut *cut) {
-    struct request request = {source, (uint32_t)outer, (uint32_t)drawing, {NULL, 0, NULL, 0}};
+static bool take_cut(struct cut_lists *own, const planarbend_cut *theirs) {
+    static const planarbend_cut none = {.size = sizeof none};
+    void *nothing = own;
+    if (theirs == NULL) theirs = &none;
+    own->outer_face = 0;
+    return theirs->size == sizeof *theirs && TAKE_LIST(vertices) && TAKE_LIST(faces);
+}
+
+int planarbend_layout(planarbend *object, const planarbend_request *request, planarbend_counts *counts,
+                      const planarbend_lists *lists, planarbend_cut *cut) {
+    struct request asked;
+    struct lists own;
+    struct cut_lists found;
     planarbend_counts unwanted;
-    planarbend_lists own;
-    memset(&own, 0, sizeof own);
-    if (lists != NULL) own = *lists;
-    if (conditions != NULL) request.conditions = *conditions;
-    if (outer < 0 || drawing < 0 || !may_be_read(&request.source) || !without_nulls(&own)
-        || !without_null(&request.conditions.straight, request.conditions.straight_count)
-        || !without_null(&request.conditions.inner, request.conditions.inner_count)) return PLANARBEND_ARGUMENT;
-    if (counts == NULL) counts = &unwanted;
+    if (!take_request(&asked, request) || !take_lists(&own, lists) || !take_cut(&found, cut)) return PLANARBEND_ARGUMENT;
     lend(object);
-    uint32_t result = conditions == NULL
-        ? planarbend_c_layout(&request.source, request.outer, request.drawing, counts, &own)
-        : called_keeping(&request, counts, &own, cut);
+    uint32_t result = planarbend_c_layout(&asked, counts == NULL ? &unwanted : counts, &own, &found);
     take_back(object);
+    if (result == PLANARBEND_NO_SHAPE && cut != NULL) cut->outer_face = found.outer_face;
     return (int)result;
 }
 
-int planarbend_layout(planarbend *object, const uint8_t *record, size_t size, int outer, int drawing,
-                      planarbend_counts *counts, const planarbend_lists *lists) {
-    return planarbend_layout_keeping(object, record, size, outer, drawing, NULL, counts, lists, NULL);
-}
-
-int planarbend_layout_keeping(planarbend *object, const uint8_t *record, size_t size, int outer, int drawing,
-                              const planarbend_conditions *conditions, planarbend_counts *counts,
-                              const planarbend_lists *lists, planarbend_cut *cut) {
-    struct source source = {record, size, NULL, 0, false};
-    return called(object, source, outer, drawing, conditions, counts, lists, cut);
-}
-
-int planarbend_layout_wide(planarbend *object, const planarbend_wide_request *request, planarbend_counts *counts,
-                           const planarbend_lists *lists, planarbend_cut *cut) {
-    if (request == NULL || request->size != sizeof *request) return PLANARBEND_ARGUMENT;
-    struct source source = {NULL, 0, request->record, request->entries, true};
-    return called(object, source, request->outer, request->drawing, request->conditions, counts, lists, cut);
-}
-
-planarbend_lists planarbend_lists_of(planarbend_buffer *buffer) {
-    planarbend_lists lists = {
-        buffer->angles,        PLANARBEND_MAX_DARTS,
-        buffer->turns,         PLANARBEND_MAX_DARTS,
-        buffer->vertex_prices, PLANARBEND_MAX_VERTICES,
-        buffer->face_prices,   PLANARBEND_MAX_FACES,
-        buffer->points,        PLANARBEND_MAX_VERTICES,
-        buffer->corner_starts, PLANARBEND_MAX_EDGES + 1,
-        buffer->corners,       PLANARBEND_MAX_BENDS,
-    };
-    return lists;
+planarbend_counts planarbend_room(uint32_t vertices) {
+    planarbend_counts counts = {0, 0, 0, 0, 0, 0};
+    if (vertices == 0 || vertices > PLANARBEND_MAX_VERTICES) return counts;
+    counts.vertices = vertices;
+    counts.edges = 2 * vertices;
+    counts.faces = vertices + 2;
+    counts.bends = counts.corners = 6 * vertices + 4;
+    return counts;
 }
 
 /* ---- texts */
@@ -289,8 +288,8 @@ planarbend_lists planarbend_lists_of(planarbend_buffer *buffer) {
 const char *planarbend_word(int result) {
     static const char *const words[] = {"ok",     "range",        "loop",  "multi",  "asymmetric", "edgeless", "degree",
                                         "disconnected", "genus", "record", "memory", "room",     "argument",
-                                        "noshape", "noedge",  "noouter", "wide",   "large"};
-    return result < 0 || result > PLANARBEND_LARGE ? NULL : words[result];
+                                        "noshape", "noedge",  "noouter", "wide",   "large",  "conflict"};
+    return result < 0 || result > PLANARBEND_CONFLICT ? NULL : words[result];
 }
 
 const char *planarbend_version(void) {

@@ -77,7 +77,7 @@ static void put_prices(struct text *text, const int32_t *prices, size_t count) {
     put(text, "]");
 }
 
-static void put_graph(struct text *text, long graph, const planarbend_counts *counts, const planarbend_buffer *lists, int drawing) {
+static void put_graph(struct text *text, long graph, const planarbend_counts *counts, const planarbend_lists *lists, int drawing) {
     put(text, "{\"angles\":[");
     for (size_t dart = 0; dart < 2 * (size_t)counts->edges; dart++) {
         if (dart > 0) put(text, ",");
@@ -135,25 +135,50 @@ static size_t record_size(const uint8_t *bytes, size_t size) {
     return at;
 }
 
+/* Memory for a list, with other bytes than a call writes. */
+static void *list_of(size_t size) {
+    void *list = malloc(size);
+    if (list == NULL) fail("out of memory");
+    return memset(list, 0xA5, size);
+}
+
+/* Lists for graphs with at most these counts. */
+static planarbend_lists lists_for(planarbend_counts most) {
+    planarbend_lists lists = {.size = sizeof lists};
+#define MAKE(name, items) lists.name##_room = (items), lists.name = list_of(lists.name##_room * sizeof *lists.name)
+    MAKE(angles, 2 * most.edges);
+    MAKE(turns, 2 * most.edges);
+    MAKE(vertex_prices, most.vertices);
+    MAKE(face_prices, most.faces);
+    MAKE(points, most.vertices);
+    MAKE(corner_starts, most.edges + 1);
+    MAKE(corners, most.corners);
+    return lists;
+}
+
+static void free_lists(const planarbend_lists *lists) {
+    free(lists->angles), free(lists->turns), free(lists->vertex_prices), free(lists->face_prices);
+    free(lists->points), free(lists->corner_starts), free(lists->corners);
+}
+
 static void *run(void *given) {
     struct work *work = given;
     planarbend *object = NULL;
     if (work->with_object && planarbend_new(&object) != PLANARBEND_OK) fail("no object");
-    planarbend_buffer *buffer = malloc(sizeof *buffer);
-    if (buffer == NULL) fail("out of memory");
-    planarbend_lists lists = planarbend_lists_of(buffer);
+    planarbend_lists lists = lists_for(planarbend_room(255));
     long graph = 0;
     for (size_t at = 0; at < work->size;) {
         size_t size = record_size(work->records + at, work->size - at);
         planarbend_counts counts;
-        memset(buffer, 0xA5, sizeof *buffer);
-        int result = planarbend_layout(object, work->records + at, size, work->outer, work->drawing, &counts, &lists);
-        if (result == PLANARBEND_OK) put_graph(&work->text, ++graph, &counts, buffer, work->drawing != PLANARBEND_DRAWING_NONE);
+        planarbend_request request = {.size = sizeof request, .record8 = work->records + at, .record8_count = size,
+                                      .outer = work->outer, .drawing = work->drawing};
+        int result = planarbend_layout(object, &request, &counts, &lists, NULL);
+        if (result == PLANARBEND_OK) put_graph(&work->text, ++graph, &counts, &lists, work->drawing != PLANARBEND_DRAWING_NONE);
         else if (result == PLANARBEND_ROOM || result == PLANARBEND_ARGUMENT || result == PLANARBEND_NOT_A_RECORD) fail(planarbend_word(result));
         else put_refused(&work->text, ++graph, result);
         at += size;
     }
-    free(buffer);
+    free_lists(&lists);
     planarbend_free(object);
     return NULL;
 }

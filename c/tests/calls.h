@@ -7,8 +7,8 @@
 
 #include <stddef.h>
 
+#include "bounds.h"
 #include "memory.h"
-#include "planarbend.h"
 
 enum { LISTS = 7, DRAWN = 4, MOST_CORNERS = 6000, MORE = 3, UNTOUCHED = 0xA5, APART = 64, PLACES = 48 << 10, HEADER = 15 };
 
@@ -16,12 +16,12 @@ static const struct {
     size_t list, room, item, most;
 } KINDS[LISTS] = {
 #define KIND(name, type, most) {offsetof(planarbend_lists, name), offsetof(planarbend_lists, name##_room), sizeof(type), most}
-    KIND(angles, uint8_t, PLANARBEND_MAX_DARTS),
-    KIND(turns, planarbend_turns, PLANARBEND_MAX_DARTS),
-    KIND(vertex_prices, int32_t, PLANARBEND_MAX_VERTICES),
-    KIND(face_prices, int32_t, PLANARBEND_MAX_FACES),
-    KIND(points, planarbend_point, PLANARBEND_MAX_VERTICES), /* DRAWN: from here on only with a drawing */
-    KIND(corner_starts, uint32_t, PLANARBEND_MAX_EDGES + 1),
+    KIND(angles, uint8_t, MOST_DARTS),
+    KIND(turns, planarbend_turns, MOST_DARTS),
+    KIND(vertex_prices, int32_t, MOST_VERTICES),
+    KIND(face_prices, int32_t, MOST_FACES),
+    KIND(points, planarbend_point, MOST_VERTICES), /* DRAWN: from here on only with a drawing */
+    KIND(corner_starts, uint32_t, MOST_EDGES + 1),
     KIND(corners, planarbend_point, MOST_CORNERS),
 };
 
@@ -30,10 +30,9 @@ struct call {
     const uint8_t *record;
     size_t size;
     int outer, drawing;
-    const planarbend_conditions *conditions;
-    int is_keeping; /* whether planarbend_layout_keeping is called */
+    const struct conditions *conditions; /* null if there are none */
     int without_counts, without_lists, without_cut;
-    int is_wide; /* whether planarbend_layout_wide is called, with the same entries in 16 bits */
+    int is_wide; /* whether the entries of the record have 16 bits */
 };
 
 struct answer {
@@ -41,10 +40,9 @@ struct answer {
     size_t rooms[LISTS];
     planarbend_lists lists;
     planarbend_counts counts;
+    planarbend_cut cut;
     struct {
-        uint8_t before[APART];
-        planarbend_cut cut;
-        uint8_t behind[APART];
+        uint8_t before[APART], vertices[MOST_VERTICES], apart[APART], faces[MOST_FACES], behind[APART];
     } marks;
     _Alignas(8) uint8_t places[PLACES];
 };
@@ -64,6 +62,7 @@ static void set_rooms(struct answer *answer, size_t room, int with_most) {
 static void place_lists(struct answer *answer) {
     size_t at = APART;
     memset(&answer->lists, 0, sizeof answer->lists);
+    answer->lists.size = sizeof answer->lists;
     for (int kind = 0; kind < LISTS; kind++) {
         void *list = answer->places + at;
         char *lists = (char *)&answer->lists;
@@ -105,19 +104,39 @@ static void look_at_result(const struct call *call, const struct answer *answer)
     if (call->without_counts) look_untouched(&answer->counts, sizeof answer->counts);
     if (!call->without_counts || answer->result != PLANARBEND_OK) look_at_places(call, answer);
     look_untouched(answer->marks.before, APART);
+    look_untouched(answer->marks.apart, APART);
     look_untouched(answer->marks.behind, APART);
-    if (answer->result != PLANARBEND_NO_SHAPE || call->without_cut || !call->is_keeping)
-        look_untouched(&answer->marks.cut, sizeof answer->marks.cut);
+    if (answer->result == PLANARBEND_NO_SHAPE && !call->without_cut) return;
+    look_untouched(&answer->marks, sizeof answer->marks);
+    look_untouched(&answer->cut.outer_face, sizeof answer->cut.outer_face);
 }
 
-/* Calls planarbend_layout_wide. */
-static int ask_wide(const struct call *call, planarbend_counts *counts, const planarbend_lists *lists, planarbend_cut *cut) {
-    static uint16_t entries[PLANARBEND_MAX_RECORD + 1];
-    LOOK(call->size <= PLANARBEND_MAX_RECORD);
-    for (size_t at = 0; at < call->size; at++) entries[at] = call->record[at];
-    planarbend_wide_request request = {sizeof request, entries, call->size, call->outer, call->drawing, NULL};
-    if (call->is_keeping) request.conditions = call->conditions;
-    return planarbend_layout_wide(call->object, &request, counts, lists, cut);
+/* What a call asks for. */
+static planarbend_request request_of(const struct call *call) {
+    static uint16_t entries[PLANARBEND_MAX_RECORD8 + 1];
+    planarbend_request request = {.size = sizeof request, .outer = call->outer, .drawing = call->drawing};
+    if (call->is_wide) {
+        LOOK(call->size <= PLANARBEND_MAX_RECORD8);
+        for (size_t at = 0; at < call->size; at++) entries[at] = call->record[at];
+        request.record16 = entries, request.record16_count = call->size;
+    } else {
+        request.record8 = call->record, request.record8_count = call->size;
+    }
+    if (call->conditions == NULL) return request;
+    const struct conditions *asked_for = call->conditions;
+    request.turns = asked_for->turns, request.turns_count = asked_for->turns_count;
+    request.angles = asked_for->angles, request.angles_count = asked_for->angles_count;
+    request.inner = asked_for->inner, request.inner_count = asked_for->inner_count;
+    return request;
+}
+
+/* Gives a cut its lists. */
+static void place_cut(struct answer *answer) {
+    planarbend_cut *cut = &answer->cut;
+    memset(cut, UNTOUCHED, sizeof *cut);
+    cut->size = sizeof *cut;
+    cut->vertices = answer->marks.vertices, cut->vertices_room = sizeof answer->marks.vertices;
+    cut->faces = answer->marks.faces, cut->faces_room = sizeof answer->marks.faces;
 }
 
 /* Calls the library. The rooms of the answer say how long its lists are. */
@@ -126,15 +145,15 @@ static int ask(const struct call *call, struct answer *answer) {
     memset(&answer->marks, UNTOUCHED, sizeof answer->marks);
     memset(answer->places, UNTOUCHED, sizeof answer->places);
     place_lists(answer);
+    place_cut(answer);
     const planarbend_lists before = answer->lists;
+    const planarbend_cut cut_before = answer->cut;
+    const planarbend_request request = request_of(call);
     planarbend_counts *counts = call->without_counts ? NULL : &answer->counts;
     const planarbend_lists *lists = call->without_lists ? NULL : &answer->lists;
-    planarbend_cut *cut = call->without_cut ? NULL : &answer->marks.cut;
-    answer->result = call->is_wide ? ask_wide(call, counts, lists, cut)
-        : call->is_keeping
-        ? planarbend_layout_keeping(call->object, call->record, call->size, call->outer, call->drawing, call->conditions,
-                                    counts, lists, cut)
-        : planarbend_layout(call->object, call->record, call->size, call->outer, call->drawing, counts, lists);
+    planarbend_cut *cut = call->without_cut ? NULL : &answer->cut;
+    answer->result = planarbend_layout(call->object, &request, counts, lists, cut);
+    LOOK(memcmp(&cut_before, &answer->cut, offsetof(planarbend_cut, outer_face)) == 0);
     LOOK(memcmp(&before, &answer->lists, sizeof before) == 0);
     look_at_result(call, answer);
     return answer->result;
@@ -143,7 +162,7 @@ static int ask(const struct call *call, struct answer *answer) {
 /* Whether two answers are the same in all that was written. */
 static int is_same(const struct answer *one, const struct answer *other) {
     return one->result == other->result && memcmp(&one->counts, &other->counts, sizeof one->counts) == 0
-        && memcmp(&one->marks, &other->marks, sizeof one->marks) == 0
+        && memcmp(&one->marks, &other->marks, sizeof one->marks) == 0 && one->cut.outer_face == other->cut.outer_face
         && memcmp(one->places, other->places, sizeof one->places) == 0;
 }
 

@@ -1,6 +1,6 @@
 /*
- * What c/planarbend.c passes to the proved calls and back, and the memory that it lends them, with calls that stand in for
- * the proved ones: they note what they are given, take blocks of memory, and write to each byte of them. It ends by status
+ * What c/planarbend.c passes to the proved call and back, and the memory that it lends them, with a call that stands in for
+ * the proved one: it notes what it is given, takes blocks of memory, and writes to each byte of them. It ends by status
  * 0, or names the line that is wrong.
  */
 #define _POSIX_C_SOURCE 200809L
@@ -18,10 +18,36 @@ struct source {
     bool is_wide;
 };
 
+struct conditions {
+    const planarbend_turns_along *turns;
+    size_t turns_count;
+    const planarbend_angle_at *angles;
+    size_t angles_count;
+    const planarbend_dart *inner;
+    size_t inner_count;
+};
+
 struct request {
     struct source source;
     uint32_t outer, drawing;
-    planarbend_conditions conditions;
+    struct conditions conditions;
+};
+
+struct lists {
+    uint8_t *angles;
+    size_t angles_room;
+    planarbend_turns *turns;
+    size_t turns_room;
+    int32_t *vertex_prices;
+    size_t vertex_prices_room;
+    int32_t *face_prices;
+    size_t face_prices_room;
+    planarbend_point *points;
+    size_t points_room;
+    uint32_t *corner_starts;
+    size_t corner_starts_room;
+    planarbend_point *corners;
+    size_t corners_room;
 };
 
 struct cut_lists {
@@ -40,16 +66,14 @@ struct rattle_given {
 struct rattle_given rattle_alloc(size_t size, size_t alignment);
 struct rattle_given rattle_realloc(void *block, size_t kept, size_t size, size_t alignment);
 void rattle_dealloc(void *block);
-uint32_t planarbend_c_layout(const struct source *source, uint32_t outer, uint32_t drawing, planarbend_counts *counts,
-                             planarbend_lists *lists);
-uint32_t planarbend_c_layout_keeping(const struct request *request, planarbend_counts *counts, planarbend_lists *lists,
-                                     struct cut_lists *cut);
+uint32_t planarbend_c_layout(const struct request *request, planarbend_counts *counts, struct lists *lists,
+                             struct cut_lists *cut);
 
 /* What a call was given. */
 struct given {
     struct request request;
     planarbend_counts *counts;
-    planarbend_lists lists;
+    struct lists lists;
     struct cut_lists cut;
 };
 
@@ -58,27 +82,17 @@ static uint32_t returned = 0;             /* the result of the next call */
 static void (*work)(void) = NULL;         /* what it does with memory */
 static const planarbend_counts COUNTED = {11, 12, 13, 14, 15, 16};
 
-static uint32_t answer(const struct given *given) {
-    last = *given;
-    LOOK(given->request.source.bytes != NULL && given->request.source.entries != NULL && given->counts != NULL);
-    if (returned == PLANARBEND_OK || returned == PLANARBEND_ROOM) *given->counts = COUNTED;
-    if (work != NULL) work();
-    return returned;
-}
-
-uint32_t planarbend_c_layout(const struct source *source, uint32_t outer, uint32_t drawing, planarbend_counts *counts,
-                             planarbend_lists *lists) {
-    struct given given = {{*source, outer, drawing, {NULL, 0, NULL, 0}}, counts, *lists, {NULL, 0, NULL, 0, 0}};
-    return answer(&given);
-}
-
-uint32_t planarbend_c_layout_keeping(const struct request *request, planarbend_counts *counts, planarbend_lists *lists,
-                                     struct cut_lists *cut) {
+uint32_t planarbend_c_layout(const struct request *request, planarbend_counts *counts, struct lists *lists,
+                             struct cut_lists *cut) {
     struct given given = {*request, counts, *lists, *cut};
-    LOOK(request->conditions.straight != NULL && request->conditions.inner != NULL);
+    last = given;
+    LOOK(request->source.bytes != NULL && request->source.entries != NULL && counts != NULL);
+    LOOK(request->conditions.turns != NULL && request->conditions.angles != NULL && request->conditions.inner != NULL);
     LOOK(cut->vertices != NULL && cut->faces != NULL);
     cut->outer_face = 77;
-    return answer(&given);
+    if (returned == PLANARBEND_OK || returned == PLANARBEND_ROOM) *counts = COUNTED;
+    if (work != NULL) work();
+    return returned;
 }
 
 /* ---- what is passed */
@@ -86,14 +100,24 @@ uint32_t planarbend_c_layout_keeping(const struct request *request, planarbend_c
 static const uint8_t BYTES[] = {2, 2, 0, 1, 0};
 static const uint16_t ENTRIES[] = {2, 2, 0, 1, 0, 9};
 static const planarbend_dart DARTS[3000];
+static const planarbend_turns_along TURNS[3000];
+static const planarbend_angle_at ANGLES[3000];
+
+/* Places for lists. */
+static struct {
+    planarbend_turns turns[1];
+    int32_t vertex_prices[1], face_prices[1];
+    uint32_t corner_starts[1];
+    planarbend_point points[1], corners[1];
+    uint8_t angles[1];
+} places;
 
 /* Lists of which one has this room and the others none, or all have, with pointers that are null where there is no room. */
-static planarbend_lists lists_of(planarbend_buffer *buffer, int kind, size_t room) {
-    planarbend_lists lists;
-    memset(&lists, 0, sizeof lists);
+static planarbend_lists lists_of(int kind, size_t room) {
+    planarbend_lists lists = {.size = sizeof lists};
 #define GIVE(number, name)                                                                      \
     if (kind < 0 || kind == number) {                                                           \
-        lists.name = room > 0 ? buffer->name : NULL;                                            \
+        lists.name = room > 0 ? places.name : NULL;                                             \
         lists.name##_room = room;                                                               \
     }
     GIVE(0, angles) GIVE(1, turns) GIVE(2, vertex_prices) GIVE(3, face_prices) GIVE(4, points) GIVE(5, corner_starts)
@@ -114,6 +138,14 @@ static void look_at_lists(const planarbend_lists *wanted) {
     PASSED(corners);
 }
 
+/* A request for the bytes, or for the entries of 16 bits, and nothing else. */
+static planarbend_request request_of(bool is_wide) {
+    planarbend_request request = {.size = sizeof request};
+    if (is_wide) request.record16 = ENTRIES, request.record16_count = 6;
+    else request.record8 = BYTES, request.record8_count = sizeof BYTES;
+    return request;
+}
+
 /* The entries are passed in one of two widths, and the other list is empty. */
 static void look_at_source(bool is_wide) {
     const struct source *source = &last.request.source;
@@ -122,83 +154,131 @@ static void look_at_source(bool is_wide) {
     LOOK(source->entry_count == (is_wide ? 6 : 0) && (!is_wide || source->entries == ENTRIES));
 }
 
+enum { WAYS = 5 };
+
+/* Sets the conditions of a request in one of these ways. */
+static void ask_for(planarbend_request *request, int way) {
+    static const size_t counts[WAYS][3] = {{0, 0, 0}, {3, 0, 0}, {0, 600, 0}, {0, 0, 1}, {3000, 2998, 2999}};
+    request->turns_count = counts[way][0], request->turns = counts[way][0] > 0 ? TURNS : NULL;
+    request->angles_count = counts[way][1], request->angles = counts[way][1] > 0 ? ANGLES + 1 : NULL;
+    request->inner_count = counts[way][2], request->inner = counts[way][2] > 0 ? DARTS + 1 : NULL;
+}
+
+static void look_at_conditions(const planarbend_request *request) {
+    const struct conditions *passed = &last.request.conditions;
+    LOOK(passed->turns_count == request->turns_count && passed->angles_count == request->angles_count);
+    LOOK(passed->inner_count == request->inner_count);
+    LOOK(passed->turns_count == 0 || passed->turns == request->turns);
+    LOOK(passed->angles_count == 0 || passed->angles == request->angles);
+    LOOK(passed->inner_count == 0 || passed->inner == request->inner);
+}
+
 static void look_at_passed(planarbend *object, int way, const planarbend_lists *lists, planarbend_cut *cut) {
-    const planarbend_conditions asked[] = {
-        {NULL, 0, NULL, 0}, {DARTS, 3, NULL, 0}, {NULL, 0, DARTS, 600}, {DARTS, 3000, DARTS + 1, 2999}};
     for (int outer = 0; outer < 4; outer++)
         for (int drawing = 0; drawing < 4; drawing++)
-            for (int result = 0; result <= 2 * PLANARBEND_LARGE + 1; result++) {
-                bool is_wide = result > PLANARBEND_LARGE;
-                int wanted = is_wide ? result - PLANARBEND_LARGE - 1 : result;
-                const planarbend_conditions *conditions = way < 0 ? NULL : asked + way;
-                const planarbend_wide_request wide = {sizeof wide, ENTRIES, 6, outer, drawing, conditions};
+            for (int result = 0; result <= 2 * PLANARBEND_CONFLICT + 1; result++) {
+                bool is_wide = result > PLANARBEND_CONFLICT;
+                int wanted = is_wide ? result - PLANARBEND_CONFLICT - 1 : result;
+                planarbend_request request = request_of(is_wide);
+                request.outer = outer, request.drawing = drawing;
+                ask_for(&request, way);
+                const planarbend_request before = request;
                 planarbend_counts counts;
                 memset(&counts, 0xA5, sizeof counts);
                 memset(&last, 0, sizeof last);
-                if (cut != NULL) memset(cut, 0xA5, sizeof *cut);
+                if (cut != NULL) cut->outer_face = 0xA5;
                 returned = (uint32_t)wanted;
-                int found = is_wide ? planarbend_layout_wide(object, &wide, &counts, lists, cut)
-                    : way < 0 ? planarbend_layout(object, BYTES, sizeof BYTES, outer, drawing, &counts, lists)
-                    : planarbend_layout_keeping(object, BYTES, sizeof BYTES, outer, drawing, conditions, &counts, lists, cut);
-                LOOK(found == wanted && last.counts == &counts);
+                LOOK(planarbend_layout(object, &request, &counts, lists, cut) == wanted && last.counts == &counts);
+                LOOK(memcmp(&before, &request, sizeof request) == 0);
                 look_at_source(is_wide);
                 LOOK(last.request.outer == (uint32_t)outer && last.request.drawing == (uint32_t)drawing);
-                planarbend_lists none = lists_of(NULL, -1, 0);
+                planarbend_lists none = lists_of(-1, 0);
                 look_at_lists(lists == NULL ? &none : lists);
-                if (way < 0) continue;
-                const planarbend_conditions *passed = &last.request.conditions;
-                LOOK(passed->straight_count == asked[way].straight_count && passed->inner_count == asked[way].inner_count);
-                LOOK(passed->straight_count == 0 || passed->straight == asked[way].straight);
-                LOOK(passed->inner_count == 0 || passed->inner == asked[way].inner);
-                LOOK(last.cut.vertices_room == (cut == NULL ? 0 : 1200) && last.cut.faces_room == (cut == NULL ? 0 : 1202));
+                look_at_conditions(&request);
+                LOOK(last.cut.vertices_room == (cut == NULL ? 0 : cut->vertices_room));
+                LOOK(last.cut.faces_room == (cut == NULL ? 0 : cut->faces_room) && last.cut.outer_face == 0);
                 if (cut == NULL) continue;
-                LOOK(last.cut.vertices == cut->vertices && last.cut.faces == cut->faces);
-                LOOK(cut->outer_face == (wanted == PLANARBEND_NO_SHAPE ? 77 : 0xA5A5A5A5));
+                LOOK(cut->vertices_room == 0 || last.cut.vertices == cut->vertices);
+                LOOK(cut->faces_room == 0 || last.cut.faces == cut->faces);
+                LOOK(cut->outer_face == (wanted == PLANARBEND_NO_SHAPE ? 77 : 0xA5));
             }
 }
 
 static void look_at_passing(planarbend *object) {
-    static planarbend_buffer buffer;
-    planarbend_cut cut;
+    uint8_t vertices[4], faces[5];
+    planarbend_cut cut = {.size = sizeof cut, .vertices = vertices, .vertices_room = 4, .faces = faces, .faces_room = 5};
+    planarbend_cut empty = {.size = sizeof empty};
     work = NULL;
-    for (int way = -1; way < 4; way++)
+    for (int way = 0; way < WAYS; way++)
         for (int kind = -1; kind < 7; kind++)
             for (size_t room = 0; room <= 2; room++) {
-                planarbend_lists lists = lists_of(&buffer, kind, room == 2 ? 70000 : room);
-                look_at_passed(object, way, &lists, kind % 2 ? &cut : NULL);
+                planarbend_lists lists = lists_of(kind, room == 2 ? 70000 : room);
+                look_at_passed(object, way, &lists, kind % 2 ? &cut : room > 0 ? &empty : NULL);
             }
-    look_at_passed(object, -1, NULL, NULL);
-    look_at_passed(object, 3, NULL, &cut);
-    returned = PLANARBEND_NOT_A_RECORD; /* no bytes and no counts: neither pointer that is passed is null */
-    LOOK(planarbend_layout(object, NULL, 0, 0, 0, NULL, NULL) == PLANARBEND_NOT_A_RECORD);
-    const planarbend_wide_request empty = {sizeof empty, NULL, 0, 0, 0, NULL};
-    LOOK(planarbend_layout_wide(object, &empty, NULL, NULL, NULL) == PLANARBEND_NOT_A_RECORD);
+    look_at_passed(object, 0, NULL, NULL);
+    look_at_passed(object, 4, NULL, &cut);
+    returned = PLANARBEND_NOT_A_RECORD; /* no entries and no counts: no pointer that is passed is null */
+    planarbend_request request = {.size = sizeof request};
+    LOOK(planarbend_layout(object, &request, NULL, NULL, NULL) == PLANARBEND_NOT_A_RECORD);
+    LOOK(last.request.source.byte_count == 0 && last.request.source.entry_count == 0 && !last.request.source.is_wide);
+    request.record8 = BYTES, request.record16 = ENTRIES;
+    LOOK(planarbend_layout(object, &request, NULL, NULL, NULL) == PLANARBEND_NOT_A_RECORD);
     LOOK(last.request.source.byte_count == 0 && last.request.source.entry_count == 0);
+    for (int is_wide = 0; is_wide < 2; is_wide++) { /* the other pointer is not null, and its count is 0 */
+        request = request_of(is_wide);
+        if (is_wide) request.record8 = BYTES;
+        else request.record16 = ENTRIES;
+        LOOK(planarbend_layout(object, &request, NULL, NULL, NULL) == PLANARBEND_NOT_A_RECORD);
+        look_at_source(is_wide);
+    }
 }
 
-/* Calls that are refused before the proved ones. */
-static void look_at_refused(planarbend *object) {
+/* ---- calls that are refused before the proved one */
+
+static void look_at_refused(planarbend *object, const planarbend_request *request, const planarbend_lists *lists,
+                            planarbend_cut *cut) {
+    planarbend_counts counts;
+    memset(&counts, 0xA5, sizeof counts);
     returned = 99;
-    LOOK(planarbend_layout(object, BYTES, 5, -1, 0, NULL, NULL) == PLANARBEND_ARGUMENT);
-    LOOK(planarbend_layout(object, BYTES, 5, 0, -1, NULL, NULL) == PLANARBEND_ARGUMENT);
-    LOOK(planarbend_layout(object, NULL, 5, 0, 0, NULL, NULL) == PLANARBEND_ARGUMENT);
-    const planarbend_wide_request wide[] = {
-        {sizeof *wide - 1, ENTRIES, 5, 0, 0, NULL}, {0, ENTRIES, 5, 0, 0, NULL}, {sizeof *wide + 8, ENTRIES, 5, 0, 0, NULL},
-        {sizeof *wide, ENTRIES, 5, -1, 0, NULL}, {sizeof *wide, ENTRIES, 5, 0, -1, NULL}, {sizeof *wide, NULL, 5, 0, 0, NULL}};
-    LOOK(planarbend_layout_wide(object, NULL, NULL, NULL, NULL) == PLANARBEND_ARGUMENT);
-    for (int at = 0; at < 6; at++) LOOK(planarbend_layout_wide(object, wide + at, NULL, NULL, NULL) == PLANARBEND_ARGUMENT);
-    const planarbend_conditions null_darts[] = {{NULL, 1, NULL, 0}, {NULL, 0, NULL, 1}};
-    for (int at = 0; at < 2; at++)
-        LOOK(planarbend_layout_keeping(object, BYTES, 5, 0, 0, null_darts + at, NULL, NULL, NULL) == PLANARBEND_ARGUMENT);
-    for (int kind = -1; kind < 7; kind++) {
-        planarbend_buffer buffer;
-        planarbend_lists lists = lists_of(&buffer, kind, 5);
-        memset(&lists.angles, 0, sizeof lists.angles), memset(&lists.turns, 0, sizeof lists.turns);
-        memset(&lists.vertex_prices, 0, sizeof lists.vertex_prices), memset(&lists.face_prices, 0, sizeof lists.face_prices);
-        memset(&lists.points, 0, sizeof lists.points), memset(&lists.corner_starts, 0, sizeof lists.corner_starts);
-        memset(&lists.corners, 0, sizeof lists.corners);
-        LOOK(planarbend_layout(object, BYTES, 5, 0, 0, NULL, &lists) == PLANARBEND_ARGUMENT);
+    LOOK(planarbend_layout(object, request, &counts, lists, cut) == PLANARBEND_ARGUMENT);
+    LOOK(is_filled(&counts, sizeof counts, 0xA5));
+}
+
+/* Sizes other than the struct's own, of which no other member is read. */
+static void look_at_sizes(planarbend *object) {
+    const planarbend_request good = request_of(false);
+    LOOK(planarbend_layout(object, NULL, NULL, NULL, NULL) == PLANARBEND_ARGUMENT);
+    for (size_t size = 0; size <= 2 * sizeof good; size++) {
+        size_t *alone = __real_malloc(sizeof *alone);
+        LOOK(alone != NULL);
+        *alone = size;
+        if (size != sizeof(planarbend_request)) look_at_refused(object, (const planarbend_request *)(void *)alone, NULL, NULL);
+        if (size != sizeof(planarbend_lists)) look_at_refused(object, &good, (const planarbend_lists *)(void *)alone, NULL);
+        if (size != sizeof(planarbend_cut)) look_at_refused(object, &good, NULL, (planarbend_cut *)(void *)alone);
+        LOOK(*alone == size);
+        __real_free(alone);
     }
+}
+
+static void look_at_nulls(planarbend *object) {
+    const planarbend_request good = request_of(false);
+    planarbend_request wrong[9];
+    for (int at = 0; at < 9; at++) wrong[at] = request_of(at == 3);
+    wrong[0].outer = -1, wrong[1].drawing = -1;
+    wrong[2].record8 = NULL, wrong[3].record16 = NULL;
+    wrong[4].record16 = ENTRIES, wrong[4].record16_count = 6; /* in both widths */
+    wrong[5].turns_count = 1, wrong[6].angles_count = 1, wrong[7].inner_count = 1;
+    wrong[8].record16_count = 1;
+    for (int at = 0; at < 9; at++) look_at_refused(object, wrong + at, NULL, NULL);
+    for (int kind = -1; kind < 7; kind++) {
+        planarbend_lists lists = lists_of(kind, 5);
+        lists.angles = NULL, lists.turns = NULL, lists.vertex_prices = lists.face_prices = NULL;
+        lists.points = lists.corners = NULL, lists.corner_starts = NULL;
+        look_at_refused(object, &good, &lists, NULL);
+    }
+    planarbend_cut cut = {.size = sizeof cut, .vertices_room = 1}, other = {.size = sizeof other, .faces_room = 1};
+    look_at_refused(object, &good, NULL, &cut);
+    look_at_refused(object, &good, NULL, &other);
 }
 
 /* ---- memory */
@@ -276,14 +356,14 @@ static void take_blocks(void) {
     }
 }
 
-static void call(planarbend *object) {
-    LOOK(planarbend_layout(object, BYTES, sizeof BYTES, 0, 0, NULL, NULL) == PLANARBEND_OK);
+/* A call with conditions of one of the ways. */
+static void call_in(planarbend *object, int way) {
+    planarbend_request request = request_of(way % 2);
+    ask_for(&request, way);
+    LOOK(planarbend_layout(object, &request, NULL, NULL, NULL) == PLANARBEND_OK);
 }
 
-/* The other call, with conditions or without. */
-static void call_keeping(planarbend *object, const planarbend_conditions *conditions) {
-    LOOK(planarbend_layout_keeping(object, BYTES, sizeof BYTES, 0, 0, conditions, NULL, NULL, NULL) == PLANARBEND_OK);
-}
+static void call(planarbend *object) { call_in(object, 0); }
 
 static planarbend *new_object(void) {
     planarbend *object;
@@ -370,11 +450,8 @@ static void take_many(void) {
 
 /* Calls in each way find room in the object's piece. */
 static void look_for_room(planarbend *object) {
-    const planarbend_conditions none = {NULL, 0, NULL, 0};
     long until = asked;
-    call(object);
-    call_keeping(object, NULL);
-    call_keeping(object, &none);
+    for (int way = 0; way < WAYS; way++) call_in(object, way);
     LOOK(asked == until);
 }
 
@@ -488,8 +565,7 @@ static void take_together(void) {
 static void *run_calls(void *object) {
     static atomic_int threads;
     own = (unsigned char)++threads;
-    for (int round = 0; round < 20; round++)
-        planarbend_layout(object, BYTES, sizeof BYTES, 0, 0, NULL, NULL);
+    for (int round = 0; round < 20; round++) call(object);
     return NULL;
 }
 
@@ -505,10 +581,11 @@ static void look_at_threads(void) {
 
 int main(void) {
     planarbend *object = new_object();
-    look_at_passing(NULL);
-    look_at_passing(object);
-    look_at_refused(NULL);
-    look_at_refused(object);
+    for (int way = 0; way < 2; way++) {
+        look_at_passing(way == 0 ? NULL : object);
+        look_at_sizes(way == 0 ? NULL : object);
+        look_at_nulls(way == 0 ? NULL : object);
+    }
     planarbend_free(object);
     for (uint64_t seed = 0; seed < 200; seed++) {
         in_order = seed % 3 == 0;

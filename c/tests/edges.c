@@ -12,12 +12,12 @@ static struct answer good, one;
 
 static const uint8_t EDGE[] = {2, 2, 0, 1, 0};
 static const uint8_t TRIANGLE[] = {3, 2, 3, 0, 3, 1, 0, 1, 2, 0};
-static const planarbend_dart SIDES[] = {{1, 2}, {3, 2}, {1, 3}};
+static const planarbend_turns_along STRAIGHT[] = {{1, 2, 0}, {3, 2, 0}, {1, 3, 0}};
 static const planarbend_dart ACROSS[] = {{1, 2}, {2, 1}}; /* one of them has each face on its left */
 
 static struct call call_of(planarbend *object, const uint8_t *record, size_t size, int outer, int drawing,
-                           const planarbend_conditions *conditions) {
-    struct call call = {object, record, size, outer, drawing, conditions, conditions != NULL, 0, 0, 0, 0};
+                           const struct conditions *conditions) {
+    struct call call = {object, record, size, outer, drawing, conditions, 0, 0, 0, 0};
     return call;
 }
 
@@ -29,38 +29,45 @@ static int result_of(struct call call) {
 
 static void look_at_words(void) {
     const char *words[] = {"ok",     "range", "loop",     "multi",   "asymmetric", "edgeless", "degree", "disconnected", "genus",
-                           "record", "memory", "room",    "argument", "noshape",   "noedge",   "noouter", "wide",  "large"};
-    for (int result = 0; result <= PLANARBEND_LARGE; result++) LOOK(strcmp(planarbend_word(result), words[result]) == 0);
+                           "record", "memory", "room",    "argument", "noshape",   "noedge",   "noouter", "wide",  "large",
+                           "conflict"};
+    for (int result = 0; result <= PLANARBEND_CONFLICT; result++) LOOK(strcmp(planarbend_word(result), words[result]) == 0);
     LOOK(planarbend_word(-1) == NULL && planarbend_word(INT_MIN) == NULL);
-    LOOK(planarbend_word(PLANARBEND_LARGE + 1) == NULL && planarbend_word(INT_MAX) == NULL);
-    LOOK(strcmp(planarbend_version(), VERSION) == 0);
+    LOOK(planarbend_word(PLANARBEND_CONFLICT + 1) == NULL && planarbend_word(INT_MAX) == NULL);
+    LOOK(strcmp(planarbend_version(), VERSION) == 0 && strcmp(PLANARBEND_VERSION, VERSION) == 0);
+    int major, minor, patch;
+    LOOK(sscanf(VERSION, "%d.%d.%d", &major, &minor, &patch) == 3);
+    LOOK(PLANARBEND_VERSION_NUMBER == 10000 * major + 100 * minor + patch);
 }
 
 /* The numbers and fields of the header, which programs are compiled with. */
 static void look_at_numbers(void) {
     LOOK(PLANARBEND_OUTER_FIRST == 0 && PLANARBEND_OUTER_BEST == 1);
     LOOK(PLANARBEND_DRAWING_NONE == 0 && PLANARBEND_DRAWING_QUICK == 1 && PLANARBEND_DRAWING_SHORT == 2);
-    LOOK(PLANARBEND_MAX_VERTICES == 255 && PLANARBEND_MAX_EDGES == 510 && PLANARBEND_MAX_DARTS == 1020);
-    LOOK(PLANARBEND_MAX_FACES == 257 && PLANARBEND_MAX_BENDS == 1534 && PLANARBEND_MAX_RECORD == 65026);
+    LOOK(PLANARBEND_MAX_VERTICES == 1200 && PLANARBEND_MAX_EDGES == 2400 && PLANARBEND_MAX_DARTS == 4800);
+    LOOK(PLANARBEND_MAX_FACES == 1202 && PLANARBEND_MAX_BENDS == 7204);
+    LOOK(PLANARBEND_MAX_VERTICES8 == 255 && PLANARBEND_MAX_RECORD8 == 1 + 255 * 255);
     LOOK(offsetof(planarbend_dart, from) == 0 && offsetof(planarbend_dart, to) == 2);
+    LOOK(offsetof(planarbend_turns_along, from) == 0 && offsetof(planarbend_turns_along, to) == 2);
+    LOOK(offsetof(planarbend_turns_along, turns) == 4 && sizeof(planarbend_turns_along) == 6);
+    LOOK(offsetof(planarbend_angle_at, from) == 0 && offsetof(planarbend_angle_at, to) == 2);
+    LOOK(offsetof(planarbend_angle_at, angle) == 4 && sizeof(planarbend_angle_at) == 6);
+    LOOK(offsetof(planarbend_request, size) == 0 && sizeof(planarbend_request) == 12 * sizeof(size_t));
+    LOOK(offsetof(planarbend_lists, size) == 0 && sizeof(planarbend_lists) == 15 * sizeof(size_t));
+    LOOK(offsetof(planarbend_cut, size) == 0 && sizeof(planarbend_cut) == 6 * sizeof(size_t));
     LOOK(offsetof(planarbend_turns, left) == 0 && offsetof(planarbend_turns, right) == 4);
     LOOK(offsetof(planarbend_point, x) == 0 && offsetof(planarbend_point, y) == 2);
 }
 
-static void look_at_buffer(void) {
-    static planarbend_buffer buffer;
-    LOOK(sizeof buffer == 20428 && PLANARBEND_MAX_RECORD == 1 + 255 * 255);
-    memset(&buffer, UNTOUCHED, sizeof buffer);
-    planarbend_lists lists = planarbend_lists_of(&buffer);
-    look_untouched(&buffer, sizeof buffer);
-#define LOOK_AT_LIST(name) LOOK(lists.name == buffer.name && lists.name##_room == sizeof buffer.name / sizeof *buffer.name)
-    LOOK_AT_LIST(angles);
-    LOOK_AT_LIST(turns);
-    LOOK_AT_LIST(vertex_prices);
-    LOOK_AT_LIST(face_prices);
-    LOOK_AT_LIST(points);
-    LOOK_AT_LIST(corner_starts);
-    LOOK_AT_LIST(corners);
+/* Bounds for the counts of a graph, by its number of vertices. */
+static void look_at_bounds(void) {
+    for (uint32_t vertices = 0; vertices < 1300; vertices++) {
+        const planarbend_counts room = planarbend_room(vertices), none = {0, 0, 0, 0, 0, 0};
+        const planarbend_counts most = {vertices, 2 * vertices, vertices + 2, 6 * vertices + 4, 0, 6 * vertices + 4};
+        int is_known = vertices > 0 && vertices <= PLANARBEND_MAX_VERTICES;
+        LOOK(memcmp(&room, is_known ? &most : &none, sizeof room) == 0);
+    }
+    LOOK(planarbend_room(UINT32_MAX).vertices == 0 && planarbend_room(0x80000000u).edges == 0);
 }
 
 /* ---- results */
@@ -68,11 +75,14 @@ static void look_at_buffer(void) {
 /* Every way to ask for a record that is not laid out has this result. */
 static void look_at_refused(planarbend *object, const uint8_t *record, size_t size, int result) {
     const planarbend_dart nowhere = {9, 9};
-    const planarbend_conditions asked[] = {{NULL, 0, NULL, 0}, {SIDES, 1, SIDES, 1}, {&nowhere, 1, &nowhere, 1}};
-    for (int way = -1; way < 3; way++)
+    const planarbend_turns_along no_edge = {9, 9, 0};
+    const planarbend_angle_at angles[] = {{1, 2, 1}, {1, 2, 9}};
+    const struct conditions asked[] = {{NULL, 0, NULL, 0, NULL, 0}, {STRAIGHT, 1, angles, 1, ACROSS, 1},
+                                       {&no_edge, 1, NULL, 0, &nowhere, 1}, {NULL, 0, angles, 2, NULL, 0}};
+    for (int way = -1; way < 4; way++)
         for (int outer = 0; outer <= 1; outer++)
             for (int drawing = 0; drawing <= 2; drawing++) {
-                const planarbend_conditions *conditions = way < 0 ? NULL : asked + way;
+                const struct conditions *conditions = way < 0 ? NULL : asked + way;
                 LOOK(result_of(call_of(NULL, record, size, outer, drawing, conditions)) == result);
                 LOOK(result_of(call_of(object, record, size, outer, drawing, conditions)) == result);
             }
@@ -103,14 +113,14 @@ static void look_at_rules(planarbend *object) {
 
 /* The largest records: all 255 vertices with all others as neighbours. */
 static void look_at_largest(planarbend *object) {
-    static uint8_t record[PLANARBEND_MAX_RECORD + 1];
+    static uint8_t record[PLANARBEND_MAX_RECORD8 + 1];
     size_t at = 0;
     memset(record, 0, sizeof record);
     record[at++] = 255;
     for (int vertex = 1; vertex <= 255; vertex++, at++)
         for (int neighbour = 1; neighbour <= 255; neighbour++)
             if (neighbour != vertex) record[at++] = (uint8_t)neighbour;
-    LOOK(at == PLANARBEND_MAX_RECORD);
+    LOOK(at == PLANARBEND_MAX_RECORD8);
     LOOK(result_of(call_of(object, record, at, 0, 2, NULL)) == PLANARBEND_DEGREE);
     LOOK(result_of(call_of(object, record, at - 1, 0, 2, NULL)) == PLANARBEND_NOT_A_RECORD);
     LOOK(result_of(call_of(object, record, at + 1, 0, 2, NULL)) == PLANARBEND_NOT_A_RECORD);
@@ -123,7 +133,10 @@ static void look_at_largest(planarbend *object) {
 }
 
 static void look_at_arguments(planarbend *object) {
-    const planarbend_conditions none = {NULL, 0, NULL, 0}, both[] = {{NULL, 1, SIDES, 1}, {SIDES, 1, NULL, 1}};
+    const struct conditions none = {NULL, 0, NULL, 0, NULL, 0};
+    const planarbend_angle_at angle = {1, 2, 1};
+    const struct conditions nulls[] = {{NULL, 1, &angle, 1, ACROSS, 1}, {STRAIGHT, 1, NULL, 1, ACROSS, 1},
+                                       {STRAIGHT, 1, &angle, 1, NULL, 1}};
     const int numbers[] = {INT_MIN, -3, -2, -1, 0, 1, 2, 3, 4, 256, 65536, INT_MAX};
     for (size_t outer = 0; outer < sizeof numbers / sizeof *numbers; outer++)
         for (size_t drawing = 0; drawing < sizeof numbers / sizeof *numbers; drawing++) {
@@ -132,30 +145,61 @@ static void look_at_arguments(planarbend *object) {
             LOOK(result_of(call_of(object, EDGE, sizeof EDGE, numbers[outer], numbers[drawing], NULL)) == result);
             LOOK(result_of(call_of(object, EDGE, sizeof EDGE, numbers[outer], numbers[drawing], &none)) == result);
         }
-    for (int way = 0; way < 2; way++) {
-        const planarbend_conditions *conditions = way == 0 ? NULL : &none;
-        LOOK(result_of(call_of(object, NULL, 5, 0, 0, conditions)) == PLANARBEND_ARGUMENT);
-        LOOK(result_of(call_of(object, NULL, 0, 0, 0, conditions)) == PLANARBEND_NOT_A_RECORD);
-        LOOK(result_of(call_of(object, EDGE, 0, 0, 0, conditions)) == PLANARBEND_NOT_A_RECORD);
-        LOOK(result_of(call_of(object, TRIANGLE, sizeof TRIANGLE, 0, 1, both + way)) == PLANARBEND_ARGUMENT);
-        for (int kind = 0; kind < LISTS; kind++) {
-            planarbend_lists lists;
-            planarbend_counts counts;
-            size_t room = PLANARBEND_MAX_DARTS;
-            memset(&lists, 0, sizeof lists);
-            memset(&counts, UNTOUCHED, sizeof counts);
-            memcpy((char *)&lists + KINDS[kind].room, &room, sizeof room);
-            LOOK(planarbend_layout_keeping(object, EDGE, sizeof EDGE, 0, 1, conditions, &counts, &lists, NULL) == PLANARBEND_ARGUMENT);
-            look_untouched(&counts, sizeof counts);
-        }
+    LOOK(result_of(call_of(object, NULL, 5, 0, 0, NULL)) == PLANARBEND_ARGUMENT);
+    LOOK(result_of(call_of(object, NULL, 0, 0, 0, NULL)) == PLANARBEND_NOT_A_RECORD);
+    LOOK(result_of(call_of(object, EDGE, 0, 0, 0, NULL)) == PLANARBEND_NOT_A_RECORD);
+    for (int way = 0; way < 3; way++)
+        LOOK(result_of(call_of(object, TRIANGLE, sizeof TRIANGLE, 0, 1, nulls + way)) == PLANARBEND_ARGUMENT);
+    planarbend_request request = {.size = sizeof request, .record8 = EDGE, .record8_count = sizeof EDGE, .drawing = 1};
+    for (int kind = 0; kind < LISTS; kind++) {
+        planarbend_lists lists = {.size = sizeof lists};
+        planarbend_counts counts;
+        size_t room = MOST_DARTS;
+        memset(&counts, UNTOUCHED, sizeof counts);
+        memcpy((char *)&lists + KINDS[kind].room, &room, sizeof room);
+        LOOK(planarbend_layout(object, &request, &counts, &lists, NULL) == PLANARBEND_ARGUMENT);
+        look_untouched(&counts, sizeof counts);
     }
     LOOK(planarbend_new(NULL) == PLANARBEND_ARGUMENT);
     planarbend_free(NULL);
 }
 
+/* A request whose members are all 0 but its size and its record. */
+static void look_at_defaults(planarbend *object) {
+    planarbend_counts counts;
+    planarbend_request request = {.size = sizeof request, .record8 = TRIANGLE, .record8_count = sizeof TRIANGLE};
+    LOOK(planarbend_layout(object, &request, &counts, NULL, NULL) == PLANARBEND_OK);
+    LOOK(counts.vertices == 3 && counts.edges == 3 && counts.faces == 2 && counts.bends == 1 && counts.corners == 0);
+    planarbend_lists lists = {.size = sizeof lists};
+    planarbend_cut cut = {.size = sizeof cut};
+    LOOK(planarbend_layout(object, &request, NULL, &lists, &cut) == PLANARBEND_OK);
+    request.turns = STRAIGHT, request.turns_count = 3;
+    LOOK(planarbend_layout(object, &request, NULL, &lists, &cut) == PLANARBEND_NO_SHAPE && cut.outer_face == 0);
+    request.size--;
+    LOOK(planarbend_layout(object, &request, NULL, NULL, NULL) == PLANARBEND_ARGUMENT);
+}
+
+/* The marks of a cut in lists of every length: the inner face of a triangle cannot turn far enough. */
+static void look_at_cuts(planarbend *object) {
+    planarbend_request request = {.size = sizeof request, .record8 = TRIANGLE, .record8_count = sizeof TRIANGLE,
+                                  .turns = STRAIGHT, .turns_count = 3};
+    for (size_t vertices = 0; vertices < 6; vertices++)
+        for (size_t faces = 0; faces < 6; faces++) {
+            uint8_t marks[2][8];
+            memset(marks, UNTOUCHED, sizeof marks);
+            planarbend_cut cut = {.size = sizeof cut, .vertices = marks[0], .vertices_room = vertices, .faces = marks[1],
+                                  .faces_room = faces};
+            LOOK(planarbend_layout(object, &request, NULL, NULL, &cut) == PLANARBEND_NO_SHAPE && cut.outer_face == 0);
+            for (size_t at = 0; at < 8; at++) {
+                LOOK(marks[0][at] == (at < vertices ? 0 : UNTOUCHED));
+                LOOK(marks[1][at] == (at >= faces ? UNTOUCHED : at == 1));
+            }
+        }
+}
+
 /* Counts, lists and cut are written with or without the others. */
 static void look_at_parts(planarbend *object) {
-    const planarbend_conditions asked[] = {{SIDES, 2, NULL, 0}, {SIDES, 3, NULL, 0}};
+    const struct conditions asked[] = {{STRAIGHT, 2, NULL, 0, NULL, 0}, {STRAIGHT, 3, NULL, 0, NULL, 0}};
     for (int drawing = 0; drawing <= 2; drawing++)
         for (int way = 0; way < 3; way++)
             for (int left_out = 0; left_out < 8; left_out++) {
@@ -167,36 +211,103 @@ static void look_at_parts(planarbend *object) {
                 if (!call.without_counts) LOOK(memcmp(&one.counts, &good.counts, sizeof one.counts) == 0);
                 if (!call.without_lists) LOOK(memcmp(one.places, good.places, PLACES) == 0);
                 else look_untouched(one.places, PLACES);
-                if (!call.without_cut) LOOK(memcmp(&one.marks, &good.marks, sizeof one.marks) == 0);
+                if (call.without_cut) continue;
+                LOOK(memcmp(&one.marks, &good.marks, sizeof one.marks) == 0 && one.cut.outer_face == good.cut.outer_face);
             }
 }
 
-/* Conditions on a triangle. */
+/* Straight edges and inner faces of a triangle. */
 static void look_at_conditions(planarbend *object) {
     struct call call = call_of(object, TRIANGLE, sizeof TRIANGLE, 0, 1, NULL);
-    planarbend_conditions asked = {SIDES, 0, ACROSS, 0};
-    call.conditions = &asked, call.is_keeping = 1;
-    for (asked.straight_count = 0; asked.straight_count <= 3; asked.straight_count++) {
-        LOOK(result_of(call) == (asked.straight_count < 3 ? PLANARBEND_OK : PLANARBEND_NO_SHAPE));
+    struct conditions asked = {STRAIGHT, 0, NULL, 0, ACROSS, 0};
+    call.conditions = &asked;
+    for (asked.turns_count = 0; asked.turns_count <= 3; asked.turns_count++) {
+        LOOK(result_of(call) == (asked.turns_count < 3 ? PLANARBEND_OK : PLANARBEND_NO_SHAPE));
         if (one.result == PLANARBEND_OK) LOOK(one.counts.bends == 1);
     }
-    asked.straight_count = 0, asked.inner_count = 1;
+    asked.turns_count = 0, asked.inner_count = 1;
     LOOK(result_of(call) == PLANARBEND_OK);
     uint32_t outer = one.counts.outer_face;
     asked.inner = ACROSS + 1;
     LOOK(result_of(call) == PLANARBEND_OK && one.counts.outer_face + outer == 1);
     asked.inner = ACROSS, asked.inner_count = 2;
     LOOK(result_of(call) == PLANARBEND_NO_OUTER);
-    for (int from = 0; from <= 255; from += 1 + 250 * (from == 4))
-        for (int to = 0; to <= 255; to += 1 + 250 * (to == 4)) {
-            const planarbend_dart named[] = {{1, 2}, {(uint8_t)from, (uint8_t)to}};
-            int result = from >= 1 && from <= 3 && to >= 1 && to <= 3 && from != to ? PLANARBEND_OK : PLANARBEND_NO_EDGE;
-            const planarbend_conditions straight = {named, 2, NULL, 0}, inner = {NULL, 0, named + 1, 1};
-            call.conditions = &straight;
-            LOOK(result_of(call) == result);
-            call.conditions = &inner;
-            LOOK(result_of(call) == result);
+}
+
+/* Every pair of numbers, of 8 bits and more, as the ends of an edge, of an angle or of a face. */
+static void look_at_names(planarbend *object) {
+    static const uint16_t numbers[] = {0, 1, 2, 3, 4, 255, 256, 257, 258, 259, 511, 32767, 32768, 65281, 65535};
+    enum { NUMBERS = sizeof numbers / sizeof *numbers };
+    struct call call = call_of(object, TRIANGLE, sizeof TRIANGLE, 0, 1, NULL);
+    for (int pair = 0; pair < NUMBERS * NUMBERS; pair++) {
+        uint16_t from = numbers[pair / NUMBERS], to = numbers[pair % NUMBERS];
+        const planarbend_turns_along turns[] = {{1, 2, 0}, {from, to, 0}};
+        const planarbend_angle_at angle = {from, to, 1};
+        const planarbend_dart face = {from, to};
+        const struct conditions asked[] = {{turns, 2, NULL, 0, NULL, 0}, {NULL, 0, &angle, 1, NULL, 0}, {NULL, 0, NULL, 0, &face, 1}};
+        int is_edge = from >= 1 && from <= 3 && to >= 1 && to <= 3 && from != to;
+        for (int way = 0; way < 3; way++) {
+            call.conditions = asked + way;
+            LOOK(result_of(call) == (is_edge ? PLANARBEND_OK : PLANARBEND_NO_EDGE));
         }
+    }
+}
+
+/* A cycle 1, 2, 3, 4 whose inner face is on the left of 1-2, 2-3, 3-4 and 4-1. */
+static const uint8_t SQUARE[] = {4, 2, 4, 0, 3, 1, 0, 4, 2, 0, 1, 3, 0};
+
+/* The result of a square with these conditions, its inner face inside. */
+static int square_with(planarbend *object, const planarbend_turns_along *turns, size_t turns_count,
+                       const planarbend_angle_at *angles, size_t angles_count) {
+    const struct conditions asked = {turns, turns_count, angles, angles_count, ACROSS, 1};
+    return result_of(call_of(object, SQUARE, sizeof SQUARE, 0, 1, &asked));
+}
+
+/* Angles and turns of a square, with the fewest bends by hand. */
+static void look_at_given(planarbend *object) {
+    for (uint16_t angle = 0; angle < 400; angle += angle < 8 ? 1 : 31) {
+        const planarbend_angle_at angles[] = {{1, 2, angle}};
+        LOOK(square_with(object, NULL, 0, angles, 1) == (angle >= 1 && angle <= 3 ? PLANARBEND_OK
+            : angle == 4 ? PLANARBEND_NO_SHAPE : PLANARBEND_ARGUMENT));
+        if (one.result != PLANARBEND_OK) continue;
+        LOOK(one.counts.bends == (uint32_t)(angle == 3 ? 2 : angle == 2 ? 1 : 0) && one.lists.angles[0] == angle);
+    }
+    for (int turns = -40; turns <= 40; turns++) {
+        const planarbend_turns_along along[] = {{1, 2, (int16_t)turns}, {2, 1, (int16_t)-turns}, {1, 2, (int16_t)turns}};
+        LOOK(square_with(object, along, 3, NULL, 0) == PLANARBEND_OK);
+        const planarbend_turns *found = &one.lists.turns[0];
+        LOOK(found->left == (uint32_t)(turns > 0 ? turns : 0) && found->right == (uint32_t)(turns < 0 ? -turns : 0));
+        /* the four angles inside are 1 to 3, so the edges turn 0 to 8 times to the left in all */
+        LOOK(one.counts.bends == (uint32_t)(turns < 0 ? -2 * turns : turns > 8 ? 2 * turns - 8 : turns));
+    }
+}
+
+/* Conditions that differ, and the order of what is refused. */
+static void look_at_conflicts(planarbend *object) {
+    static const planarbend_turns_along turns[] = {{1, 2, 2}, {2, 1, -2}, {2, 1, 2}, {1, 2, 0}, {1, 3, 0}};
+    static const planarbend_angle_at angles[] = {{1, 2, 1}, {1, 2, 1}, {1, 2, 2}, {3, 2, 3}, {1, 3, 1}, {1, 2, 5}};
+    static const planarbend_turns_along many[] = {{1, 2, 7204}, {2, 3, 1}, {1, 2, 7204}, {1, 2, INT16_MIN}, {1, 2, INT16_MAX}};
+    LOOK(square_with(object, turns, 2, angles, 2) == PLANARBEND_OK);
+    LOOK(square_with(object, turns, 3, NULL, 0) == PLANARBEND_CONFLICT);
+    LOOK(square_with(object, turns + 2, 2, NULL, 0) == PLANARBEND_CONFLICT);
+    LOOK(square_with(object, NULL, 0, angles, 3) == PLANARBEND_CONFLICT);
+    LOOK(square_with(object, NULL, 0, angles + 2, 2) == PLANARBEND_NO_SHAPE); /* 2 inside and 3 outside of 4 in all */
+    LOOK(square_with(object, turns + 2, 3, NULL, 0) == PLANARBEND_NO_EDGE);
+    LOOK(square_with(object, turns + 2, 2, angles + 4, 1) == PLANARBEND_NO_EDGE);
+    LOOK(square_with(object, turns + 2, 3, angles + 5, 1) == PLANARBEND_ARGUMENT); /* an angle that is none comes first */
+    LOOK(square_with(object, many, 1, NULL, 0) == PLANARBEND_ROOM && one.counts.bends == 2 * 7204 - 8);
+    LOOK(square_with(object, many, 2, NULL, 0) == PLANARBEND_ARGUMENT);
+    LOOK(square_with(object, many, 3, NULL, 0) == PLANARBEND_ARGUMENT);
+    LOOK(square_with(object, many + 3, 1, NULL, 0) == PLANARBEND_ARGUMENT);
+    LOOK(square_with(object, many + 4, 1, NULL, 0) == PLANARBEND_ARGUMENT);
+    LOOK(square_with(object, many + 3, 2, NULL, 0) == PLANARBEND_CONFLICT);
+    struct conditions asked = {turns, 3, NULL, 0, ACROSS, 2};
+    struct call call = call_of(object, SQUARE, sizeof SQUARE, 0, 1, &asked);
+    LOOK(result_of(call) == PLANARBEND_CONFLICT);
+    asked.turns = many, asked.turns_count = 2;
+    LOOK(result_of(call) == PLANARBEND_ARGUMENT);
+    asked.turns_count = 1;
+    LOOK(result_of(call) == PLANARBEND_NO_OUTER);
 }
 
 /* ---- the length of lists and of records */
@@ -233,7 +344,8 @@ static void look_at_sizes(planarbend *object, const uint8_t *record, size_t size
         int more = length == size + 1;
         for (int byte = 0; byte < (more ? 256 : 1); byte += 51) {
             if (more) bytes[size] = (uint8_t)byte;
-            int result = planarbend_layout(object, bytes, length, 0, 0, NULL, NULL);
+            const planarbend_request request = {.size = sizeof request, .record8 = bytes, .record8_count = length};
+            int result = planarbend_layout(object, &request, NULL, NULL, NULL);
             LOOK(length == size ? result <= PLANARBEND_GENUS : result == PLANARBEND_NOT_A_RECORD);
         }
         __real_free(bytes);
@@ -245,7 +357,8 @@ static void look_at_sizes(planarbend *object, const uint8_t *record, size_t size
 static planarbend *new_object(int is_used) {
     planarbend *object;
     LOOK(planarbend_new(&object) == PLANARBEND_OK);
-    if (is_used) LOOK(planarbend_layout(object, TRIANGLE, sizeof TRIANGLE, 0, 2, NULL, NULL) == PLANARBEND_OK);
+    const planarbend_request request = {.size = sizeof request, .record8 = TRIANGLE, .record8_count = sizeof TRIANGLE, .drawing = 2};
+    if (is_used) LOOK(planarbend_layout(object, &request, NULL, NULL, NULL) == PLANARBEND_OK);
     return object;
 }
 
@@ -318,11 +431,11 @@ static size_t strip(uint8_t *record, int length, int width) {
 /* Graphs of growing size on one object. */
 static void look_at_growth(int runs) {
     uint32_t seed = 1;
-    const planarbend_conditions none = {NULL, 0, NULL, 0};
+    const struct conditions straight = {STRAIGHT, 1, NULL, 0, NULL, 0};
     for (int run = 0; run < runs; run++) {
-        struct call call = call_of(new_object(0), NULL, 0, run % 2, run / 2 % 3, run / 6 % 2 == 0 ? NULL : &none);
+        struct call call = call_of(new_object(0), NULL, 0, run % 2, run / 2 % 3, run / 6 % 2 == 0 ? NULL : &straight);
         for (int step = 0; step < 12; step++) {
-            uint8_t record[PLANARBEND_MAX_VERTICES * 5];
+            uint8_t record[MOST_VERTICES * 5];
             seed = seed * 1103515245 + 12345;
             int size = 2 + (int)(21 * (step * 1024 + (seed >> 16) % 1024) / 1024), width = 1 + (int)(seed >> 28) % 2;
             call.size = strip(record, size / width > 1 ? size / width : 2, width);
@@ -336,15 +449,15 @@ static void look_at_growth(int runs) {
 /* ---- */
 
 static void look_at_graph(planarbend *object, const uint8_t *record, size_t size, int is_small) {
-    const planarbend_dart first = {1, record[1]}, all[] = {{1, record[1]}, {record[1], 1}, {2, 99}};
-    const planarbend_conditions asked[] = {{&first, 1, NULL, 0}, {NULL, 0, &first, 1}, {all, 3, NULL, 0}};
-    for (int way = -1; way < 3; way++)
+    const planarbend_dart first = {1, record[1]};
+    const planarbend_turns_along turns[] = {{1, record[1], 0}, {record[1], 1, 0}, {2, 99, 0}};
+    const planarbend_angle_at angle = {1, record[1], 1};
+    const struct conditions asked[] = {{turns, 1, NULL, 0, NULL, 0}, {NULL, 0, NULL, 0, &first, 1}, {turns, 3, NULL, 0, NULL, 0},
+                                       {turns, 2, &angle, 1, NULL, 0}};
+    for (int way = -1; way < 4; way++)
         for (int drawing = 0; drawing <= 2; drawing++) {
             struct call call = call_of(object, record, size, (way + drawing) % 2 != 0, drawing, way < 0 ? NULL : asked + way);
             look_at_object(call);
-            call.is_keeping = 1; /* without conditions too */
-            look_at_object(call);
-            call.is_keeping = way >= 0;
             if (is_small || (way <= 0 && drawing == 2)) look_at_memory(call, is_small ? 1 : 37);
             if (way < 0 && (is_small || drawing == 1)) look_at_rooms(call);
         }
@@ -354,7 +467,7 @@ static void look_at_graph(planarbend *object, const uint8_t *record, size_t size
 int main(int count, char **words) {
     look_at_words();
     look_at_numbers();
-    look_at_buffer();
+    look_at_bounds();
     look_at_no_object();
     for (int way = 0; way < 2; way++) {
         planarbend *object = way == 0 ? NULL : new_object(0);
@@ -362,10 +475,15 @@ int main(int count, char **words) {
         look_at_largest(object);
         look_at_arguments(object);
         look_at_parts(object);
+        look_at_defaults(object);
+        look_at_cuts(object);
         look_at_conditions(object);
+        look_at_names(object);
+        look_at_given(object);
+        look_at_conflicts(object);
         planarbend_free(object);
     }
-    planarbend_conditions straight = {SIDES, 3, NULL, 0};
+    const struct conditions straight = {STRAIGHT, 3, NULL, 0, NULL, 0};
     look_at_memory(call_of(NULL, TRIANGLE, sizeof TRIANGLE, 0, 1, &straight), 1);
     look_at_growth(96);
     look_at_graph(NULL, EDGE, sizeof EDGE, 1);

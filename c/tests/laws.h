@@ -5,13 +5,13 @@
 #include <stdlib.h>
 #include <string.h>
 
-#include "planarbend.h"
+#include "bounds.h"
 
 /* The graph of a record that breaks no rule, with its darts and faces. */
 struct plane {
     int vertices, darts, edges, faces;
-    int tail[PLANARBEND_MAX_DARTS], head[PLANARBEND_MAX_DARTS], back[PLANARBEND_MAX_DARTS], next[PLANARBEND_MAX_DARTS];
-    int face[PLANARBEND_MAX_DARTS], lesser[PLANARBEND_MAX_EDGES], degree[PLANARBEND_MAX_FACES];
+    int tail[MOST_DARTS], head[MOST_DARTS], back[MOST_DARTS], next[MOST_DARTS];
+    int face[MOST_DARTS], lesser[MOST_EDGES], degree[MOST_FACES];
 };
 
 static void trace(struct plane *plane, const uint8_t *record) {
@@ -44,9 +44,11 @@ static void trace(struct plane *plane, const uint8_t *record) {
     }
 }
 
-/* What conditions ask for: by dart whether its edge is straight, and by face whether it is an inner one. */
+/* What conditions ask for: by dart its angle, or 0, whether its turns are given, and how many, to the left; and by face
+   whether it is an inner one. Both darts of an edge have their turns. */
 struct asked {
-    uint8_t straight[PLANARBEND_MAX_DARTS], inner[PLANARBEND_MAX_FACES];
+    uint8_t angle[MOST_DARTS], has_turns[MOST_DARTS], inner[MOST_FACES];
+    int turns[MOST_DARTS];
 };
 
 /* The face with the most darts of those that may be outside, or -1. */
@@ -61,7 +63,7 @@ static int greatest_face(const struct plane *plane, const struct asked *asked) {
 
 static const char *fault_of_shape(const struct plane *plane, const struct asked *asked, const planarbend_counts *counts,
                                   const planarbend_lists *lists) {
-    int at_vertex[256] = {0}, around[PLANARBEND_MAX_FACES] = {0};
+    int at_vertex[256] = {0}, around[MOST_FACES] = {0};
     uint32_t bends = 0;
     if ((int)counts->vertices != plane->vertices || (int)counts->edges != plane->edges) return "vertices or edges";
     if ((int)counts->faces != plane->faces || (int)counts->outer_face >= plane->faces) return "faces";
@@ -70,7 +72,8 @@ static const char *fault_of_shape(const struct plane *plane, const struct asked 
         planarbend_turns turns = lists->turns[dart], other = lists->turns[plane->back[dart]];
         if (lists->angles[dart] < 1 || lists->angles[dart] > 4) return "an angle";
         if (turns.left != other.right || turns.right != other.left || (turns.left > 0 && turns.right > 0)) return "turns";
-        if (asked->straight[dart] && turns.left + turns.right > 0) return "an edge is not straight";
+        if (asked->has_turns[dart] && (int)turns.left - (int)turns.right != asked->turns[dart]) return "turns that are given";
+        if (asked->angle[dart] > 0 && lists->angles[dart] != asked->angle[dart]) return "an angle that is given";
         at_vertex[plane->head[dart]] += lists->angles[dart];
         around[plane->face[dart]] += 2 - lists->angles[dart] + (int)turns.left - (int)turns.right;
         bends += turns.left;
@@ -86,9 +89,12 @@ static const char *fault_of_prices(const struct plane *plane, const struct asked
     for (int dart = 0; dart < plane->darts; dart++) {
         int32_t vertex = lists->vertex_prices[plane->head[dart] - 1], left = lists->face_prices[plane->face[dart]];
         int32_t right = lists->face_prices[plane->face[plane->back[dart]]];
-        if (lists->angles[dart] < 4 && vertex < left) return "the prices at an angle below 4";
-        if (lists->angles[dart] > 1 && vertex > left) return "the prices at an angle above 1";
-        if (!asked->straight[dart] && 1 + left - right < 0) return "the prices across an edge";
+        if (asked->angle[dart] == 0) {
+            if (lists->angles[dart] < 4 && vertex < left) return "the prices at an angle below 4";
+            if (lists->angles[dart] > 1 && vertex > left) return "the prices at an angle above 1";
+        }
+        if (asked->has_turns[dart]) continue;
+        if (1 + left - right < 0) return "the prices across an edge";
         if (lists->turns[dart].left > 0 && 1 + left - right != 0) return "the prices across an edge that turns left";
     }
     return NULL;
@@ -163,9 +169,9 @@ static int by_left(const void *one, const void *other) {
 static const char *fault_of_drawing(const struct plane *plane, const planarbend_counts *counts, const planarbend_lists *lists,
                                     long *length) {
     static struct piece pieces[MOST_PIECES];
-    static int leaves[PLANARBEND_MAX_DARTS], arrives[PLANARBEND_MAX_DARTS];
+    static int leaves[MOST_DARTS], arrives[MOST_DARTS];
     int count;
-    if (counts->corners != counts->bends || counts->corners > MOST_PIECES - PLANARBEND_MAX_EDGES) return "the number of corners";
+    if (counts->corners != counts->bends || counts->corners > MOST_PIECES - MOST_EDGES) return "the number of corners";
     if (lists->corner_starts[0] != 0 || lists->corner_starts[plane->edges] != counts->corners) return "corner_starts";
     const char *fault = find_pieces(plane, lists, pieces, &count, leaves, arrives);
     if (fault != NULL) return fault;
@@ -183,18 +189,46 @@ static const char *fault_of_drawing(const struct plane *plane, const planarbend_
     return NULL;
 }
 
+/* Whether the points alone show what is given: the turns along edges, and the angles between their first pieces. */
+static const char *fault_of_given(const struct plane *plane, const struct asked *asked, const planarbend_lists *lists) {
+    static int leaves[MOST_DARTS];
+    for (int edge = 0; edge < plane->edges; edge++) {
+        int dart = plane->lesser[edge], before = -1, turned = 0;
+        planarbend_point at = lists->points[plane->tail[dart] - 1];
+        for (uint32_t corner = lists->corner_starts[edge]; corner <= lists->corner_starts[edge + 1]; corner++) {
+            planarbend_point end = lists->points[plane->head[dart] - 1];
+            if (corner < lists->corner_starts[edge + 1]) end = lists->corners[corner];
+            int now = direction(at, end);
+            if (before < 0) leaves[dart] = now;
+            else turned += (now - before + 4) % 4 == 1 ? 1 : -1;
+            before = now, at = end;
+        }
+        leaves[plane->back[dart]] = (before + 2) % 4;
+        if (!asked->has_turns[dart]) continue;
+        int corners = (int)(lists->corner_starts[edge + 1] - lists->corner_starts[edge]);
+        if (turned != asked->turns[dart] || corners != abs(turned)) return "turns that are given, drawn";
+    }
+    for (int dart = 0; dart < plane->darts; dart++) {
+        int angle = (leaves[plane->back[dart]] - leaves[plane->next[dart]] + 3) % 4 + 1;
+        if (asked->angle[dart] > 0 && angle != asked->angle[dart]) return "an angle that is given, drawn";
+    }
+    return NULL;
+}
+
 static const char *fault_of_cut(const struct plane *plane, const struct asked *asked, const planarbend_cut *cut) {
     int sum = 0, greatest = greatest_face(plane, asked);
     if ((int)cut->outer_face != greatest) return "the outer face of a cut";
-    for (int at = 0; at < PLANARBEND_MAX_VERTICES; at++)
+    for (int at = 0; at < (int)cut->vertices_room; at++)
         if (cut->vertices[at] > (at < plane->vertices)) return "a vertex of a cut";
-    for (int at = 0; at < PLANARBEND_MAX_FACES; at++)
+    for (int at = 0; at < (int)cut->faces_room; at++)
         if (cut->faces[at] > (at < plane->faces)) return "a face of a cut";
     for (int dart = 0; dart < plane->darts; dart++) {
         int face = plane->face[dart], across = plane->face[plane->back[dart]], head = plane->head[dart] - 1;
-        if (cut->vertices[head] && !cut->faces[face]) return "a right angle can leave a cut";
-        if (!asked->straight[dart] && cut->faces[face] && !cut->faces[across]) return "a bend can leave a cut";
-        sum -= cut->vertices[head];
+        int beyond = asked->angle[dart] > 0 ? asked->angle[dart] - 1 : 0;
+        if (asked->angle[dart] == 0 && cut->vertices[head] && !cut->faces[face]) return "a right angle can leave a cut";
+        if (!asked->has_turns[dart] && cut->faces[face] && !cut->faces[across]) return "a bend can leave a cut";
+        sum -= (1 + beyond) * cut->vertices[head];
+        if (cut->faces[face]) sum += beyond - (asked->has_turns[dart] ? asked->turns[dart] : 0);
     }
     for (int vertex = 0; vertex < plane->vertices; vertex++) sum += 4 * cut->vertices[vertex];
     for (int face = 0; face < plane->faces; face++)

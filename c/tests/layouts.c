@@ -37,6 +37,7 @@ static long look_at_layout(const struct call *call, const struct asked *asked, c
     if (call->outer == PLANARBEND_OUTER_FIRST) LOOK((int)answer->counts.outer_face == greatest_face(&plane, asked));
     if (call->drawing == PLANARBEND_DRAWING_NONE) LOOK(answer->counts.corners == 0);
     else look_at_fault(fault_of_drawing(&plane, &answer->counts, &answer->lists, &length));
+    if (call->drawing != PLANARBEND_DRAWING_NONE) look_at_fault(fault_of_given(&plane, asked, &answer->lists));
     return length;
 }
 
@@ -49,7 +50,7 @@ static long ask_both(const struct call *call, const struct asked *asked) {
     ask(call, &one);
     ask(&without, &other);
     LOOK(is_same(&one, &other));
-    if (one.result == PLANARBEND_NO_SHAPE) look_at_fault(fault_of_cut(&plane, asked, &one.marks.cut));
+    if (one.result == PLANARBEND_NO_SHAPE) look_at_fault(fault_of_cut(&plane, asked, &one.cut));
     return one.result == PLANARBEND_OK ? look_at_layout(call, asked, &one) : 0;
 }
 
@@ -75,44 +76,55 @@ static int ask_each(struct call *call, const struct asked *asked, long *lengths)
 
 /* ---- conditions */
 
-static planarbend_dart straight[4 * PLANARBEND_MAX_DARTS], inner[4 * PLANARBEND_MAX_DARTS];
+static planarbend_turns_along turns[2 * MOST_DARTS];
+static planarbend_angle_at angles[2 * MOST_DARTS];
+static planarbend_dart inner[4 * MOST_DARTS];
 
-static planarbend_dart ends_of(int dart) {
-    planarbend_dart ends;
-    ends.from = (uint16_t)plane.tail[dart], ends.to = (uint16_t)plane.head[dart];
-    return ends;
+/* Puts the angle and the turns that are given of a dart into a list. */
+static void name_given(struct conditions *made, const struct asked *asked, int dart) {
+    uint16_t from = (uint16_t)plane.tail[dart], to = (uint16_t)plane.head[dart];
+    planarbend_turns_along along = {from, to, (int16_t)asked->turns[dart]};
+    planarbend_angle_at angle = {from, to, asked->angle[dart]};
+    if (asked->has_turns[dart]) turns[made->turns_count++] = along;
+    if (asked->angle[dart] > 0) angles[made->angles_count++] = angle;
 }
 
-/* Conditions that name each dart of the straight edges and of the inner faces, or only one of each, in a random order. */
-static planarbend_conditions conditions_of(const struct asked *asked, int with_all) {
-    planarbend_conditions made = {straight, 0, inner, 0};
-    uint8_t is_named[PLANARBEND_MAX_FACES] = {0};
+/* Conditions that name each dart of the edges whose turns are given, and each dart of the inner faces, or only one of each;
+   the faces in a random order. */
+static struct conditions conditions_of(const struct asked *asked, int with_all) {
+    struct conditions made = {turns, 0, angles, 0, inner, 0};
+    uint8_t is_named[MOST_FACES] = {0};
     for (int round = 0; round < (with_all ? 2 : 1); round++)
         for (int dart = 0; dart < plane.darts; dart++) {
-            if (asked->straight[dart] && (with_all || dart < plane.back[dart])) straight[made.straight_count++] = ends_of(dart);
+            struct asked once = *asked;
+            if (!with_all && dart > plane.back[dart]) once.has_turns[dart] = 0;
+            name_given(&made, &once, dart);
             if (!asked->inner[plane.face[dart]] || (!with_all && is_named[plane.face[dart]]++)) continue;
-            inner[made.inner_count++] = ends_of(dart);
+            planarbend_dart ends = {(uint16_t)plane.tail[dart], (uint16_t)plane.head[dart]};
+            inner[made.inner_count++] = ends;
         }
     for (size_t at = made.inner_count; at > 1; at--) {
         size_t with = random_below((uint32_t)at);
         planarbend_dart held = inner[at - 1];
         inner[at - 1] = inner[with], inner[with] = held;
     }
-    if (made.straight_count == 0) made.straight = NULL;
+    if (made.turns_count == 0) made.turns = NULL;
+    if (made.angles_count == 0) made.angles = NULL;
     if (made.inner_count == 0) made.inner = NULL;
     return made;
 }
 
-static void set_straight(struct asked *asked, int dart) {
-    asked->straight[dart] = asked->straight[plane.back[dart]] = 1;
+static void set_turns(struct asked *asked, int dart, int number) {
+    asked->has_turns[dart] = asked->has_turns[plane.back[dart]] = 1;
+    asked->turns[dart] = number, asked->turns[plane.back[dart]] = -number;
 }
 
 /* Leaves only those edges free that lead from a face to one that was not met, along ever longer paths: then there is a shape,
    and it may have many bends. */
 static void set_all_but_tree(struct asked *asked) {
-    static int path[PLANARBEND_MAX_FACES], length;
-    uint8_t is_met[PLANARBEND_MAX_FACES] = {1};
-    memset(asked->straight, 1, sizeof asked->straight);
+    static int path[MOST_FACES], length;
+    uint8_t is_met[MOST_FACES] = {1};
+    memset(asked->has_turns, 1, sizeof asked->has_turns);
     for (length = 1, path[0] = 0; length > 0;) {
         int next = -1;
         for (int dart = 0; dart < plane.darts && next < 0; dart++)
@@ -121,24 +133,36 @@ static void set_all_but_tree(struct asked *asked) {
             length--;
             continue;
         }
-        asked->straight[next] = asked->straight[plane.back[next]] = 0;
+        asked->has_turns[next] = asked->has_turns[plane.back[next]] = 0;
         path[length] = plane.face[plane.back[next]];
         is_met[path[length++]] = 1;
     }
 }
 
-enum { WAYS = 9 };
+enum { WAYS = 11 };
 
-/* One way to ask: 0 nothing, 1 to 4 some at random, 5 all edges straight, 6 all faces inside, 7 all but the last face, 8 all
-   edges straight but those of a tree of faces. */
+/* A few angles and turns of any kind. */
+static void set_few(struct asked *asked) {
+    static const uint8_t some_angles[] = {1, 1, 2, 2, 3, 4};
+    static const int some_turns[] = {0, 0, 1, -1, 2, -2, 6};
+    for (int round = 1 + (int)random_below(5); round > 0; round--) {
+        int dart = (int)random_below((uint32_t)plane.darts);
+        if (random_below(2) > 0) asked->angle[dart] = some_angles[random_below(6)];
+        else set_turns(asked, dart, some_turns[random_below(7)]);
+    }
+}
+
+/* One way to ask: 0 nothing, 1 to 4 some edges straight at random, 5 all, 6 all faces inside, 7 all but the last face, 8 all
+   edges straight but those of a tree of faces, 9 a few angles and turns, 10 the same and some faces inside. */
 static struct asked asked_in(int way) {
     struct asked asked = FREE;
     for (int dart = 0; dart < plane.darts; dart++)
-        if (way == 5 || (way > 0 && random_below(12) < (uint32_t)way)) set_straight(&asked, dart);
+        if (way == 5 || (way > 0 && way < 5 && random_below(12) < (uint32_t)way)) set_turns(&asked, dart, 0);
     for (int face = 0; face < plane.faces; face++)
-        asked.inner[face] = way == 6 || (way == 7 && face < plane.faces - 1) || (way < 5 && random_below(6) < (uint32_t)way);
-    if (way >= 6) memset(asked.straight, 0, sizeof asked.straight);
+        asked.inner[face] = way == 6 || (way == 7 && face < plane.faces - 1) || (way < 5 && random_below(6) < (uint32_t)way)
+            || (way == 10 && random_below(6) == 0);
     if (way == 8) set_all_but_tree(&asked);
+    if (way >= 9) set_few(&asked);
     return asked;
 }
 
@@ -149,11 +173,11 @@ static int best_face(struct call call, const struct asked *asked, uint32_t *bend
         if (asked->inner[face]) continue;
         struct asked only = *asked;
         for (int inside = 0; inside < plane.faces; inside++) only.inner[inside] = inside != face;
-        planarbend_conditions conditions = conditions_of(&only, 0);
+        struct conditions conditions = conditions_of(&only, 0);
         call.conditions = &conditions, call.outer = PLANARBEND_OUTER_FIRST, call.drawing = PLANARBEND_DRAWING_NONE;
         ask(&call, &other);
         if (other.result == PLANARBEND_NO_SHAPE) {
-            look_at_fault(fault_of_cut(&plane, &only, &other.marks.cut));
+            look_at_fault(fault_of_cut(&plane, &only, &other.cut));
             continue;
         }
         LOOK(other.result == PLANARBEND_OK);
@@ -172,50 +196,67 @@ static void look_at_best(const struct call *call, const struct asked *asked) {
 
 static void look_at_way(struct call call, int way, struct sums *sums) {
     const struct asked asked = asked_in(way);
-    planarbend_conditions conditions = conditions_of(&asked, random_below(2) > 0);
-    call.is_keeping = 1;
+    struct conditions conditions = conditions_of(&asked, random_below(2) > 0);
+    int is_free = conditions.turns_count + conditions.angles_count + conditions.inner_count == 0;
     call.conditions = way == 0 && random_below(2) > 0 ? NULL : &conditions;
     call.outer = (int)random_below(2);
-    int has_shape = ask_each(&call, &asked, call.conditions == NULL ? sums->length : sums->length_kept);
-    LOOK(has_shape || call.conditions == NULL);
+    int has_shape = ask_each(&call, &asked, is_free ? sums->length : sums->length_kept);
+    LOOK(has_shape || is_free);
     int result = one.result;
     if (greatest_face(&plane, &asked) < 0) LOOK(result == PLANARBEND_NO_OUTER);
-    else if (way == 0 || way >= 7) LOOK(result == PLANARBEND_OK);
+    else if (way == 0 || way == 7 || way == 8) LOOK(result == PLANARBEND_OK);
     else LOOK(result == PLANARBEND_OK || result == PLANARBEND_NO_SHAPE);
     if (call.outer == PLANARBEND_OUTER_BEST && result != PLANARBEND_NO_OUTER) look_at_best(&call, &asked);
 }
 
-/* A few calls, other ones for each number: without conditions, some at random, all edges straight, and one face outside. */
+/* A few calls, other ones for each number: without conditions, some edges or all straight, one face outside, a few angles
+   and turns. */
 static void look_at_once(struct call call, uint32_t number, struct sums *sums) {
-    static const int ways[] = {0, 3, 5, 7};
-    for (uint32_t at = 0; at < 4; at++) {
+    static const int ways[] = {0, 3, 5, 7, 9};
+    for (uint32_t at = 0; at < 5; at++) {
         const struct asked asked = asked_in(ways[at]);
-        planarbend_conditions conditions = conditions_of(&asked, number % 2 > 0);
-        call.is_keeping = at > 0, call.conditions = at > 0 ? &conditions : NULL;
+        struct conditions conditions = conditions_of(&asked, number % 2 > 0);
+        call.conditions = at > 0 ? &conditions : NULL;
         call.outer = (int)((number + at) / 3 % 2), call.drawing = (int)((number + at) % 3);
         ask(&call, &one);
         if (greatest_face(&plane, &asked) < 0) LOOK(one.result == PLANARBEND_NO_OUTER);
-        else if (one.result == PLANARBEND_NO_SHAPE) look_at_fault(fault_of_cut(&plane, &asked, &one.marks.cut));
+        else if (one.result == PLANARBEND_NO_SHAPE) look_at_fault(fault_of_cut(&plane, &asked, &one.cut));
         else LOOK(one.result == PLANARBEND_OK);
         if (one.result == PLANARBEND_OK) look_at_layout(&call, &asked, &one);
-        LOOK(one.result == PLANARBEND_OK || ways[at] == 3 || ways[at] == 5);
+        LOOK(one.result == PLANARBEND_OK || (at > 0 && ways[at] != 7));
         if (at == 0) sums->bends[call.outer] += one.counts.bends;
     }
 }
 
 /* ---- files */
 
+/* All angles and turns of the layout found last, given back: the shape stays as it is. */
+static void look_at_back(struct call call) {
+    struct asked asked = FREE;
+    quick = one;
+    for (int dart = 0; dart < plane.darts; dart++) {
+        asked.angle[dart] = one.lists.angles[dart];
+        set_turns(&asked, dart, (int)one.lists.turns[dart].left - (int)one.lists.turns[dart].right);
+    }
+    for (int face = 0; face < plane.faces; face++) asked.inner[face] = face != (int)one.counts.outer_face;
+    struct conditions conditions = conditions_of(&asked, random_below(2) > 0);
+    call.conditions = &conditions, call.outer = (int)random_below(2), call.drawing = PLANARBEND_DRAWING_QUICK;
+    ask_both(&call, &asked);
+    LOOK(one.result == PLANARBEND_OK && one.counts.bends == quick.counts.bends);
+}
+
 static void look_at_graph(planarbend *object, const uint8_t *record, size_t size, int ways, struct sums *sums) {
-    struct call call = {object, record, size, 0, 0, NULL, 0, 0, 0, 0, 0};
+    struct call call = {object, record, size, 0, 0, NULL, 0, 0, 0, 0};
     trace(&plane, record);
     sums->graphs++;
     for (call.outer = 0; call.outer < 2; call.outer++) {
         ask_each(&call, &FREE, sums->length);
         LOOK(one.result == PLANARBEND_OK);
         sums->bends[call.outer] += one.counts.bends;
+        look_at_back(call);
     }
-    if (ways > 8 && plane.faces > 64) ways = 8; /* the drawings of the last way would be too large */
-    for (int way = 0; way < ways; way++) look_at_way(call, way, sums);
+    for (int way = 0; way < ways; way++)
+        if (way != 8 || plane.faces <= 64) look_at_way(call, way, sums); /* else the drawings would be too large */
 }
 
 int main(int count, char **words) {
@@ -234,7 +275,7 @@ int main(int count, char **words) {
                 look_at_graph(object, bytes + at, length, number % share == 0 ? WAYS : 0, &sums);
                 continue;
             }
-            struct call call = {object, bytes + at, length, 0, 0, NULL, 0, 0, 0, 0, 0};
+            struct call call = {object, bytes + at, length, 0, 0, NULL, 0, 0, 0, 0};
             trace(&plane, bytes + at);
             sums.graphs++;
             look_at_once(call, (uint32_t)number, &sums);

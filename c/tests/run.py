@@ -31,7 +31,7 @@ WRAPPED = ["-Wl,--wrap=malloc,--wrap=calloc,--wrap=realloc,--wrap=free"]
 ADDRESSES = ["-DEXACT", "-fsanitize=address,undefined", "-fno-sanitize-recover=all"]
 VALGRIND = ["valgrind", "--quiet", "--error-exitcode=9", "--leak-check=full", "--show-leak-kinds=all"]
 VERSION = (ROOT / "checks/start/texts/version").read_text(encoding="utf-8").split()[1]
-OWN = [SOURCE / "planarbend.c", f'-DPLANARBEND_VERSION="{VERSION}"']
+OWN = [SOURCE / "planarbend.c"]
 SECONDS, CLOCK_SECONDS = 200, 1800  # the most that a command may take, of the processor and by the clock
 
 # The sums of bends for the first and for the best outer face, by LEMON's network simplex (bench/outside/lemon.cc).
@@ -111,8 +111,18 @@ def test_header_in_cpp(folder: Path) -> None:
 # ---- the calls
 
 
+def test_header_example(folder: Path) -> None:
+    """The program in the header compiles as it stands; with a straight edge, a triangle has one bend."""
+    header = (SOURCE / "planarbend.h").read_text(encoding="utf-8")
+    lines = re.findall(r"^ \*     (.*)$|^ \*$", header.partition("*/")[0], re.M)
+    (folder / "example.c").write_text("\n".join(lines).replace("<planarbend.h>", '"planarbend.h"'), encoding="utf-8")
+    said = run(compiled(folder, folder / "example.c", *STATIC, standard="c99"))
+    if not re.fullmatch(r"1 bends, vertex 1 at \d+, \d+\n", said):
+        raise Failed(f"the example prints {said}")
+
+
 def test_crossing(folder: Path) -> None:
-    """What is passed to the proved calls and back, and the memory lent to them."""
+    """What is passed to the proved call and back, and the memory lent to it."""
     run(compiled(folder, TESTS / "crossing.c", *OWN, *WRAPPED))
 
 
@@ -127,7 +137,7 @@ def test_crossing_addresses(folder: Path) -> None:
 
 
 def test_edges(folder: Path) -> None:
-    """Null pointers, rooms, rules, largest records, refused allocations, growing graphs."""
+    """Null pointers, rooms, rules, largest records, each condition, refused allocations, growing graphs."""
     made = compiled(folder, TESTS / "edges.c", f'-DVERSION="{VERSION}"', *WRAPPED, *STATIC)
     run(made, *[DATA / f"{name}.pc" for name in ("planar_d4_n6", "planar_d4_n8", "cubic60")])
 
@@ -216,8 +226,8 @@ def test_examples(folder: Path) -> None:
 
 
 CASES: list[Callable[[Path], None]] = [
-    test_names, test_package, test_header_in_cpp, test_crossing, test_crossing_addresses, test_edges, test_layouts,
-    test_sizes, test_wide, test_threads, test_valgrind, test_examples]
+    test_names, test_package, test_header_in_cpp, test_header_example, test_crossing, test_crossing_addresses,
+    test_edges, test_layouts, test_sizes, test_wide, test_threads, test_valgrind, test_examples]
 
 
 def seconds() -> float:

@@ -31,8 +31,14 @@ static size_t record_size(const uint8_t *bytes, size_t size) {
 }
 
 int main(int count, char **words) {
-    static planarbend_buffer buffer;
-    planarbend_lists lists = planarbend_lists_of(&buffer);
+    static uint8_t angles[4800];
+    static planarbend_turns turns[4800];
+    static int32_t vertex_prices[1200], face_prices[1202];
+    static planarbend_point points[1200], corners[8000];
+    static uint32_t corner_starts[2401];
+#define LIST(name) .name = name, .name##_room = sizeof name / sizeof *name
+    const planarbend_lists lists = {.size = sizeof lists, LIST(angles), LIST(turns), LIST(vertex_prices), LIST(face_prices),
+                                    LIST(points), LIST(corner_starts), LIST(corners)};
     FILE *file = count == 6 ? fopen(words[5], "rb") : NULL;
     if (file == NULL || fseek(file, 0, SEEK_END) != 0) return 2;
     size_t size = (size_t)ftell(file);
@@ -51,7 +57,9 @@ int main(int count, char **words) {
         for (size_t at = HEADER; at < size; graphs++) {
             planarbend_counts counts;
             size_t length = record_size(bytes + at, size - at);
-            if (planarbend_layout(object, bytes + at, length, outer, drawing, &counts, &lists) == PLANARBEND_OK) bends += counts.bends;
+            const planarbend_request request = {.size = sizeof request, .record8 = bytes + at, .record8_count = length,
+                                                .outer = outer, .drawing = drawing};
+            if (planarbend_layout(object, &request, &counts, &lists, NULL) == PLANARBEND_OK) bends += counts.bends;
             at += length;
         }
         double took = processor_seconds() - start;

@@ -5,15 +5,17 @@
 #define _POSIX_C_SOURCE 200809L
 #include <pthread.h>
 
+#include "bounds.h"
 #include "memory.h"
-#include "planarbend.h"
 
-enum { MOST = PLANARBEND_WIDE_MAX_VERTICES, STACK = 256 << 10, ROOM = 5 << 20 };
+enum { MOST = PLANARBEND_MAX_VERTICES, STACK = 256 << 10, ROOM = 5 << 20 };
 
 static uint16_t record[5 * MOST + 10];
 static size_t entries;
 static planarbend_counts counts;
-static planarbend_cut cut;
+static uint8_t in_vertices[PLANARBEND_MAX_VERTICES], in_faces[PLANARBEND_MAX_FACES];
+static planarbend_cut cut = {.size = sizeof cut, .vertices = in_vertices, .vertices_room = sizeof in_vertices, .faces = in_faces,
+                             .faces_room = sizeof in_faces};
 
 static void add(unsigned entry) { record[entries++] = (uint16_t)entry; }
 
@@ -30,10 +32,16 @@ static void make_cycle(unsigned sides, int with_leaves) {
     for (unsigned vertex = 1; with_leaves && vertex <= sides; vertex++) add(vertex), add(0);
 }
 
-static int called(planarbend *object, int outer, int drawing, const planarbend_conditions *conditions) {
-    const planarbend_wide_request request = {sizeof request, record, entries, outer, drawing, conditions};
+static int called(planarbend *object, int outer, int drawing, const struct conditions *conditions) {
+    planarbend_request request = {.size = sizeof request, .record16 = record, .record16_count = entries, .outer = outer,
+                                  .drawing = drawing};
     memset(&counts, 0xA5, sizeof counts);
-    return planarbend_layout_wide(object, &request, &counts, NULL, &cut);
+    if (conditions != NULL) {
+        request.turns = conditions->turns, request.turns_count = conditions->turns_count;
+        request.angles = conditions->angles, request.angles_count = conditions->angles_count;
+        request.inner = conditions->inner, request.inner_count = conditions->inner_count;
+    }
+    return planarbend_layout(object, &request, &counts, NULL, &cut);
 }
 
 static void look_at_counts(planarbend *object, unsigned vertices, unsigned edges, unsigned faces, unsigned bends) {
@@ -84,9 +92,12 @@ static void look_at_results(planarbend *object) {
 /* A triangle far from vertex 1, on a path: its edges cannot all be straight, and the cut names its vertices or faces. */
 static void look_at_conditions(planarbend *object) {
     const unsigned last = MOST - 2;
-    const planarbend_dart sides[] = {{MOST - 2, MOST - 1}, {MOST, MOST - 1}, {MOST, MOST - 2}};
-    const planarbend_dart nowhere = {1, MOST};
-    const planarbend_conditions straight = {sides, 3, NULL, 0}, two = {sides, 2, NULL, 0}, none = {&nowhere, 1, NULL, 0};
+    const planarbend_turns_along sides[] = {{MOST - 2, MOST - 1, 0}, {MOST, MOST - 1, 0}, {MOST, MOST - 2, 0}};
+    const planarbend_turns_along many[] = {{1, 2, 6004}, {MOST - 2, MOST - 1, 1200}, {3, 2, 1}}, nowhere = {1, MOST, 0};
+    const planarbend_angle_at angles[] = {{2, 1, 4}, {MOST - 1, MOST - 2, 1}};
+    const struct conditions straight = {sides, 3, NULL, 0, NULL, 0}, two = {sides, 2, angles, 2, NULL, 0};
+    const struct conditions none = {&nowhere, 1, NULL, 0, NULL, 0}, most = {many, 2, NULL, 0, NULL, 0};
+    const struct conditions more = {many, 3, NULL, 0, NULL, 0};
     entries = 0;
     add(MOST);
     for (unsigned vertex = 1; vertex < last; vertex++) {
@@ -96,14 +107,15 @@ static void look_at_conditions(planarbend *object) {
     add(last - 1), add(last + 1), add(last + 2), add(0);
     add(last), add(last + 2), add(0);
     add(last), add(last + 1), add(0);
-    memset(&cut, 0xA5, sizeof cut);
+    memset(in_vertices, 0xA5, sizeof in_vertices), memset(in_faces, 0xA5, sizeof in_faces);
     LOOK(called(object, 0, 2, &two) == PLANARBEND_OK && counts.bends == 1);
-    LOOK(called(object, 0, 2, &none) == PLANARBEND_NO_EDGE && is_filled(&cut, sizeof cut, 0xA5));
+    LOOK(called(object, 0, 0, &most) == PLANARBEND_OK && counts.bends >= 7204);
+    LOOK(called(object, 0, 0, &more) == PLANARBEND_ARGUMENT);
+    LOOK(called(object, 0, 2, &none) == PLANARBEND_NO_EDGE);
+    LOOK(is_filled(in_vertices, sizeof in_vertices, 0xA5) && is_filled(in_faces, sizeof in_faces, 0xA5));
     LOOK(called(object, 0, 2, &straight) == PLANARBEND_NO_SHAPE && cut.outer_face == 0);
-    int marks[2] = {0, 0};
-    for (int at = 0; at < PLANARBEND_WIDE_MAX_VERTICES; at++) LOOK(cut.vertices[at] <= 1), marks[0] += cut.vertices[at];
-    for (int at = 0; at < PLANARBEND_WIDE_MAX_FACES; at++) LOOK(cut.faces[at] == (at == 1)), marks[1] += cut.faces[at];
-    LOOK(marks[1] == 1);
+    for (int at = 0; at < PLANARBEND_MAX_VERTICES; at++) LOOK(in_vertices[at] <= 1);
+    for (int at = 0; at < PLANARBEND_MAX_FACES; at++) LOOK(in_faces[at] == (at == 1));
 }
 
 /* An object's memory is bounded, and a second call of the same graph allocates nothing. */

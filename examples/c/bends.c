@@ -11,7 +11,7 @@
 /* Reads a record: one byte n, and n lists that end with a byte 0. Returns its size, and 0 at the end of the input. */
 static size_t read_record(FILE *input, uint8_t *record) {
     size_t size = 0, lists = 1;
-    for (int byte; lists > 0 && size < PLANARBEND_MAX_RECORD && (byte = getc(input)) != EOF;) {
+    for (int byte; lists > 0 && size < PLANARBEND_MAX_RECORD8 && (byte = getc(input)) != EOF;) {
         if (size == 0) lists = (size_t)byte;
         else if (byte == 0) lists--;
         record[size++] = (uint8_t)byte;
@@ -20,7 +20,7 @@ static size_t read_record(FILE *input, uint8_t *record) {
 }
 
 int main(void) {
-    static uint8_t record[PLANARBEND_MAX_RECORD];
+    static uint8_t record[PLANARBEND_MAX_RECORD8];
     char header[15];
     planarbend *object;
     planarbend_counts counts;
@@ -30,7 +30,8 @@ int main(void) {
     }
     if (planarbend_new(&object) != PLANARBEND_OK) return 1;
     for (size_t size; (size = read_record(stdin, record)) > 0;) {
-        int result = planarbend_layout(object, record, size, PLANARBEND_OUTER_FIRST, PLANARBEND_DRAWING_NONE, &counts, NULL);
+        const planarbend_request request = {.size = sizeof request, .record8 = record, .record8_count = size};
+        int result = planarbend_layout(object, &request, &counts, NULL, NULL);
         if (result == PLANARBEND_OK) printf("%u\n", (unsigned)counts.bends);
         else puts(planarbend_word(result));
     }

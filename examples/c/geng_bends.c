@@ -213,7 +213,7 @@ int is_not_planar(graph *g, int count, int most) {
 }
 
 void count_bends(FILE *output, graph *g, int count) {
-    static uint8_t record[PLANARBEND_MAX_RECORD];
+    static uint8_t record[PLANARBEND_MAX_RECORD8];
     planarbend_counts counts;
     if (!embed(g, count) || (object == NULL && planarbend_new(&object) != PLANARBEND_OK)) exit(1);
     size_t size = write_record(count, record);
@@ -222,7 +222,8 @@ void count_bends(FILE *output, graph *g, int count) {
 #else
     (void)output;
 #endif
-    int result = planarbend_layout(object, record, size, PLANARBEND_OUTER_FIRST, PLANARBEND_DRAWING_NONE, &counts, NULL);
+    const planarbend_request request = {.size = sizeof request, .record8 = record, .record8_count = size};
+    int result = planarbend_layout(object, &request, &counts, NULL, NULL);
     if (result > PLANARBEND_GENUS) exit(1);
     if (result == PLANARBEND_OK) by_bends[counts.bends]++;
     else by_rule[result]++;

@@ -27,12 +27,12 @@ static size_t write_record(uint8_t *record) {
 }
 
 static int count_bends(int nbtot, int nbop, int doflip) {
-    static uint8_t record[PLANARBEND_MAX_RECORD];
+    static uint8_t record[PLANARBEND_MAX_RECORD8];
     planarbend_counts counts;
     (void)nbtot, (void)nbop, (void)doflip;
     if (object == NULL && planarbend_new(&object) != PLANARBEND_OK) exit(1);
-    int result = planarbend_layout(
-        object, record, write_record(record), PLANARBEND_OUTER_FIRST, PLANARBEND_DRAWING_NONE, &counts, NULL);
+    const planarbend_request request = {.size = sizeof request, .record8 = record, .record8_count = write_record(record)};
+    int result = planarbend_layout(object, &request, &counts, NULL, NULL);
     if (result > PLANARBEND_GENUS) exit(1);
     if (result == PLANARBEND_OK) by_bends[counts.bends]++;
     else by_rule[result]++;

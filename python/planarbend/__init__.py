@@ -8,15 +8,18 @@ from __future__ import annotations
 
 from typing import TYPE_CHECKING, Any
 
+from planarbend.clusters import Cluster
 from planarbend.graph import Arrow, Edge, Graph, Kind, Vertex
+from planarbend.ports import Compass, End, Field, Side, Span
 from planarbend.programs import NoProgram, PlanarbendError, RunFailed, program
 
 if TYPE_CHECKING:
-    from planarbend.layout.laid_out import (GraphError, GraphLost, GraphRefused, GraphUndrawn, Layout, Layouts, Record,
-                                            layout_of, layouts)
+    from planarbend.layout.laid_out import (GraphError, GraphLost, GraphRefused, GraphUndrawn, GraphUnkept, Layout, Layouts,
+                                            Record, layout_of, layouts)
 
-__all__ = ["Arrow", "Edge", "Graph", "GraphError", "GraphLost", "GraphRefused", "GraphUndrawn", "Kind", "Layout", "Layouts",
-           "NoProgram", "PlanarbendError", "Record", "RunFailed", "Vertex", "layout_of", "layouts", "program"]
+__all__ = ["Arrow", "Cluster", "Compass", "Edge", "End", "Field", "Graph", "GraphError", "GraphLost", "GraphRefused",
+           "GraphUndrawn", "GraphUnkept", "Kind", "Layout", "Layouts", "NoProgram", "PlanarbendError", "Record", "RunFailed",
+           "Side", "Span", "Vertex", "layout_of", "layouts", "program"]
 
 
 def __getattr__(name: str) -> Any:

@@ -23,6 +23,11 @@ examples:
   planarbend-draw radio.txt -o radio.svg
   planarbend-draw house.dot -o house.pdf --outer Street,Garden
   planarbend-draw board.kicad_pcb -o board.png --split GND,VCC
+  planarbend-draw amplifier.kicad_sch -o amplifier.svg
+
+Of a circuit it draws the schematic: parts with pins, symbols, wires and flags. A circuit is a KiCad schematic or netlist,
+JSON of yosys, or a SPICE netlist. (With --format netlist, --split, --outer, --straight or --compact, a KiCad netlist is
+drawn as a graph.)
 
 GRAPH is a list of connections, one or more per line (`antenna -- tuner -> mixer`, or two words); DOT, GraphML, GML,
 node-link JSON or graph6; a KiCad netlist or board; or planar_code, of which each graph is drawn as it is embedded
@@ -38,6 +43,7 @@ command line is wrong; 3 if a page was written, but its planar_code does not end
 """
 ENDINGS = (".svg", ".json", ".pc", ".html", *CONVERTED, *WRITTEN)
 INCOMPLETE = 3  # exit status
+GRAPH_OPTIONS = ("split", "outer", "straight", "compact", "graphs")
 TAKES_PLANAR_CODE = (".svg", ".html", *CONVERTED)
 
 
@@ -68,6 +74,7 @@ def command_line() -> argparse.Namespace:
                         help="draw the edges between these two vertices without bends; may be repeated; needs libplanarbend")
     parser.add_argument("--split", metavar="NETS|DEGREE",
                         help="draw these vertices, or nets of more connections than DEGREE, as a flag at each connection")
+    add_circuits(parser)
     parser.add_argument("--compact", action="store_true", help="smaller drawing with more bends")
     parser.add_argument("--effort", metavar="N", type=int, default=1,
                         help="search longer for fewer crossings and bends (default 1; 0 is fastest)")
@@ -82,6 +89,17 @@ def command_line() -> argparse.Namespace:
     words = parser.parse_args()
     check_words(parser, words)
     return words
+
+
+def add_circuits(parser: argparse.ArgumentParser) -> None:
+    """Add the arguments that are for circuits only."""
+    parser.add_argument("--sheet", "--module", metavar="NAME", dest="inner",
+                        help="of a circuit, draw this sheet of the hierarchy, this module or this subcircuit")
+    parser.add_argument("--flags", metavar="N", type=int, default=8,
+                        help="in a schematic, draw nets with more pins than N as a flag at each pin (default 8)")
+    parser.add_argument("--wire", metavar="NETS", default="",
+                        help="draw these nets of a schematic as wires, whatever their pins; commas separate names")
+    parser.add_argument("--free", action="store_true", help="fewest bends: no part of a schematic must be upright")
 
 
 def numbers(word: str) -> list[int]:
@@ -99,6 +117,8 @@ def check_words(parser: argparse.ArgumentParser, words: argparse.Namespace) -> N
         parser.error("--scale must be 0.1 to 20")
     if not 0 <= words.effort <= 100:
         parser.error("--effort must be 0 to 100")
+    if words.flags < 2:
+        parser.error("--flags must be at least 2")
 
 
 def named(graph: Graph, names: str) -> list[int]:
@@ -190,6 +210,49 @@ def draw_graph(data: bytes, words: argparse.Namespace) -> int:
     return 0
 
 
+def graph_options(words: argparse.Namespace) -> list[str]:
+    """Return the options that were given and are for graphs only."""
+    return [f"--{name}" for name in GRAPH_OPTIONS if getattr(words, name)]
+
+
+def is_circuit(data: bytes, words: argparse.Namespace) -> bool:
+    """Return whether a schematic is to be drawn: the file is a circuit, and not a netlist that options for graphs ask to draw as
+    a graph."""
+    from planarbend.schematics.readers.forms import circuit_form
+
+    form = None if words.format else circuit_form(data, words.graph)
+    return form is not None and not (form == "netlist" and graph_options(words))
+
+
+def draw_circuit(data: bytes, words: argparse.Namespace) -> int:
+    """Return the exit status after drawing the schematic of a circuit."""
+    from planarbend.schematics import schematic_of
+    from planarbend.schematics.flags import split as flagged
+    from planarbend.schematics.picture import svg as schematic_svg
+    from planarbend.schematics.readers import read as read_circuit
+
+    ending = os.path.splitext(words.output)[1]
+    if graph_options(words):
+        raise DrawError(f"{words.graph}: {graph_options(words)[0]} is for graphs, not for schematics")
+    if words.output != "-" and ending not in (".svg", ".json", *CONVERTED):
+        raise DrawError(f"a schematic is written as .svg, .png, .pdf or .json, not as {ending}")
+    sheet = read_circuit(data, words.graph, inner=words.inner)
+    for note in sheet.notes:
+        print(f"planarbend-draw: {words.graph}: {note}", file=sys.stderr)
+    with Progress("planarbend-draw"):
+        wired = [name for name in map(str.strip, words.wire.split(",")) if name]
+        drawing = schematic_of(flagged(sheet, words.flags, wired), engine_of(), words.seed, words.effort, words.free)
+    if ending == ".json":
+        with open(words.output, "w", encoding="utf-8") as out:
+            out.write(drawing.json() + "\n")
+    elif words.output == "-":
+        sys.stdout.write(schematic_svg(drawing, words.theme))
+        sys.stdout.flush()
+    else:
+        write_picture(schematic_svg(drawing, words.theme), words.output, words.scale)
+    return 0
+
+
 def engine_of() -> Engine:
     """Return the engine. If nothing is built in this checkout, a message on standard error says that this is slow."""
     engine = default_engine()
@@ -207,6 +270,8 @@ def run() -> int:
             check_output(words.output)
         with sys.stdin.buffer if words.graph == "-" else open(words.graph, "rb") as source:
             data = source.read()
+        if is_circuit(data, words):
+            return draw_circuit(data, words)
         return draw_embedded(data, words) if data.startswith(HEADER) and not words.format else draw_graph(data, words)
     except (ReadError, DrawError, PlanarbendError, NoConverter) as fault:
         print(f"planarbend-draw: {fault}", file=sys.stderr)

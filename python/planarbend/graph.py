@@ -9,6 +9,8 @@ import enum
 from collections.abc import Collection
 from dataclasses import dataclass, field
 
+from planarbend.clusters import Cluster, clusters_of
+from planarbend.ports import End, Field
 from planarbend.style import Looks
 
 
@@ -51,24 +53,45 @@ class Edge:
 
 @dataclass(slots=True)
 class Graph:
-    """A graph; `directed` is true if its file says that it is directed, `looks` is what it says about the picture."""
+    """A graph.
+
+    Attributes
+    ----------
+    vertices : list of Vertex
+    edges : list of Edge
+    directed : bool
+        Whether its file says that it is directed.
+    looks : Looks
+        What its file says about the picture.
+    fields : dict from vertex to Field
+        The whole of each vertex that has fields.
+    ends : dict from (edge, whether at the head) to End
+        The ends of edges that are to be at a certain place.
+    clusters : list of Cluster
+        Each after the cluster around it.
+    """
 
     vertices: list[Vertex] = field(default_factory=list)
     edges: list[Edge] = field(default_factory=list)
     directed: bool = False
     looks: Looks = field(default_factory=Looks)
+    fields: dict[int, Field] = field(default_factory=dict)
+    ends: dict[tuple[int, bool], End] = field(default_factory=dict)
+    clusters: list[Cluster] = field(default_factory=list)
 
 
 def split(graph: Graph, vertices: Collection[int]) -> Graph:
     """Return a graph in which some vertices, such as power nets, are split into one flag for each of their connections.
 
     Its edges are those of `graph`, in the same order. The first flag of a vertex has the vertex's number; further flags come
-    after all vertices.
+    after all vertices. A flag has no fields, and lies in the cluster of its vertex.
     """
     found = Graph([Vertex(one.name, one.label, Kind.FLAG if number in vertices else one.kind)
                    for number, one in enumerate(graph.vertices)], [], graph.directed,
-                  dataclasses.replace(graph.looks, nodes=dict(graph.looks.nodes)))
-    used: set[int] = set()
+                  dataclasses.replace(graph.looks, nodes=dict(graph.looks.nodes)),
+                  {number: one for number, one in graph.fields.items() if number not in vertices}, {},
+                  [dataclasses.replace(one, members=list(one.members)) for one in graph.clusters])
+    used, innermost = set[int](), clusters_of(graph.clusters)
 
     def end(vertex: int) -> int:
         """Return the number of an end: the vertex itself at first, then a further flag."""
@@ -77,11 +100,19 @@ def split(graph: Graph, vertices: Collection[int]) -> Graph:
             return vertex
         if vertex in graph.looks.nodes:
             found.looks.nodes[len(found.vertices)] = graph.looks.nodes[vertex]
+        if vertex in innermost:
+            found.clusters[innermost[vertex]].members.append(len(found.vertices))
         found.vertices.append(dataclasses.replace(found.vertices[vertex]))
         return len(found.vertices) - 1
 
     for edge in graph.edges:
         found.edges.append(dataclasses.replace(edge, tail=end(edge.tail), head=end(edge.head)))
+    for (number, is_head), one in graph.ends.items():
+        vertex = graph.edges[number].head if is_head else graph.edges[number].tail
+        if vertex not in vertices:
+            found.ends[number, is_head] = one
+        elif one.cluster is not None:
+            found.ends[number, is_head] = End(cluster=one.cluster)
     return found
 
 

@@ -102,6 +102,23 @@ class EdgeLook(Look):
     tail_label: str = ""
 
 
+class Across(enum.Enum):
+    """Where a label is from left to right; the values are Graphviz's words."""
+
+    LEFT = "l"
+    CENTRE = "c"
+    RIGHT = "r"
+
+
+@dataclass(frozen=True, slots=True)
+class ClusterLook(Look):
+    """How the frame of a cluster looks. Its label is at the top or, if so said, at the bottom."""
+
+    is_rounded: bool = False
+    is_label_below: bool = False
+    across: Across = Across.CENTRE
+
+
 @dataclass(frozen=True, slots=True)
 class GraphLook:
     """How the whole looks: a label below it, and what is behind it."""

@@ -1,18 +1,22 @@
 #!/usr/bin/env python3
 """Writes random DOT files, of at most 30 nodes, and judges how they are drawn.
 
-    python3 python/tests/dot_grammar.py [FIRST [COUNT [FOLDER]]]
+    python3 python/tests/dot_grammar.py [--ports] [FIRST [COUNT [FOLDER]]]
 
 Of the files from number FIRST on (1), COUNT (2000) are drawn, and `attribute_judge` looks at each picture; `neato -n2` must
 show the same boxes and as many crossings of each `.gv` that is written of it. Files of which something is wrong are
 written to FOLDER, if it is given. The last lines are the table of attributes and the counts; the exit status is 0 if at
 least 39 in 40 are drawn and right.
+
+With --ports the files have records, tables and at most 6 clusters, to a depth of 3, and `port_judge` looks at each drawing
+(1000 by default). The exit status is then 0 if there is no fault and at least 49 in 50 are drawn.
 """
 from __future__ import annotations
 
 import random
 import subprocess
 import sys
+from collections import Counter
 from collections.abc import Callable
 from pathlib import Path
 
@@ -160,6 +164,127 @@ class Grammar:
         return f"{head}{title} {{\n{self.some(notes)}\n" + "".join(line + self.some(ends) for line in lines) + "}\n"
 
 
+class PortGrammar(Grammar):
+    """A file with records, tables and clusters: at most 30 nodes, and 6 clusters to a depth of 3."""
+
+    def __init__(self, seed: int) -> None:
+        super().__init__(seed)
+        dice = self.dice
+        self.names = [f"n{number}" if dice.random() < .8 else self.quoted(f"node {number}") for number in range(self.count)]
+        self.ports: dict[str, list[str]] = {}  # of each node that has any
+        self.nodes = [name + self.node(name) for name in self.names]
+        self.parents = [dice.choice([None, *range(number)]) for number in range(dice.randrange(7))]
+        for number, parent in enumerate(self.parents):
+            if len(self.around(parent)) >= 3:
+                self.parents[number] = None
+        groups = [None, *range(len(self.parents))]
+        self.group = {name: dice.choice(groups) for name in self.names}
+
+    def around(self, group: int | None) -> list[int]:
+        """A cluster and those around it."""
+        return [] if group is None else [group, *self.around(self.parents[group])]
+
+    def fields(self, ports: list[str], deep: int = 0) -> str:
+        """The fields of a record, of which some have ports."""
+        found = []
+        for _ in range(self.dice.randrange(1, 5 - deep)):
+            if deep < 2 and self.dice.random() < .3:
+                found.append("{" + self.fields(ports, deep + 1) + "}")
+                continue
+            text = self.some(["a", "left", "two words", "", "x\\|y", "\\N", "long text of it", "1 \\< 2"])
+            if self.dice.random() < .6:
+                ports.append(self.some(["p", "in", "out", "f"]) + str(len(ports)))
+                text = f"<{ports[-1]}> {text}"
+            found.append(text)
+        return "|".join(found)
+
+    def table(self, ports: list[str]) -> str:
+        """The rows of a table, of which the first has one cell."""
+        wide, rows = self.dice.randrange(1, 4), []
+        for high in range(self.dice.randrange(1, 4)):
+            cells = []
+            for _ in range(wide if high else 1):
+                ports.append(f"c{len(ports)}")
+                span = "" if high else f' colspan="{wide}"'
+                cells.append(f'<td port="{ports[-1]}"{span}>{self.some(["x", "y z", "&lt;", "42"])}</td>')
+            rows.append(f"<tr>{''.join(cells)}</tr>")
+        return f"<<table>{''.join(rows)}</table>>"
+
+    def node(self, name: str) -> str:
+        """The attributes of a node."""
+        kind, ports = self.dice.random(), self.ports.setdefault(name, [])
+        if kind < .35:
+            return f' [shape={self.some(["record", "Mrecord"])}, label="{self.fields(ports)}"]'
+        if kind < .5:
+            return f' [shape={self.some(["none", "plaintext", "box"])}, label={self.table(ports)}]'
+        return self.some(["", "", " [shape=box]", " [shape=circle]", " [shape=diamond, style=filled]"])
+
+    def end(self, name: str) -> str:
+        """An end of an edge."""
+        ports, kind = self.ports[name], self.dice.random()
+        point = self.some(["n", "e", "s", "w", "ne", "sw", "c", "_"])
+        if ports and kind < .7:
+            return f"{name}:{self.some(ports)}" + (f":{point}" if kind < .25 else "")
+        return f"{name}:{point}" if kind > .9 else name
+
+    def edge(self) -> str:
+        """An edge."""
+        tail, head = self.some(self.names), self.some(self.names)
+        values = []
+        for key, node, other in (("ltail", tail, head), ("lhead", head, tail)):
+            free = [one for one in self.around(self.group[node]) if one not in self.around(self.group[other])]
+            if free and self.dice.random() < .15:
+                values.append(f"{key}=cluster_{self.dice.choice(free)}")
+        if self.dice.random() < .15:
+            values.append(f'label="{self.some(WORDS)}"')
+        joint = "->" if self.is_directed else "--"
+        return f"{self.end(tail)} {joint} {self.end(head)}" + (f" [{', '.join(values)}]" if values else "")
+
+    def cluster(self, group: int) -> str:
+        """A cluster with what lies in it."""
+        lines = [self.some([f'label="{self.some(WORDS)}"', 'label=""', f'label="part {group}"']),
+                 self.some(["", "", "style=filled", "style=rounded", "style=dashed", "color=blue", "bgcolor=ivory", "pencolor=red"])]
+        lines += [self.cluster(inner) for inner, parent in enumerate(self.parents) if parent == group]
+        lines += [text for text, name in zip(self.nodes, self.names) if self.group[name] == group]
+        return f"subgraph cluster_{group} {{ " + "; ".join(line for line in lines if line) + " }"
+
+    def file(self) -> str:
+        """The whole file."""
+        lines = ["compound=true", f"rankdir={self.some(['TB', 'LR'])}"]
+        lines += [self.cluster(group) for group, parent in enumerate(self.parents) if parent is None]
+        lines += [text for text, name in zip(self.nodes, self.names) if self.group[name] is None]
+        lines += [self.edge() for _ in range(self.dice.randrange(int(self.count * 1.3) + 1))]
+        if self.parents and self.dice.random() < .1:  # a node in a further cluster
+            lines.append(f"subgraph cluster_{self.dice.randrange(len(self.parents))} {{ {self.some(self.names)} }}")
+        return ("digraph" if self.is_directed else "graph") + " {\n" + "".join(f"  {line};\n" for line in lines) + "}\n"
+
+
+def judge_ports(first: int, count: int, folder: Path | None) -> int:
+    """Draws files with ports and clusters, and returns the exit status."""
+    from port_judge import Judge, drawn
+
+    counts: Counter[str] = Counter()
+    faults = lost = 0
+    for seed in range(first, first + count):
+        text = PortGrammar(seed).file()
+        try:
+            judge = Judge(text.encode(), *drawn(text.encode()))
+            found = judge.judged()
+            counts.update(judge.counts)
+        except Exception as error:  # each is a fault of the drawing
+            lost, found = lost + 1, []
+            print(f"{seed}: {type(error).__name__}: {error}", flush=True)
+        for fault in found:
+            print(f"{seed}: {fault}", flush=True)
+        if folder is not None and found:
+            (folder / f"{seed}.gv").write_text(text, encoding="utf-8")
+        faults += len(found)
+    for what, number in sorted(counts.items()):
+        print(f"{what:28}{number:8}")
+    print(f"{count} files: {faults} faults, {lost} not drawn")
+    return 0 if not faults and 50 * lost <= count else 1
+
+
 def refused(text: str) -> bool:
     """Whether Graphviz refuses a text."""
     ran = subprocess.run(["dot", "-Tcanon"], input=text.encode(), capture_output=True, check=False)
@@ -169,9 +294,13 @@ def refused(text: str) -> bool:
 def main() -> int:
     from attribute_judge import Judge, Verdict, drawn, shown_alike, table
 
-    numbers = [int(word) for word in sys.argv[1:3]]
-    first, count = (*numbers, *(1, 2000)[len(numbers):])
-    folder = Path(sys.argv[3]) if len(sys.argv) > 3 else None
+    is_ported = "--ports" in sys.argv
+    words = [word for word in sys.argv[1:] if word != "--ports"]
+    numbers = [int(word) for word in words[:2]]
+    first, count = (*numbers, *(1, 1000 if is_ported else 2000)[len(numbers):])
+    folder = Path(words[2]) if len(words) > 2 else None
+    if is_ported:
+        return judge_ports(first, count, folder)
     whole, right, neither, alone = Verdict(), 0, 0, 0
     for seed in range(first, first + count):
         text = Grammar(seed).file()

@@ -162,7 +162,8 @@ def drawn(name: str, words: argparse.Namespace, folder: Path) -> Result:
     if words.planarize_only:
         return planarized(name, size, graph, words)
     out, environment = folder / f"{name}.drawing.json", compiled(folder)
-    options = ["--compact"] if words.compact else []
+    options = ["--format", "netlist"] if source.suffix == ".net" else []  # a graph, not a schematic
+    options += ["--compact"] if words.compact else []
     options += ["--effort", words.effort] if words.effort else []
     options += ["--seed", words.seed] if words.seed else []
     began, used = time.perf_counter(), processor()

@@ -110,6 +110,45 @@ class Mended(unittest.TestCase):
         self.assertEqual(budget.left, 10 ** 6 - engine.count)
 
 
+@unittest.skipUnless(library.path(), "the library is missing (planarbend --build makes it)")
+@support.needs_networkx
+class Dense(unittest.TestCase):
+    """Graphs that count as dense: the library keeps their boxes, and no edge is tried that bends instead."""
+
+    @staticmethod
+    def search(seed: int, dense: int) -> tuple[Search, list[Shape]]:
+        """A search, and the shapes that it finds."""
+        search = Search(planarize(*hubs(seed)), library.LibraryEngine(), Options())
+        with mock.patch.multiple("planarbend.drawing.choose", DENSE=dense, MOST_SQUARES=1):
+            return search, search.run()
+
+    def test_boxes_are_rectangles_with_few_calls(self) -> None:
+        for seed in (7, 10, 11, 13, 14):
+            with self.subTest(seed=seed), mock.patch.object(library.LibraryEngine, "lay_keeping", autospec=True,
+                                                            side_effect=library.LibraryEngine.lay_keeping) as kept:
+                found = min(self.search(seed, 1)[1], key=Shape.price)
+                self.assertEqual(found.broken, [])
+                self.assertLessEqual(kept.call_count, 3)
+                calls = kept.call_count
+                usual = min(self.search(seed, 10 ** 4)[1], key=Shape.price)
+                self.assertGreaterEqual(kept.call_count - calls, 8 * bool(calls))
+                self.assertGreaterEqual(found.bends, usual.bends)
+
+    def test_prices_are_those_of_rectangles(self) -> None:
+        """A price with boxes as rectangles is that of a drawing of the same embedding, whose outer face may be better."""
+        for seed in (7, 10, 11, 13, 14):
+            search, pool = self.search(seed, 1)
+            plan = min(pool, key=Shape.price).plan
+            with self.subTest(seed=seed):
+                (broken, bends, _), = search.prices([search.planar], plan, True)
+                expansion = search.expanded(plan)
+                assert expansion is not None
+                best, *_ = search.kept(search.numberings(expansion), "best")
+                assert best is not None
+                self.assertEqual(broken, 0)
+                self.assertGreaterEqual(bends, best.bends)
+
+
 class Counting(ProcessEngine):
     """The program, with the number of vertices that it laid out."""
 

@@ -20,7 +20,7 @@ from unittest import mock
 import support
 import planarbend
 from planarbend.layout import laid_out, library
-from planarbend.layout.engine import Conditions, Cut, NotKept
+from planarbend.layout.engine import Conditions, Conflict, Cut, NotKept
 from planarbend.layout.planar_code import split
 from planes import Plane
 
@@ -263,6 +263,97 @@ class Library(unittest.TestCase):
         self.assertGreater(seen, 50)
 
 
+@needs_library
+class Given(unittest.TestCase):
+    """Angles and turns by names of vertices; the numbers are found by hand."""
+
+    SQUARE = {"a": ["b", "d"], "b": ["c", "a"], "c": ["d", "b"], "d": ["a", "c"]}  # the inside is on the left of a-b
+    INSIDE = (("a", "b"),)
+
+    def setUp(self) -> None:
+        self.enterContext(calling(library.path()))
+
+    def test_angles(self) -> None:
+        for angle, bends in ((1, 0), (2, 1), (3, 2)):
+            layout = planarbend.layout_of(self.SQUARE, inner=self.INSIDE, angles={("a", "b"): angle})
+            self.assertEqual((layout.bends, layout.outer_face), (bends, ["a", "d", "c", "b"]))
+            (x, y), corner, (u, v) = layout.path("a", "b")[-2], layout.points["b"], layout.path("b", "c")[1]
+            into, out = (corner[0] - x, corner[1] - y), (u - corner[0], v - corner[1])
+            left = into[0] * out[1] - into[1] * out[0]
+            self.assertEqual((left > 0) - (left < 0), 2 - angle)
+
+    def test_turns(self) -> None:
+        for turns in range(-12, 13):
+            layout = planarbend.layout_of(self.SQUARE, inner=self.INSIDE, turns={("b", "a"): -turns})
+            self.assertEqual(layout.bends, -2 * turns if turns < 0 else max(turns, 2 * turns - 8))
+            self.assertEqual(len(layout.corners["a", "b"]), abs(turns))
+        straight = planarbend.layout_of(self.SQUARE, straight=[("a", "b"), ("d", "c")], angles={("a", "b"): 2, ("b", "a"): 2})
+        self.assertEqual((straight.corners["a", "b"], straight.corners["c", "d"]), ([], []))
+
+    def test_many_bends(self) -> None:
+        """More of them than without conditions, and then a graph with few."""
+        layout = planarbend.layout_of(self.SQUARE, inner=self.INSIDE, turns={("a", "b"): 500})
+        self.assertEqual((layout.bends, len(layout.corners["b", "a"])), (992, 500))
+        found = list(planarbend.layouts([self.SQUARE] * 3, turns={("a", "b"): 40, ("c", "d"): -40}))
+        self.assertEqual([(layout.number, layout.bends) for layout in found], [(1, 80), (2, 80), (3, 80)])
+
+    def test_conflicts(self) -> None:
+        for turns, straight, said in (
+                ({("a", "b"): 2, ("b", "a"): 2}, [], "2 turns from 'a' to 'b' and 2 turns from 'b' to 'a'"),
+                ({("a", "b"): 1}, [("b", "a")], "1 turns from 'a' to 'b' and 0 turns from 'b' to 'a'")):
+            with self.assertRaisesRegex(ValueError, said) as raised:
+                planarbend.layout_of(self.SQUARE, turns=turns, straight=straight)
+            self.assertIsInstance(raised.exception, Conflict)
+            self.assertEqual([raised.exception.one[0], raised.exception.other[0]], [("a", "b"), ("b", "a")])
+        again = planarbend.layout_of(self.SQUARE, inner=self.INSIDE, turns={("a", "b"): 2, ("b", "a"): -2},
+                                     straight=[("b", "c"), ("c", "b")])
+        self.assertEqual(again.bends, 2)
+
+    def test_what_cannot_be_given(self) -> None:
+        for words, said in (({"angles": {("a", "b"): 5}}, "the angle from 'a' to 'b' is 5"),
+                            ({"angles": {("a", "b"): 0}}, "the angle from 'a' to 'b' is 0"),
+                            ({"turns": {("a", "b"): 7205}}, "more turns"), ({"turns": {("a", "b"): -32769}}, "-32769 turns"),
+                            ({"turns": {("a", "x"): 0}}, "'x', which is not a vertex"),
+                            ({"inner": [("y", "b")]}, "'y', which is not a vertex")):
+            with self.subTest(said), self.assertRaisesRegex(ValueError, said):
+                planarbend.layout_of(self.SQUARE, **words)
+
+    def test_cuts_by_name(self) -> None:
+        star = {"hub": ["x", "y", "z"], "x": ["hub"], "y": ["hub"], "z": ["hub"]}
+        few = {("x", "hub"): 1, ("y", "hub"): 1, ("z", "hub"): 1}
+        with self.assertRaisesRegex(planarbend.GraphUnkept, "noshape: vertices 'hub' turn more") as raised:
+            planarbend.layout_of(star, angles=few)
+        self.assertEqual((raised.exception.vertices, raised.exception.faces), (("hub",), ()))
+        round_hub = ("hub", "x", "hub", "y", "hub", "z")
+        with self.assertRaises(planarbend.GraphUnkept) as raised:
+            planarbend.layout_of(star, angles=few | {("x", "hub"): 3})
+        fault = raised.exception
+        self.assertEqual((fault.word, fault.vertices, fault.faces, fault.outer_face),
+                         ("noshape", ("x", "y", "z"), (round_hub,), round_hub))
+        self.assertIn(f"vertices 'x', 'y', 'z' and faces {round_hub!r} turn more than can leave them", str(fault))
+        with self.assertRaisesRegex(planarbend.GraphUnkept, "noedge: 'x' and 'y' are not neighbours") as raised:
+            planarbend.layout_of(star, turns={("x", "y"): 0})
+        self.assertEqual(raised.exception.vertices, ("x", "y"))
+        with self.assertRaisesRegex(planarbend.GraphUnkept, "noouter"):
+            planarbend.layout_of(star, inner=[("hub", "x")])
+
+    def test_after_a_graph_without_a_layout(self) -> None:
+        path = {"a": ["b"], "b": ["a", "c"], "c": ["b", "d"], "d": ["c"]}
+        found = planarbend.layouts([path, self.SQUARE, path], turns={("a", "d"): 0})
+        for number in (1, 3):
+            with self.assertRaisesRegex(planarbend.GraphUnkept, f"^graph {number}: .*noedge"):
+                next(found)
+            if number == 1:
+                self.assertEqual(next(found).number, 2)
+
+    def test_without_the_library(self) -> None:
+        with mock.patch.dict(os.environ, PLANARBEND="/none"):
+            with self.assertRaisesRegex(planarbend.PlanarbendError, "conditions need the library"):
+                planarbend.layout_of(self.SQUARE, turns={("a", "b"): 0})
+        with self.assertRaisesRegex(planarbend.PlanarbendError, "conditions need the library"):
+            planarbend.layouts([], words=["--lanes", "2"], turns={("a", "b"): 0})
+
+
 def surplus(record: planarbend.Record, straight: list[tuple[int, int]], cut: Cut) -> int:
     """By how much a cut turns more than can leave it: whatever a turn could go to is in the set."""
     plane = Plane(record.lists)
@@ -289,7 +380,7 @@ class StandIn(unittest.TestCase):
         source = support.TESTS / "stand_in.c"
         cls.path, cls.old, cls.full = (str(Path(folder.name) / f"lib{name}.so") for name in ("now", "old", "full"))
         for path, words in ((cls.path, ["-DOLD=0", "-DFULL=0"]), (cls.old, ["-DOLD=1", "-DFULL=0"]),
-                            (cls.full, ["-DOLD=1", "-DFULL=10"])):
+                            (cls.full, ["-DOLD=0", "-DFULL=10"])):
             subprocess.run([COMPILER, "-shared", "-fPIC", "-Wall", "-Werror", *words, f"-I{support.ROOT / 'c'}", source,
                             "-o", path], check=True)
 
@@ -331,7 +422,7 @@ class StandIn(unittest.TestCase):
                 planarbend.layout_of(planarbend.Record((1,), [[9]]))
 
     def test_conditions(self) -> None:
-        kept = Conditions([(1, 2), (2, 3)], [(4, 1)])
+        kept = Conditions([(1, 2), (2, 3)], [(4, 1)], {(5, 6): 3}, {(3, 700): -40})
         engine = library.LibraryEngine(library.Library(self.path))
         self.assertTrue(engine.keeps)
         for result, word in ((14, "noedge"), (15, "noouter"), (16, "wide"), (13, "noshape")):
@@ -339,16 +430,14 @@ class StandIn(unittest.TestCase):
                 engine.lay_keeping([[result]], "first", kept)
             cut = Cut((1, 5), (3,), 6) if result == 13 else None
             self.assertEqual((refused.exception.word, refused.exception.cut), (word, cut))
-            line = engine.library.line(bytes([1, result, 0]), straight=kept.straight, inner=kept.inner)
+            line = engine.library.line(bytes([1, result, 0]), straight=kept.straight, inner=kept.inner, angles=kept.angles,
+                                       turns=kept.turns)
             self.assertEqual(line, {"status": word} | ({"cut": cut} if cut else {}))
         self.assertEqual(str(Cut((1, 5), (3,), 6)), "vertices 1, 5 and faces 3 turn more than can leave them")
 
     def test_an_older_library(self) -> None:
-        engine = library.LibraryEngine(library.Library(self.old))
-        self.assertFalse(engine.keeps)
-        with self.assertRaisesRegex(planarbend.PlanarbendError, "older than the package"):
-            engine.lay_keeping([[2], [1]], "best", Conditions([(1, 2)]))
-        self.assertEqual(engine.lay_keeping([[2], [1]], "best", Conditions()).bends, 2)
+        with self.assertRaisesRegex(planarbend.NoProgram, "older than the package"):
+            library.Library(self.old)
 
     def test_which_is_called(self) -> None:
         with mock.patch.dict(os.environ, PLANARBEND_LIBRARY=self.path):

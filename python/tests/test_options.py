@@ -116,7 +116,7 @@ class Split(Case):
 
     def test_nets_alone_are_split_by_degree_in_a_circuit(self) -> None:
         text = support.GRAPHS["amplifier.net"].read_bytes()
-        plain = self.drawing(text, name="amplifier.net")
+        plain = self.drawing(text, "--format", "netlist", name="amplifier.net")
         degree = collections.Counter(end for edge in plain["edges"] for end in (edge["tail"], edge["head"]))
         nets = {one["name"]: degree[number] for number, one in enumerate(plain["vertices"]) if one["kind"] == "net"}
         self.assertEqual(self.flags(self.drawing(text, "--split", "4", name="amplifier.net")),

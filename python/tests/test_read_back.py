@@ -52,10 +52,11 @@ def setUpModule() -> None:
             path.write_text(text, encoding="utf-8")
             for ending in ENDINGS[name]:
                 out = path.with_suffix("." + ending)
-                scale = ["--scale", "2.5"] if ending == "png" else []
+                words = ["--scale", "2.5"] if ending == "png" else []
+                words += ["--format", "netlist"] if name.endswith(".net") else []  # a graph, not a schematic
                 if ending in ("png", "pdf") and not support.has_rsvg:
                     continue
-                status, said, errors = support.said(["draw", path, "-o", out, *scale])
+                status, said, errors = support.said(["draw", path, "-o", out, *words])
                 assert (status, said, errors) == (0, "", ""), errors
                 WRITTEN[name, ending] = out.read_bytes()
 

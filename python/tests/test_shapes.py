@@ -99,6 +99,28 @@ class Plans(unittest.TestCase):
                 self.assertEqual(nodes, (count - 1) // 2 if plan.spines else count)
 
 
+    def test_few_spines(self) -> None:
+        """Vertices 0 and 1 have 7 and 11 connections, 16 of them to leaves: as cages they take 7 and 11 nodes, else 4 and 6."""
+        planar = planarize(18, [(0, 1), *((0, leaf) for leaf in range(2, 8)), *((1, leaf) for leaf in range(8, 18))])
+        cages, smaller, larger, both = (Plan(frozenset({0, 1} - set(spines)), tuple((vertex, 0) for vertex in spines))
+                                        for spines in ((), (0,), (1,), (0, 1)))
+        for most, wanted in ((34, [cages]), (33, [larger, smaller]), (31, [larger, smaller]), (30, [larger, both]),
+                             (29, [larger, both]), (28, [both]), (26, [both])):
+            engine: Any = SimpleNamespace(most_vertices=most, keeps=True)
+            self.assertEqual(Search(planar, engine, Options(effort=0)).fitting_plans(), wanted, most)
+
+    def test_boxes_of_dense_graphs_are_kept_first(self) -> None:
+        """If the best shape has as many nodes as a dense graph, and the engine keeps conditions."""
+        search: Any = Search.__new__(Search)
+        for nodes, keeps, wanted in ((9, True, []), (10, True, [found(3)]), (10, False, [])):
+            search.engine = SimpleNamespace(keeps=keeps)
+            pool = [found(2, broken=2), found(1, broken=1)]
+            pool[0].expansion.rotation, pool[1].expansion.rotation = [], [[]] * nodes
+            with (mock.patch("planarbend.drawing.choose.DENSE", 10),
+                  mock.patch.object(Search, "kept_boxes", return_value=[found(3)])):
+                self.assertEqual(search.kept_first(pool), wanted)
+
+
 class Mending(unittest.TestCase):
     def test_no_plan_is_tried_twice(self) -> None:
         """Each of three plans leads to all three, and none makes the box a rectangle."""

@@ -1,19 +1,23 @@
 -- What is known of a graph, given by its neighbour lists, whose layout keeps conditions.
-use Rattle.std.specs.Prelude.{◌≡◌, ◌⊎◌, ℕ, ◌<◌, true, List, []}
+use Rattle.std.specs.Prelude.{◌≡◌, ℕ, ℤ, ◌<◌, true, List, []}
 use Rattle.common.specs.declared.choice.Choice.{Choice}
-use Rattle.faces.specs.Planes.{PlaneModel, IsPlane, darts, reverse_dart}
+use Rattle.geometry.specs.Directions.{left_quarters}
+use Rattle.faces.specs.Planes.{PlaneModel, IsPlane, darts, reverse_dart, next}
 use Rattle.ortho_rep.specs.Shapes.{ShapeModel, turns_at}
 use Rattle.ortho_rep.specs.Points.{PointsModel, corners_at}
 use Rattle.ortho_rep.specs.Edges.{is_lesser, edge_number}
+use Rattle.ortho_rep.specs.Keeping.{one_way}
+use Rattle.drawing_check.specs.Paths.{path_along}
+use Rattle.drawing_check.specs.Draws.{IsTurning, leaving}
 use Rattle.conditions.specs.declared.conditions.Conditions.{Conditions}
 use Rattle.conditions.specs.declared.fault.KeepFault.{KeepFault}
-use Rattle.conditions.specs.Asked.{IsAmong}
+use Rattle.conditions.specs.Asked.{AsksAngle, AsksTurns}
 use Rattle.conditions.specs.Chosen.{IsKept, IsKeepFault}
 use Rattle.answers.specs.declared.kept_plane.KeptPlane.{KeptPlane}
 use Rattle.answers.specs.Steps.{IsTracedPlane}
 
 -- the plane of the lists with the chosen outer face among those that may be outside, and a shape of it with the
--- fewest bends of all that keep the edges straight, as the prices prove
+-- fewest bends of all that keep the angles and turns, as the prices prove
 pub record IsKeptPlane (conditions : Conditions) (choice : Choice) (g : List (List ℕ)) (made : KeptPlane) : Type 0 where
   pub lists : made.plane.lists ≡ g
   pub rules : IsPlane made.plane
@@ -30,8 +34,11 @@ abbrev pub AreDrawnStraight : PlaneModel → ShapeModel → PointsModel → Type
 AreDrawnStraight plane shape points = (d : ℕ) → d < darts plane → is_lesser plane d ≡ true → turns_at shape d ≡ []
     → corners_at points (edge_number plane d) ≡ []
 
--- no edge that is to stay straight has corners
-abbrev pub AreKeptStraight : Conditions → PlaneModel → PointsModel → Type 0
-AreKeptStraight conditions plane points = (d : ℕ) → d < darts plane → is_lesser plane d ≡ true
-    → IsAmong plane conditions.straight.now d ⊎ IsAmong plane conditions.straight.now (reverse_dart plane d)
-    → corners_at points (edge_number plane d) ≡ []
+-- the drawing has the angles and turns that are asked for
+pub record KeepsAsked (conditions : Conditions) (plane : PlaneModel) (points : PointsModel) : Type 0 where
+  -- the edge of a lesser dart along which t turns are asked for has that many corners, and each turns that way
+  pub turns : (d : ℕ) → d < darts plane → is_lesser plane d ≡ true → (t : ℤ) → AsksTurns plane conditions.turns.now d t
+      → IsTurning (path_along plane points d) (one_way t)
+  -- where an angle of k right angles is asked for, the way back is k quarters to the left of the next dart of the face
+  pub angles : (d : ℕ) → d < darts plane → (k : ℕ) → AsksAngle plane conditions.angles.now d k
+      → leaving plane points (reverse_dart plane d) ≡ left_quarters k (leaving plane points (next plane d))

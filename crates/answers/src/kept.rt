@@ -5,7 +5,7 @@ ghost use Rattle.planar_code.specs.Stream.{lists_of};
 ghost use Rattle.entries.specs.declared.cause.Cause.TheVariants.{Wide};
 ghost use Rattle.entries.specs.Drawn.{IsCause};
 ghost use Rattle.answers.specs.Drawings.{IsDrawing};
-ghost use Rattle.answers.specs.Kept.{IsKeptPlane, IsUnkept, AreDrawnStraight, AreKeptStraight};
+ghost use Rattle.answers.specs.Kept.{IsKeptPlane, IsUnkept, AreDrawnStraight, KeepsAsked};
 ghost use Rattle.common.specs.declared.choice.Choice.{Choice};
 ghost use Rattle.conditions.specs.declared.conditions.Conditions.{Conditions};
 ghost use Rattle.conditions.specs.Chosen.{IsKept};
@@ -177,7 +177,7 @@ impl RecordScratch {
 
     /// A drawing, of the kind that the plane names, of a shape that keeps conditions.
     ///
-    /// An edge without turns has no corners. Lengths and coordinates are as for [`RecordScratch::points`].
+    /// It has the angles and turns that are asked for, and an edge without turns has no corners. Lengths and coordinates are as for [`RecordScratch::points`].
     ///
     /// # Errors
     ///
@@ -188,7 +188,7 @@ impl RecordScratch {
         ensures straight { IfOk result (AreDrawnStraight kept.now.plane kept.now.shape) }
         ensures kept { IfOk result (λ drawing. (conditions : Conditions) (choice : Choice)
             → IsKept conditions choice kept.now.plane kept.now.shape kept.now.prices
-            → AreKeptStraight conditions kept.now.plane drawing) }
+            → KeepsAsked conditions kept.now.plane drawing) }
         ensures quick { kept.now.drawing_kind ≡ DrawingKind.Quick
             → IfOk result (IsQuick kept.now.plane kept.now.shape) }
         ensures wide { IfErr result (λ fault. fault ≡ CompactFault.Wide → IsCause kept.now.plane kept.now.shape Wide) }

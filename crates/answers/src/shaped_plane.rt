@@ -3,6 +3,7 @@
 ghost use Rattle.ortho_rep.specs.Representation.{IsShape, IsLeast};
 ghost use Rattle.ortho_rep.specs.Prices.{IsProof};
 ghost use Rattle.compact.specs.Monotone.{AreDirectionsOf};
+ghost use Rattle.answers.specs.Props.{is_angle_kept-prop, are_turns_kept-prop};
 ghost use Rattle.std.proofs.Props.{props};
 
 use common::DrawingKind;
@@ -22,6 +23,6 @@ pub struct ShapedPlane {
     pub drawing_kind: DrawingKind,
     pub ghost shape_is: { IsShape plane shape } by { Prim.hlevel props },
     pub ghost least: { IsLeast plane shape } by { Prim.hlevel props },
-    pub ghost proof: { IsProof plane shape prices } by { Prim.hlevel props },
+    pub ghost proof: { IsProof plane shape prices } by { Prim.hlevel (props, is_angle_kept-prop, are_turns_kept-prop) },
     pub ghost directed: { AreDirectionsOf plane shape directions.items } by { Prim.hlevel props },
 }

@@ -31,7 +31,7 @@ use Rattle.command_line.specs.declared.request.CheckRequest.{CheckRequest}
 
 -- the output of '--version'
 abbrev pub version_text : List ℕ
-version_text = codes "planarbend 1.0.0\ntoolchain rattle-kit-13 logic dac8208d650f15bf\n"
+version_text = codes "planarbend 2.0.0\ntoolchain rattle-kit-13 logic dac8208d650f15bf\n"
 
 -- this text and nothing else was added to the output, with status 0; or the output failed, with a prefix of it and
 -- status 1

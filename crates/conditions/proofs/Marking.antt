@@ -2,7 +2,7 @@
 use Rattle.std.proofs.Common.{◌≡◌, ◌∙◌, ◌↔◌, ℕ, ◌+◌, ◌<◌, Bool, true, false, List, length, replicate, set, cond, refl, sym, ap, subst, inl, inr, arith}
 use Rattle.std.proofs.lemmas.Bool.{cases_eq, both_ways}
 use Rattle.std.proofs.lemmas.List.{get_or-replicate, get_or-set_same, get_or-set_other}
-use Rattle.flow_network.specs.Straight.{is_marked}
+use Rattle.flow_network.specs.Marks.{is_marked}
 
 -- one of the first n items, with this place, has the property
 abbrev pub HasOneAt : (ℕ → ℕ) → (ℕ → Type 0) → ℕ → ℕ → Type 0

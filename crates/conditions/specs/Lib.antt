@@ -1,2 +1,4 @@
 pub mod Asked
+pub mod Asking
+pub mod Meanings
 pub mod Chosen

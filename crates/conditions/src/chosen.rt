@@ -1,4 +1,4 @@
-//! The chosen outer face among those that may be outside, and a least shape that keeps edges straight.
+//! The chosen outer face among those that may be outside, and a least shape that keeps what is given.
 
 ghost use Rattle.std.specs.Prelude.{◌≡◌, ◌+◌, ◌<◌, Bool, List, OnOk, IfOk, IfErr, IfSome};
 ghost use Rattle.faces.specs.Planes.{with_outer};
@@ -10,27 +10,31 @@ ghost use Rattle.common.specs.declared.choice.Choice.{Choice};
 ghost use Rattle.conditions.specs.Asked.{IsAsked};
 ghost use Rattle.conditions.specs.Chosen.{IsGreatestSoFar, IsGreatestOpen, IsChosenKeeping, HasNoChosen, IsKept, IsKeepFault, IsToldOf};
 
+use crate::asked::{angles_of, are_angles, are_darts, turns_of};
 use crate::conditions::Conditions;
 use crate::fault::{KeepFault, Unkept};
-use crate::marks::{are_darts, barred_of, marks_of};
+use crate::marks::barred_of;
 use common::Choice;
 use cuts::cut_keeping;
 use faces::Plane;
-use flow_network::has_mark;
+use flow_network::{Given, has_mark};
 use ortho_rep::{Prices, Scratch, Shape, SolveFault, best_shape_keeping, least_shape_keeping_in};
 use std::alloc::{AllocError, Global};
+use std::marker::Model;
 
 /// Makes the chosen face the outer one, and returns a least shape that keeps the conditions, with prices that prove it.
 ///
 /// `First` is the face with the most darts of those that may be outside; `Best` the one with which the fewest bends are
-/// needed to keep the edges straight; among equals both are the one with the least number, which has the least dart.
+/// needed to keep what is given; among equals both are the one with the least number, which has the least dart.
 ///
 /// # Errors
 ///
-/// `NoEdge` exactly if two vertices that are named are not adjacent; otherwise `NoOuter` exactly if no face may be
-/// outside; otherwise `NoShape` exactly if, memory aside, no shape with a chosen face keeps the edges straight. It has
-/// vertices and faces that show this for the face with the most darts. `Memory` if memory runs out. The outer face may
-/// have changed.
+/// `NoAngle` exactly if an angle is not 1 to 4; otherwise `NoEdge` exactly if two vertices that are named are not adjacent;
+/// otherwise `Conflict` exactly if two conditions on one angle or one edge differ; otherwise `TooManyTurns` exactly if all
+/// edges together are to have more than `MAX_GIVEN_TURNS` turns; otherwise `NoOuter` exactly if no face may be outside;
+/// otherwise `NoShape` exactly if no shape with a chosen face keeps what is given; all of this memory aside. `NoShape` has
+/// vertices and faces that show it for the face with the most darts. `Memory` if memory runs out. The outer face may have
+/// changed.
 pub fn shape_keeping_in(
     alloc: Global,
     scratch: &mut Scratch,
@@ -53,15 +57,15 @@ pub fn shape_keeping_in(
     }
 }
 
-/// Why no shape keeps the edges straight, told of the greatest face that may be outside.
+/// Why no shape keeps what is given, told of the greatest face that may be outside.
 fn unkept(alloc: Global, plane: &mut Plane, meant: &Meaning) -> KeepFault
     requires face { meant.now.greatest < plane.old.faces }
-    requires none { HasNoneKeeping (with_outer plane.old meant.now.greatest) meant.now.marks.items }
+    requires none { HasNoneKeeping (with_outer plane.old meant.now.greatest) meant.now.given }
     ensures outer_moved { plane.new ≡ with_outer plane.old plane.new.outer }
-    ensures shown { IsToldOf plane.old meant.now.marks.items meant.now.greatest result }
+    ensures shown { IsToldOf plane.old meant.now.given meant.now.greatest result }
 {
     plane.set_outer(meant.greatest);
-    match cut_keeping(alloc, plane, &meant.marks) {
+    match cut_keeping(alloc, plane, &meant.given()) {
         Ok(Some(cut)) => KeepFault::NoShape(Unkept {
             outer: meant.greatest,
             cut,
@@ -71,35 +75,61 @@ fn unkept(alloc: Global, plane: &mut Plane, meant: &Meaning) -> KeepFault
     }
 }
 
-/// What conditions mean for a plane: marks of its darts and of its faces, and the greatest face that is not marked.
+/// What conditions mean for a plane: what is given of its darts, marks of its faces, and the greatest face that is not marked.
 #[derive(Drop)]
 struct Meaning {
-    marks: Vec<bool>,
+    angles: Vec<Option<u8>>,
+    turns: Vec<Option<i32>>,
     barred: Vec<bool>,
     greatest: u16,
 }
 
+impl Model for Meaning {
+    ghost use Rattle.flow_network.specs.Given.{CanBeGiven};
+    ghost use Rattle.conditions.specs.Meanings.{MeaningModel};
+
+    ghost Value = { MeaningModel };
+
+    ghost view = { λ m. record { given = record { angles = m.angles.items; turns = m.turns.items }; barred = m.barred.items; greatest = m.greatest } };
+
+    ghost invariant = { λ m. CanBeGiven m.angles.items m.turns.items };
+}
+
+impl Meaning {
+    /// What is given of the darts.
+    fn given(&self) -> Given<'_>
+        ensures { result ≡ self.now.given }
+    {
+        Given::new(&self.angles, &self.turns)
+    }
+}
+
 /// What the conditions mean for the plane.
 fn meant_by(alloc: Global, plane: &Plane, conditions: &Conditions<'_>) -> Result<Meaning, KeepFault>
-    ensures asked { IfOk result (λ meant. IsAsked plane.now conditions.now meant.marks.items meant.barred.items) }
-    ensures greatest { IfOk result (λ meant. IsGreatestOpen plane.now meant.barred.items meant.greatest) }
+    ensures asked { IfOk result (λ meant. IsAsked plane.now conditions.now meant.given meant.barred) }
+    ensures greatest { IfOk result (λ meant. IsGreatestOpen plane.now meant.barred meant.greatest) }
     ensures fault { IfErr result (λ fault. (choice : Choice) → IsKeepFault conditions.now choice plane.now fault) }
 {
-    if !are_darts(plane, conditions.straight) {
+    // Only the proof needs this: `graph` says that the plane is one.
+    let _graph = plane.graph();
+    if !are_angles(conditions) {
+        return Err(KeepFault::NoAngle);
+    }
+    if !are_darts(plane, conditions) {
         return Err(KeepFault::NoEdge);
     }
-    if !are_darts(plane, conditions.inner) {
-        return Err(KeepFault::NoEdge);
+    let angles = angles_of(alloc, plane, conditions.angles)?;
+    let turns = turns_of(alloc, plane, conditions.turns)?;
+    if !Given::can_be(&angles, &turns) {
+        return Err(KeepFault::TooManyTurns);
     }
-    let Ok(marks) = marks_of(alloc, plane, conditions.straight) else {
-        return Err(KeepFault::Memory);
-    };
     let Ok(barred) = barred_of(alloc, plane, conditions.inner) else {
         return Err(KeepFault::Memory);
     };
     match greatest_open(plane, &barred) {
         Some(greatest) => Ok(Meaning {
-            marks,
+            angles,
+            turns,
             barred,
             greatest,
         }),
@@ -107,7 +137,7 @@ fn meant_by(alloc: Global, plane: &Plane, conditions: &Conditions<'_>) -> Result
     }
 }
 
-/// The least shape that keeps the edges straight with the chosen outer face, and its prices.
+/// The least shape that keeps what is given with the chosen outer face, and its prices.
 fn chosen_shape(
     alloc: Global,
     scratch: &mut Scratch,
@@ -115,40 +145,40 @@ fn chosen_shape(
     choice: Choice,
     meant: &Meaning,
 ) -> Result<(Shape, Prices), SolveFault>
-    requires { IsGreatestOpen plane.old meant.now.barred.items meant.now.greatest }
+    requires { IsGreatestOpen plane.old meant.now.barred meant.now.greatest }
     ensures outer_moved { plane.new ≡ with_outer plane.old plane.new.outer }
-    ensures chosen { OnOk result (IsChosenKeeping choice plane.new meant.now.marks.items meant.now.barred.items) }
+    ensures chosen { OnOk result (IsChosenKeeping choice plane.new meant.now.given meant.now.barred) }
     ensures shape { IfOk result (λ found. IsShape plane.new found.0) }
-    ensures least { IfOk result (λ found. IsLeastKeeping plane.new meant.now.marks.items found.0) }
-    ensures proof { IfOk result (λ found. IsProofKeeping plane.new meant.now.marks.items found.0 found.1) }
+    ensures least { IfOk result (λ found. IsLeastKeeping plane.new meant.now.given found.0) }
+    ensures proof { IfOk result (λ found. IsProofKeeping plane.new meant.now.given found.0 found.1) }
     ensures none { IfErr result (λ fault. fault ≡ SolveFault.Infeasible
-        → HasNoChosen choice plane.old meant.now.marks.items meant.now.barred.items) }
+        → HasNoChosen choice plane.old meant.now.given meant.now.barred) }
     ensures none_there { IfErr result (λ fault. fault ≡ SolveFault.Infeasible
-        → HasNoneKeeping (with_outer plane.old meant.now.greatest) meant.now.marks.items) }
+        → HasNoneKeeping (with_outer plane.old meant.now.greatest) meant.now.given) }
 {
     match choice {
-        Choice::First => first_shape(alloc, scratch, plane, &meant.marks, meant.greatest),
-        Choice::Best => best_shape_keeping(alloc, plane, &meant.marks, &meant.barred),
+        Choice::First => first_shape(alloc, scratch, plane, &meant.given(), meant.greatest),
+        Choice::Best => best_shape_keeping(alloc, plane, &meant.given(), &meant.barred),
     }
 }
 
-/// The least shape that keeps these edges straight with a face as the outer one.
+/// The least shape that keeps what is given with a face as the outer one.
 fn first_shape(
     alloc: Global,
     scratch: &mut Scratch,
     plane: &mut Plane,
-    marks: &[bool],
+    given: &Given<'_>,
     face: u16,
 ) -> Result<(Shape, Prices), SolveFault>
     requires { face < plane.old.faces }
     ensures outer_moved { plane.new ≡ with_outer plane.old face }
     ensures shape { IfOk result (λ found. IsShape plane.new found.0) }
-    ensures least { IfOk result (λ found. IsLeastKeeping plane.new marks.now found.0) }
-    ensures proof { IfOk result (λ found. IsProofKeeping plane.new marks.now found.0 found.1) }
-    ensures none { IfErr result (λ fault. fault ≡ SolveFault.Infeasible → HasNoneKeeping (with_outer plane.old face) marks.now) }
+    ensures least { IfOk result (λ found. IsLeastKeeping plane.new given.now found.0) }
+    ensures proof { IfOk result (λ found. IsProofKeeping plane.new given.now found.0 found.1) }
+    ensures none { IfErr result (λ fault. fault ≡ SolveFault.Infeasible → HasNoneKeeping (with_outer plane.old face) given.now) }
 {
     plane.set_outer(face);
-    least_shape_keeping_in(alloc, scratch, plane, marks)
+    least_shape_keeping_in(alloc, scratch, plane, given)
 }
 
 /// The face with the most darts of those that are not barred, among equals the first one; `None` if all are barred.

@@ -1,11 +1,12 @@
-//! What a layout is to keep, by the names of vertices: edges that stay straight, and faces that stay inside.
+//! What a layout is to keep, by the names of vertices: angles, turns along edges, and faces that stay inside.
 #![tactic(auto)]
 
+mod asked;
 mod chosen;
 mod conditions;
 mod fault;
 mod marks;
 
 pub use chosen::shape_keeping_in;
-pub use conditions::{Conditions, DartEnds};
+pub use conditions::{AngleAt, Conditions, DartEnds, TurnsAlong};
 pub use fault::{KeepFault, Unkept};

@@ -1,19 +1,33 @@
-//! Which darts and faces are meant by pairs of vertices.
+//! Which faces are meant by pairs of vertices.
 
-ghost use Rattle.std.specs.Prelude.{◌≡◌, ◌<◌, ◌↔◌, true, false, if◌then◌else◌, IsTrue, IfOk, All, Any, length, replicate, slice_set};
-ghost use Rattle.faces.specs.Planes.{darts, tail, head};
-ghost use Rattle.conditions.specs.Asked.{Joins, IsAmong, IsDart, AreMarks, AreBarred};
+ghost use Rattle.std.specs.Prelude.{◌≡◌, ◌<◌, ◌↔◌, true, false, if◌then◌else◌, IsTrue, IfOk, length, replicate, slice_set};
+ghost use Rattle.faces.specs.Planes.{darts};
+ghost use Rattle.conditions.specs.Asked.{Names, IsAmong, IsDart, AreBarred};
 
 use crate::conditions::DartEnds;
 use common::filled;
 use faces::Plane;
 use std::alloc::{AllocError, Global};
 
-/// Whether some pair leads from one vertex to another.
-fn holds(list: &[DartEnds], from: u16, to: u16) -> bool
-    ensures { IsTrue result ↔ Any (Joins from to) list.now }
+/// Whether a dart has these ends.
+pub(crate) fn is_named(plane: &Plane, dart: u16, from: u16, to: u16) -> bool
+    requires { dart < darts plane.now }
+    ensures { IsTrue result ↔ Names plane.now dart from to }
 {
-    list.iter().any(|ends| ends.from == from && ends.to == to)
+    let graph = plane.graph();
+    from == graph.tail(dart) && to == graph.head(dart)
+}
+
+/// Whether some dart has these ends.
+pub(crate) fn is_dart(plane: &Plane, from: u16, to: u16) -> bool
+    ensures { IsTrue result ↔ IsDart plane.now from to }
+{
+    for dart in 0..plane.graph().darts() {
+        if is_named(plane, dart, from, to) {
+            return true;
+        }
+    }
+    false
 }
 
 /// Whether a dart is among those of the list.
@@ -21,49 +35,8 @@ fn is_among(plane: &Plane, list: &[DartEnds], dart: u16) -> bool
     requires { dart < darts plane.now }
     ensures { IsTrue result ↔ IsAmong plane.now list.now dart }
 {
-    let graph = plane.graph();
-    holds(list, graph.tail(dart), graph.head(dart))
-}
-
-/// Whether a dart has these ends.
-fn has_ends(plane: &Plane, ends: DartEnds, dart: u16) -> bool
-    requires { dart < darts plane.now }
-    ensures { IsTrue result ↔ Joins (tail plane.now dart) (head plane.now dart) ends }
-{
-    let graph = plane.graph();
-    ends.from == graph.tail(dart) && ends.to == graph.head(dart)
-}
-
-/// Whether some dart has these ends.
-fn is_dart(plane: &Plane, ends: DartEnds) -> bool
-    ensures { IsTrue result ↔ IsDart plane.now ends }
-{
-    for dart in 0..plane.graph().darts() {
-        if has_ends(plane, ends, dart) {
-            return true;
-        }
-    }
-    false
-}
-
-/// Whether each pair of the list is the ends of a dart.
-pub(crate) fn are_darts(plane: &Plane, list: &[DartEnds]) -> bool
-    ensures { IsTrue result ↔ All (IsDart plane.now) list.now }
-{
-    list.iter().all(|ends| is_dart(plane, *ends))
-}
-
-/// Marks of the darts of a list.
-pub(crate) fn marks_of(
-    alloc: Global,
-    plane: &Plane,
-    list: &[DartEnds],
-) -> Result<Vec<bool>, AllocError>
-    ensures { IfOk result (λ marks. AreMarks plane.now list.now marks.items) }
-{
-    let mut marks = filled(Vec::new(alloc), usize::from(plane.graph().darts()), false)?;
-    mark_darts(plane, list, &mut marks);
-    Ok(marks)
+    list.iter()
+        .any(|ends| is_named(plane, dart, ends.from, ends.to))
 }
 
 /// Marks of the faces on the left of the darts of a list.
@@ -77,16 +50,6 @@ pub(crate) fn barred_of(
     let mut barred = filled(Vec::new(alloc), usize::from(plane.face_count()), false)?;
     mark_faces(plane, list, &mut barred);
     Ok(barred)
-}
-
-/// Marks the darts of a list, among marks that are all unset.
-fn mark_darts(plane: &Plane, list: &[DartEnds], marks: &mut [bool])
-    requires { marks.old ≡ replicate (darts plane.now) false }
-    ensures { AreMarks plane.now list.now marks.new }
-{
-    for dart in 0..plane.graph().darts() {
-        mark(marks, usize::from(dart), is_among(plane, list, dart));
-    }
 }
 
 /// Marks the faces on the left of the darts of a list, among marks that are all unset.

@@ -1,7 +1,8 @@
 -- Marks that are pushed one after another.
-use Rattle.std.proofs.Common.{◌≡◌, ◌∙◌, ℕ, zero, suc, ◌+◌, ◌<◌, Bool, false, List, [], ◌∷◌, ◌++◌, length, ap, arith, inl, inr, subst, sym}
-use Rattle.std.proofs.lemmas.Bool.{cases_eq}
-use Rattle.flow_network.specs.Straight.{is_marked}
+use Rattle.std.proofs.Common.{◌≡◌, ◌∙◌, ℕ, zero, suc, ◌+◌, ◌<◌, Bool, true, false, List, [], ◌∷◌, ◌++◌, length, ap, arith, inl, inr, subst, sym}
+use Rattle.std.proofs.lemmas.Bool.{cases_eq, cases_lt, both_ways}
+use Rattle.std.proofs.lemmas.List.{get_or_past}
+use Rattle.flow_network.specs.Marks.{is_marked}
 use Rattle.flow_network.proofs.GrowingLists.{push_keeps}
 
 last_mark : (xs : List Bool) (x : Bool) (k : ℕ) → k ≡ length xs → is_marked (xs ++ x ∷ []) k ≡ x
@@ -20,3 +21,10 @@ marks_more xs ys x n P said long here before k l =
           let less : k < n = omega (arith, l, other) in
           subst (λ (b : Bool). P b k) (sym (push_keeps xs ys x false k said (omega (arith, long, less)))) (before k less)
     ]
+
+-- a mark that is set lies in the list
+pub marks_below : (xs : List Bool) (n k : ℕ) → length xs ≡ n → is_marked xs k ≡ true → k < n
+marks_below xs n k long on = elim (cases_lt k n) [
+  | inl less ↦ less
+  | inr past ↦ absurd (both_ways (is_marked xs k) (get_or_past xs k false (omega (arith, long, past))) on)
+]

@@ -1,27 +1,27 @@
-//! The cut of a plane with edges that stay straight: what the solver reaches from an excess in the plane's network if
-//! nothing crosses these edges (Gale 1957, Tamassia 1987).
+//! The cut of a plane with what is given: what the solver reaches from an excess in the plane's network besides that (Gale
+//! 1957, Tamassia 1987).
 
-ghost use Rattle.std.specs.Prelude.{◌≡◌, ◌+◌, ◌-◌, ◌<◌, ◌≤◌, ℕ, Bool, List, true, false, IfOk, IfSome, IfNone, length};
-ghost use Rattle.faces.specs.Planes.{PlaneModel, IsPlane, darts, vertices, head, face_at};
-ghost use Rattle.flow_network.specs.Straight.{is_marked};
+ghost use Rattle.std.specs.Prelude.{◌≡◌, ◌+◌, ◌-◌, ◌<◌, ◌≤◌, ℕ, pos, ◌<ℤ◌, Bool, List, true, false, IfOk, IfSome, IfNone, length};
+ghost use Rattle.faces.specs.Planes.{PlaneModel, IsPlane, darts, vertices, head};
+ghost use Rattle.flow_network.specs.Marks.{is_marked};
+ghost use Rattle.flow_network.specs.Given.{GivenModel};
+ghost use Rattle.flow_network.specs.FaceNet.{vertex_has_to_turn};
 ghost use Rattle.min_cost_flow.specs.Overfull.{is_in};
 ghost use Rattle.ortho_rep.specs.declared.turn.Turn.{Turn};
 ghost use Rattle.ortho_rep.specs.Representation.{Rep};
 ghost use Rattle.ortho_rep.specs.Keeping.{Keeps, HasNoneKeeping};
-ghost use Rattle.cuts.specs.Cut.{ShowsNone, HasFacesIn, HasFaceOut};
+ghost use Rattle.cuts.specs.Cut.{ShowsNone, HasFacesIn, HasFaceOut, IsLeftOut};
 
 use crate::cut::Cut;
 use common::emptied;
 use faces::Plane;
-use flow_network::{FaceNet, has_mark};
+use flow_network::{FaceNet, Given, has_mark, vertex_to_turn};
 use min_cost_flow::overfull_in;
 use std::alloc::{AllocError, Global};
 
-/// If no representation keeps marked edges straight, a cut that proves it; `None` if some representation does.
+/// If no representation keeps what is given, a cut that proves it; `None` if some representation does.
 ///
 /// The cut is a set of vertices and faces that turn more than can leave it.
-///
-/// An edge is to stay straight if one of its two darts is marked; darts past the end of the list are not marked.
 ///
 /// # Errors
 ///
@@ -29,21 +29,22 @@ use std::alloc::{AllocError, Global};
 pub fn cut_keeping(
     alloc: Global,
     plane: &Plane,
-    straight: &[bool],
+    given: &Given<'_>,
 ) -> Result<Option<Cut>, AllocError>
-    ensures shown { IfOk result (λ found. IfSome found (λ cut. ShowsNone plane.now straight.now cut.vertices.items cut.faces.items)) }
-    ensures none { IfOk result (λ found. IfNone found ((a : ℕ → ℕ) × (s : ℕ → List Turn) × Rep plane.now a s × Keeps plane.now straight.now s)) }
+    ensures shown { IfOk result (λ found. IfSome found (λ cut. ShowsNone plane.now given.now cut.vertices.items cut.faces.items)) }
+    ensures none { IfOk result (λ found. IfNone found ((a : ℕ → ℕ) × (s : ℕ → List Turn) × Rep plane.now a s × Keeps plane.now given.now a s)) }
 {
-    // Only the proof needs this: `graph` says that the plane is one.
+    // Only the proof needs these: they say that the plane is one, and how much can be given.
     let _graph = plane.graph();
+    let _is_nothing = given.is_nothing();
     let mut lists = flow_network::Scratch::empty(alloc);
-    let net = FaceNet::build_keeping_in(alloc, &mut lists, plane, straight)?;
+    let net = FaceNet::build_keeping_in(alloc, &mut lists, plane, given)?;
     let mut solver = min_cost_flow::Scratch::empty(alloc);
     let Some(nodes) = overfull_in(alloc, &mut solver, net.network())? else {
         return Ok(None);
     };
     let faces = faces_of(alloc, plane, &nodes)?;
-    let vertices = vertices_of(alloc, plane, &faces)?;
+    let vertices = vertices_of(alloc, plane, given, &faces)?;
     Ok(Some(Cut { vertices, faces }))
 }
 
@@ -61,35 +62,56 @@ fn faces_of(alloc: Global, plane: &Plane, nodes: &[bool]) -> Result<Vec<bool>, A
     Ok(faces)
 }
 
-/// A mark for each vertex that has all its faces among these.
-fn vertices_of(alloc: Global, plane: &Plane, faces: &[bool]) -> Result<Vec<bool>, AllocError>
+/// A mark for each vertex that has something to turn, and all of whose angles that are not given lie in these faces.
+fn vertices_of(
+    alloc: Global,
+    plane: &Plane,
+    given: &Given<'_>,
+    faces: &[bool],
+) -> Result<Vec<bool>, AllocError>
     ensures size { IfOk result (λ marks. length marks.items ≡ vertices plane.now) }
-    ensures inside { IfOk result (λ marks. (k : ℕ) → is_marked marks.items k ≡ true → HasFacesIn plane.now faces.now (k + 1)) }
-    ensures outside { IfOk result (λ marks. (k : ℕ) → k < vertices plane.now → is_marked marks.items k ≡ false → HasFaceOut plane.now faces.now (k + 1)) }
+    ensures some { IfOk result (λ marks. (k : ℕ) → is_marked marks.items k ≡ true → pos 0 <ℤ vertex_has_to_turn plane.now given.now (k + 1)) }
+    ensures inside { IfOk result (λ marks. (k : ℕ) → is_marked marks.items k ≡ true → HasFacesIn plane.now given.now faces.now (k + 1)) }
+    ensures outside { IfOk result (λ marks. (k : ℕ) → k < vertices plane.now → is_marked marks.items k ≡ false → IsLeftOut plane.now given.now faces.now (k + 1)) }
 {
     let vertices = plane.graph().vertices();
     let mut marks = emptied(Vec::new(alloc), usize::from(vertices))?;
     for place in 0..vertices {
-        marks.push(has_faces_in(plane, faces, place + 1))?;
+        marks.push(is_one_of(plane, given, faces, place + 1))?;
     }
     Ok(marks)
 }
 
-/// Whether all faces of a vertex are marked.
-fn has_faces_in(plane: &Plane, faces: &[bool], vertex: u16) -> bool
-    ensures inside { result ≡ true → HasFacesIn plane.now faces.now vertex }
-    ensures outside { result ≡ false → HasFaceOut plane.now faces.now vertex }
+/// Whether a vertex has something to turn, and all its angles that are not given lie in these faces.
+fn is_one_of(plane: &Plane, given: &Given<'_>, faces: &[bool], vertex: u16) -> bool
+    requires some { 0 < vertex }
+    requires within { vertex ≤ vertices plane.now }
+    ensures some { result ≡ true → pos 0 <ℤ vertex_has_to_turn plane.now given.now vertex }
+    ensures inside { result ≡ true → HasFacesIn plane.now given.now faces.now vertex }
+    ensures outside { result ≡ false → IsLeftOut plane.now given.now faces.now vertex }
+{
+    if vertex_to_turn(plane, given, vertex) <= 0 {
+        return false;
+    }
+    has_faces_in(plane, given, faces, vertex)
+}
+
+/// Whether the face of each angle of a vertex that is not given is marked.
+fn has_faces_in(plane: &Plane, given: &Given<'_>, faces: &[bool], vertex: u16) -> bool
+    ensures inside { result ≡ true → HasFacesIn plane.now given.now faces.now vertex }
+    ensures outside { result ≡ false → HasFaceOut plane.now given.now faces.now vertex }
 {
     let graph = plane.graph();
     for dart in 0..graph.darts() {
-        if graph.head(dart) == vertex && !has_mark(faces, plane.face_of(dart)) {
+        let is_free = graph.head(dart) == vertex && given.angle(dart).is_none();
+        if is_free && !has_mark(faces, plane.face_of(dart)) {
             return false;
         }
     }
     true
 }
 
-/// If a set of vertices and faces turns more than can leave it, no representation keeps the edges straight.
+/// If a set of vertices and faces turns more than can leave it, no representation keeps what is given.
 pub fn cut_shows_none()
-    ensures { (p : PlaneModel) (marks vertices faces : List Bool) → IsPlane p → ShowsNone p marks vertices faces → HasNoneKeeping p marks }
+    ensures { (p : PlaneModel) (given : GivenModel) (vertices faces : List Bool) → IsPlane p → ShowsNone p given vertices faces → HasNoneKeeping p given }
 {}

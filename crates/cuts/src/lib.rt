@@ -1,4 +1,4 @@
-//! Why no representation keeps edges straight: vertices and faces that turn more than can leave them.
+//! Why no representation keeps what is given: vertices and faces that turn more than can leave them.
 #![tactic(auto)]
 
 mod cut;

@@ -1,6 +1,6 @@
 -- Each plane has a shape with the fewest bends: its network has a flow, which is a representation.
-use Rattle.std.proofs.Common.{◌≡◌, ◌<◌, ℕ, ◌+◌, ◌-◌, cond, ltb, List, [], length, map, ap, ◌∙◌, arith}
-use Rattle.std.specs.Prelude.{ℤ, pos, ◌-ℤ◌}
+use Rattle.std.proofs.Common.{◌≡◌, ◌<◌, ℕ, ◌+◌, ◌-◌, cond, ltb, List, [], length, map, sym, ap, ◌∙◌, arith}
+use Rattle.std.specs.Prelude.{ℤ, pos, ◌-ℤ◌, Option}
 use Rattle.std.specs.List.{range_with_len}
 use Rattle.std.proofs.lemmas.Bool.{lt-ltb, le-ltb, cond-true, cond-false}
 use Rattle.std.proofs.lemmas.List.FromFn.{length-map-range_with_len, get_or-map-range_with_len}
@@ -11,13 +11,16 @@ use Rattle.networks.specs.declared.arc.Cap.TheVariants.{AtMost, Any}
 use Rattle.networks.specs.Networks.{NetworkModel, net_of, no_arc, arc_at, supply_at}
 use Rattle.faces.specs.Planes.{PlaneModel, IsPlane, darts, vertices, head, reverse_dart, face_at, degree}
 use Rattle.faces.proofs.Ends.{plane_ends}
-use Rattle.flow_network.specs.FaceNet.{IsFaceNet, vertex_degree}
+use Rattle.flow_network.specs.Given.{nothing_given}
+use Rattle.flow_network.specs.FaceNet.{IsFaceNet, vertex_degree, crossing_cap}
+use Rattle.flow_network.proofs.GivenParts.{none_along, vertex_plain, face_plain}
 use Rattle.flow_network.proofs.Flowing.{net_flows}
 use Rattle.flow_network.proofs.Faultless.{arc_ends}
 use Rattle.ortho_rep.specs.declared.turn.Turn.{Turn}
 use Rattle.ortho_rep.specs.Shapes.{ShapeModel, angle_at, turns_at}
 use Rattle.ortho_rep.specs.OfFlow.{angles_of, strings_of}
 use Rattle.ortho_rep.specs.Representation.{Rep, IsShape, IsLeast, bends_of, whole_turn}
+use Rattle.ortho_rep.proofs.GivenFlow.{nothing_can}
 use Rattle.ortho_rep.proofs.FromFlow.{rep_of_flow}
 use Rattle.ortho_rep.proofs.SameAtDarts.{rep-alike}
 use Rattle.drawing_laws.proofs.StrongDuality.{least_below}
@@ -54,24 +57,27 @@ is_net p = record {
       let back : darts p + d - darts p ≡ d = omega arith in
       arc_is p (darts p + d) (omega arith)
       ∙ cond-false {A = Arc} (ltb (darts p + d) (darts p)) (corner_arc p (darts p + d)) (crossing_arc p (darts p + d - darts p)) (le-ltb (darts p + d) (darts p) (omega arith))
-      ∙ ap (crossing_arc p) back;
+      ∙ ap (crossing_arc p) back
+      ∙ ap (λ (g : Option ℤ). record { from = vertices p + face_at p d; to = vertices p + face_at p (reverse_dart p d); cap = crossing_cap g; cost = 1 }) (sym (none_along p d));
   at_vertex = λ v from to.
       let back : v - 1 + 1 ≡ v = omega arith in
       supply_is p (v - 1) (omega arith)
       ∙ cond-true {A = ℤ} (ltb (v - 1) (vertices p)) (pos 4 -ℤ pos (vertex_degree p (v - 1 + 1))) (whole_turn p (v - 1 - vertices p) -ℤ pos (degree p (v - 1 - vertices p))) (lt-ltb (v - 1) (vertices p) (omega arith))
-      ∙ ap (λ (u : ℕ). pos 4 -ℤ pos (vertex_degree p u)) back;
+      ∙ ap (λ (u : ℕ). pos 4 -ℤ pos (vertex_degree p u)) back
+      ∙ sym (vertex_plain p v);
   at_face = λ f b.
       let back : vertices p + f - vertices p ≡ f = omega arith in
       supply_is p (vertices p + f) (omega arith)
       ∙ cond-false {A = ℤ} (ltb (vertices p + f) (vertices p)) (pos 4 -ℤ pos (vertex_degree p (vertices p + f + 1))) (whole_turn p (vertices p + f - vertices p) -ℤ pos (degree p (vertices p + f - vertices p))) (le-ltb (vertices p + f) (vertices p) (omega arith))
-      ∙ ap (λ (g : ℕ). whole_turn p g -ℤ pos (degree p g)) back;
+      ∙ ap (λ (g : ℕ). whole_turn p g -ℤ pos (degree p g)) back
+      ∙ sym (face_plain p f);
 }
 
 -- each plane has a representation
 some_rep : (p : PlaneModel) → IsPlane p → (a : ℕ → ℕ) × (s : ℕ → List Turn) × Rep p a s
 some_rep p plane =
     let (x, flow) = net_flows p (net p) plane (is_net p) (arc_ends p (net p) plane (is_net p)) in
-    (angles_of x, strings_of p x, rep_of_flow p (net p) x (plane_ends p plane) (is_net p) flow)
+    (angles_of nothing_given x, strings_of p nothing_given x, rep_of_flow p (net p) x (plane_ends p plane) nothing_can (is_net p) flow)
 
 -- and so a least shape
 pub some_least : (p : PlaneModel) → IsPlane p → (shape : ShapeModel) × (IsShape p shape) × (IsLeast p shape)

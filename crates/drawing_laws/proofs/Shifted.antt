@@ -8,7 +8,8 @@ use Rattle.common.proofs.Sums.{sum_below-member}
 use Rattle.ortho_rep.specs.declared.turn.Turn.{Turn}
 use Rattle.faces.specs.Planes.{PlaneModel, HasEnds, darts, head, reverse_dart, face_at}
 use Rattle.ortho_rep.specs.Turns.{lefts}
-use Rattle.ortho_rep.specs.Prices.{Prove}
+use Rattle.ortho_rep.specs.Prices.{IsAnglePriced, AreTurnsPriced, Prove}
+use Rattle.ortho_rep.proofs.Priced.{plain_angle, plain_turns}
 
 -- what the prices y of faces have with the representation (a, s)
 pub record AreFacePrices (p : PlaneModel) (a : ℕ → ℕ) (s : ℕ → List Turn) (y : ℕ → ℕ) : Type 0 where
@@ -43,13 +44,19 @@ pub face_prices : (p : PlaneModel) (a : ℕ → ℕ) (s : ℕ → List Turn) (v 
 face_prices p a s v q ends prove = (
   λ f. shifted (least_shift p q) (q f),
   record {
-    near = λ d l. shifted-near (least_shift p q) (q (face_at p d)) (q (face_at p (reverse_dart p d))) (enough d l) (enough (reverse_dart p d) (ends.reverse_dart_in_range d l)) (prove d l).crossed;
-    bent = λ d l some. shifted-bent (least_shift p q) (q (face_at p d)) (q (face_at p (reverse_dart p d))) (enough d l) (enough (reverse_dart p d) (ends.reverse_dart_in_range d l)) ((prove d l).tight some);
+    near = λ d l. shifted-near (least_shift p q) (q (face_at p d)) (q (face_at p (reverse_dart p d))) (enough d l) (enough (reverse_dart p d) (ends.reverse_dart_in_range d l)) (turns d l).crossed;
+    bent = λ d l some. shifted-bent (least_shift p q) (q (face_at p d)) (q (face_at p (reverse_dart p d))) (enough d l) (enough (reverse_dart p d) (ends.reverse_dart_in_range d l)) ((turns d l).tight some);
     corner = λ d e l m same more less.
         shifted-le (least_shift p q) (q (face_at p e)) (q (face_at p d)) (enough e m) (enough d l)
-        (between (q (face_at p e)) (v (head p e)) (v (head p d)) (q (face_at p d)) ((prove e m).wider less) (ap v (sym same)) ((prove d l).narrower more));
+        (between (q (face_at p e)) (v (head p e)) (v (head p d)) (q (face_at p d)) ((angle e m).wider less) (ap v (sym same)) ((angle d l).narrower more));
   },
 )
   where
+    angle : (d : ℕ) → d < darts p → IsAnglePriced (a d) (v (head p d)) (q (face_at p d))
+    angle d l = plain_angle p a s v q d (prove d l)
+
+    turns : (d : ℕ) → d < darts p → AreTurnsPriced (s d) (q (face_at p d)) (q (face_at p (reverse_dart p d)))
+    turns d l = plain_turns p a s v q d (prove d l)
+
     enough : (d : ℕ) → d < darts p → down (q (face_at p d)) ≤ least_shift p q
     enough d l = sum_below-member p.faces (face_at p d) (λ f. down (q f)) (ends.face_named d l)

@@ -17,8 +17,9 @@ use Rattle.ortho_rep.specs.OfFlow.{lefts_then_rights}
 use Rattle.ortho_rep.specs.Shapes.{ShapeModel, angle_at, turns_at}
 use Rattle.ortho_rep.specs.Representation.{Rep, Least, IsShape, IsLeast, bends_of}
 use Rattle.ortho_rep.specs.Prices.{PricesModel, Prove, IsProof, vertex_price, face_price}
+use Rattle.ortho_rep.proofs.Priced.{plain_priced}
 use Rattle.ortho_rep.proofs.SameAtDarts.{prove-alike}
-use Rattle.ortho_rep.proofs.FromFlow.{lefts-lefts_then_rights, rights-lefts_then_rights, mirrored-lefts_then_rights}
+use Rattle.ortho_rep.proofs.FlowStrings.{lefts-lefts_then_rights, rights-lefts_then_rights, mirrored-lefts_then_rights}
 use Rattle.ortho_rep.proofs.WeakDuality.{part_at, left_sums, right_sums, turning-split, lefts_of, rights_are, lengths-twice, least_by_prices}
 use Rattle.drawing_laws.proofs.Moving.{corner_at, across_at, one_at, left_sum_at, right_sum_at, put, put-here, put-other, left_sum-lefts, right_sum-lefts, total-lefts, Moved}
 use Rattle.drawing_laws.proofs.Reaching.{IsClosed, reach}
@@ -173,12 +174,15 @@ better_or_priced p a s plane rep =
       | inr (y, prices) ↦ inr (
         λ v. pos (y (p.faces + v)),
         λ f. pos (y f),
-        λ d b. record {
-          wider = λ room. let h = prices.wider d b room in omega (arith, ints, h);
-          narrower = λ some. let h = prices.narrower d b some in omega (arith, ints, h);
-          crossed = let h = prices.crossed d b in omega (arith, ints, h);
-          tight = λ some. let h = prices.crossed d b in let g = prices.tight d b b some in omega (arith, ints, h, g);
-        },
+        λ d b. plain_priced p a s (λ v. pos (y (p.faces + v))) (λ f. pos (y f)) d
+            (record {
+              wider = λ room. let h = prices.wider d b room in omega (arith, ints, h);
+              narrower = λ some. let h = prices.narrower d b some in omega (arith, ints, h);
+            })
+            (record {
+              crossed = let h = prices.crossed d b in omega (arith, ints, h);
+              tight = λ some. let h = prices.crossed d b in let g = prices.tight d b b some in omega (arith, ints, h, g);
+            }),
       )
     ]
 

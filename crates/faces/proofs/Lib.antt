@@ -6,3 +6,4 @@ pub mod Connected
 pub mod Outer
 pub mod Greatest
 pub mod Kept
+pub mod FaceDegrees

@@ -1,7 +1,7 @@
 -- The network of a plane has a flow: each vertex sends its supply into one corner, and what faces have over can
 -- cross to what they want, since any two faces are joined by crossings.
 use Rattle.std.proofs.Common.{◌≡◌, ◌≢◌, ℕ, zero, suc, ◌+◌, ◌-◌, ◌*◌, ◌<◌, ◌≤◌, ◌==◌, if◌then◌else◌, ◌∙◌, Bool, true, false, arith, subst, sym, ap, refl, inl, inr, cond, eqb, ltb}
-use Rattle.std.specs.Prelude.{List, nat_lt, ℤ, pos, negsuc, ◌+ℤ◌, ◌-ℤ◌, ◌<ℤ◌}
+use Rattle.std.specs.Prelude.{Option, nat_lt, ℤ, pos, negsuc, ◌+ℤ◌, ◌-ℤ◌, ◌<ℤ◌}
 use Rattle.std.proofs.lemmas.Bool.{cases_eq, cases_lt, cases_Bool, eq-eqb, eqb-true, ne_eqb, cond-true, cond-false, lt-ltb, le-ltb}
 use Rattle.std.proofs.lemmas.Int.{ints}
 use Rattle.common.specs.Sums.{sum_below, total_below}
@@ -16,7 +16,10 @@ use Rattle.networks.specs.Flow.{Flow, IsWithinCap, outflow, inflow, net_outflow}
 use Rattle.min_cost_flow.specs.Excess.{IsWithinCaps}
 use Rattle.min_cost_flow.specs.Existence.{HasUnlimitedPaths, SuppliesSumToZero}
 use Rattle.min_cost_flow.proofs.Existence.{flow_where_joined, excess_leaves}
-use Rattle.flow_network.specs.FaceNet.{IsFaceNet, IsKeepingNet, vertex_degree}
+use Rattle.networks.specs.declared.arc.Cap.TheVariants.{Any}
+use Rattle.flow_network.specs.Given.{GivenModel, angle_given, turns_given, beyond_first}
+use Rattle.flow_network.specs.FaceNet.{IsFaceNet, IsKeepingNet, vertex_degree, beyond_at_vertex, beyond_in_face, lefts_in_face, vertex_has_to_turn, crossing_cap}
+use Rattle.flow_network.proofs.GivenParts.{left_part, right_part, none_along, vertex_plain, lefts_of_face, rights_of_face, face_parts, all_at, all_at_vertices, lefts_are_rights}
 use Rattle.flow_network.proofs.VertexDegrees.{vertex_has_dart, arrivals_most}
 
 -- the last number below n that passes, where one does
@@ -75,6 +78,11 @@ arrivals_some p d l =
       cond-true {A = ℕ} (eqb (head p d) (head p d)) 1 0 (eq-eqb (head p d) (head p d) refl),
     )
 
+-- where nothing is given, any number of units crosses
+plain_crossing : (p : PlaneModel) (net : NetworkModel) → IsFaceNet p net → (d : ℕ) → d < darts p → arc_at net (darts p + d) ≡ record { from = vertices p + face_at p d; to = vertices p + face_at p (reverse_dart p d); cap = Any; cost = 1 }
+plain_crossing p net is d l =
+    is.crossing d l ∙ ap (λ (g : Option ℤ). record { from = vertices p + face_at p d; to = vertices p + face_at p (reverse_dart p d); cap = crossing_cap g; cost = 1 }) (none_along p d)
+
 pub start_keeps : (p : PlaneModel) (net : NetworkModel) → IsFaceNet p net → IsWithinCaps net (start p)
 start_keeps p net is i l =
     elim (cases_lt i (darts p)) [
@@ -85,7 +93,7 @@ start_keeps p net is i l =
           let at : darts p + d ≡ i = omega arith in
           let d_in : d < darts p = omega (arith, is.arcs) in
           subst (λ (j : ℕ). IsWithinCap (arc_at net j).cap (start p i)) at
-          (subst (λ (a : Arc). IsWithinCap a.cap (start p i)) (sym (is.crossing d d_in)) tt)
+          (subst (λ (a : Arc). IsWithinCap a.cap (start p i)) (sym (plain_crossing p net is d d_in)) tt)
     ]
   where
     small : (p : PlaneModel) (d : ℕ) → d < darts p → start p d ≤ 3
@@ -159,7 +167,7 @@ vertex_even p net plane is k below =
     let v : ℕ = k + 1 in
     let back : v - 1 ≡ k = omega arith in
     let supply : supply_at net k ≡ pos 4 -ℤ pos (vertex_degree p v) =
-    subst (λ (j : ℕ). supply_at net j ≡ pos 4 -ℤ pos (vertex_degree p v)) back (is.at_vertex v (omega arith) (omega arith)) in
+    subst (λ (j : ℕ). supply_at net j ≡ pos 4 -ℤ pos (vertex_degree p v)) back (is.at_vertex v (omega arith) (omega arith) ∙ vertex_plain p v) in
     let out : outflow net (start p) k ≡ 4 - vertex_degree p v =
     subst (λ (j : ℕ). outflow net (start p) j ≡ 4 - vertex_degree p v) back (start_leaves p net plane is v (omega arith) (omega arith)) in
     even (supply_at net k) (outflow net (start p) k) (inflow net (start p) k) (vertex_degree p v) supply out (start_enters p net is k below)
@@ -182,7 +190,7 @@ start_joined p net plane is = record {
       subst (λ (j : ℕ). s j ≡ true) v_is
       (faces_connected p plane (λ f. s (n + f))
       (λ d l held.
-      let arc = is.crossing d l in
+      let arc = plain_crossing p net is d l in
       let from : (arc_at net (darts p + d)).from ≡ n + face_at p d = ap (λ (a : Arc). a.from) arc in
       let to : (arc_at net (darts p + d)).to ≡ n + face_at p (reverse_dart p d) = ap (λ (a : Arc). a.to) arc in
       subst (λ (j : ℕ). s j ≡ true) to
@@ -204,39 +212,58 @@ start_joined p net plane is = record {
         elim (cases_lt w (vertices p)) [ inl below ↦ absurd (uneven (vertex_even p net plane is w below)) | inr face ↦ face ]
 
 -- as much is supplied as is wanted, by Euler's formula
-pub supplies_sum_to_zero : {marks : List Bool} (p : PlaneModel) (net : NetworkModel) → IsPlane p → IsKeepingNet p marks net → SuppliesSumToZero net
-supplies_sum_to_zero p net plane is =
+pub supplies_sum_to_zero : {given : GivenModel} (p : PlaneModel) (net : NetworkModel) → IsPlane p → IsKeepingNet p given net → SuppliesSumToZero net
+supplies_sum_to_zero {given} p net plane is =
     let n : ℕ = vertices p in
     let m : ℕ = p.faces in
     let ends = plane_ends p plane in
+    let beyond : ℕ → ℕ = λ d. beyond_first (angle_given given d) in
+    let at_v : ℕ → ℕ = λ k. beyond_at_vertex p given (k + 1) in
+    let gain : ℕ → ℕ = λ f. (if f == p.outer then 0 else 4) + beyond_in_face p given f in
+    let loss : ℕ → ℕ = λ f. degree p f + (if f == p.outer then 4 else 0) in
+    let ls : ℕ → ℕ = lefts_of_face p given in
+    let rs : ℕ → ℕ = rights_of_face p given in
     let apart : total_below (node_count net) (supply_at net) ≡ total_below n (supply_at net) +ℤ total_below m (λ f. supply_at net (n + f)) =
     ap (λ (k : ℕ). total_below k (supply_at net)) is.nodes ∙ total_below-split n m (supply_at net) in
-    let at_vertices : total_below n (supply_at net) ≡ pos (sum_below n (λ _. 4)) -ℤ pos (sum_below n (λ k. vertex_degree p (k + 1))) =
-    total_below-parts n (supply_at net) (λ _. 4) (λ k. vertex_degree p (k + 1)) (λ k l.
+    let at_vertices : total_below n (supply_at net) ≡ pos (sum_below n (λ _. 4)) -ℤ pos (sum_below n (λ k. vertex_degree p (k + 1) + at_v k)) =
+    total_below-parts n (supply_at net) (λ _. 4) (λ k. vertex_degree p (k + 1) + at_v k) (λ k l.
     let back : k + 1 - 1 ≡ k = omega arith in
-    subst (λ (j : ℕ). supply_at net j ≡ pos 4 -ℤ pos (vertex_degree p (k + 1))) back (is.at_vertex (k + 1) (omega arith) (omega arith))) in
-    let at_faces : total_below m (λ f. supply_at net (n + f)) ≡ pos (sum_below m (λ f. if f == p.outer then 0 else 4)) -ℤ pos (sum_below m (λ f. degree p f + (if f == p.outer then 4 else 0))) =
-    total_below-parts m (λ f. supply_at net (n + f)) (λ f. if f == p.outer then 0 else 4) (λ f. degree p f + (if f == p.outer then 4 else 0))
-    (λ f l. is.at_face f l ∙ turned (f == p.outer) (degree p f)) in
+    subst (λ (j : ℕ). supply_at net j ≡ vertex_has_to_turn p given (k + 1)) back (is.at_vertex (k + 1) (omega arith) (omega arith)) ∙ both (vertex_degree p (k + 1)) (at_v k)) in
+    let at_faces : total_below m (λ f. supply_at net (n + f)) ≡ pos (sum_below m (λ f. gain f + rs f)) -ℤ pos (sum_below m (λ f. loss f + ls f)) =
+    total_below-parts m (λ f. supply_at net (n + f)) (λ f. gain f + rs f) (λ f. loss f + ls f)
+    (λ f l. is.at_face f l ∙ turned (f == p.outer) (degree p f) (beyond_in_face p given f) (lefts_in_face p given f) (ls f) (rs f) (face_parts p given f)) in
+    let corners_at_vertices : sum_below n at_v ≡ sum_below (darts p) beyond = all_at_vertices p beyond ends in
+    let corners_in_faces : sum_below m (beyond_in_face p given) ≡ sum_below (darts p) beyond = all_at (darts p) m (face_at p) beyond ends.face_named in
+    let lefts_all : sum_below m ls ≡ sum_below (darts p) (λ d. left_part (turns_given p given d)) = all_at (darts p) m (face_at p) (λ d. left_part (turns_given p given d)) ends.face_named in
+    let rights_all : sum_below m rs ≡ sum_below (darts p) (λ d. right_part (turns_given p given d)) = all_at (darts p) m (face_at p) (λ d. right_part (turns_given p given d)) ends.face_named in
     let fours : sum_below n (λ _. 4) ≡ n * 4 = sum_below-constant n 4 in
     let all_arrive : sum_below n (λ k. vertex_degree p (k + 1)) ≡ darts p = heads_sum p ends in
-    let face_fours : sum_below m (λ f. if f == p.outer then 0 else 4) + 4 ≡ m * 4 = inner_sum p plane in
-    let face_degrees : sum_below m (λ f. degree p f + (if f == p.outer then 4 else 0)) ≡ darts p + 4 =
+    let vertex_loss : sum_below n (λ k. vertex_degree p (k + 1) + at_v k) ≡ darts p + sum_below (darts p) beyond =
+    omega (arith, sum_below-add n (λ k. vertex_degree p (k + 1)) at_v, all_arrive, corners_at_vertices) in
+    let face_gain : sum_below m (λ f. gain f + rs f) + 4 ≡ m * 4 + sum_below (darts p) beyond + sum_below m rs =
+    omega (arith, sum_below-add m gain rs, sum_below-add m (λ f. if f == p.outer then 0 else 4) (beyond_in_face p given), inner_sum p plane, corners_in_faces) in
+    let face_degrees : sum_below m loss ≡ darts p + 4 =
     sum_below-add m (degree p) (λ f. if f == p.outer then 4 else 0)
     ∙ ap (λ (k : ℕ). k + sum_below m (λ f. if f == p.outer then 4 else 0)) (degrees_sum (darts p) m (face_at p) ends.face_named)
     ∙ ap (λ (k : ℕ). darts p + k) (outer_sum p plane) in
+    let face_loss : sum_below m (λ f. loss f + ls f) ≡ darts p + 4 + sum_below m rs =
+    omega (arith, sum_below-add m loss ls, face_degrees, lefts_all, rights_all, lefts_are_rights p given ends) in
     close (total_below (node_count net) (supply_at net)) (total_below n (supply_at net)) (total_below m (λ f. supply_at net (n + f)))
-    n m (darts p) (sum_below n (λ _. 4)) (sum_below n (λ k. vertex_degree p (k + 1)))
-    (sum_below m (λ f. if f == p.outer then 0 else 4)) (sum_below m (λ f. degree p f + (if f == p.outer then 4 else 0)))
-    apart at_vertices at_faces fours all_arrive face_fours face_degrees plane.euler
+    n m (darts p) (sum_below (darts p) beyond) (sum_below m rs) (sum_below n (λ _. 4)) (sum_below n (λ k. vertex_degree p (k + 1) + at_v k))
+    (sum_below m (λ f. gain f + rs f)) (sum_below m (λ f. loss f + ls f))
+    apart at_vertices at_faces fours vertex_loss face_gain face_loss plane.euler
   where
-    close : (t a b : ℤ) (n m d s1 s2 s3 s4 : ℕ) → t ≡ a +ℤ b → a ≡ pos s1 -ℤ pos s2 → b ≡ pos s3 -ℤ pos s4 → s1 ≡ n * 4 → s2 ≡ d →
-        s3 + 4 ≡ m * 4 → s4 ≡ d + 4 → 2 * (n + m) ≡ d + 4 → t ≡ pos 0
-    close t a b n m d s1 s2 s3 s4 e1 e2 e3 e4 e5 e6 e7 e8 = omega (arith, ints)
+    close : (t a b : ℤ) (n m d c r s1 s2 s3 s4 : ℕ) → t ≡ a +ℤ b → a ≡ pos s1 -ℤ pos s2 → b ≡ pos s3 -ℤ pos s4 → s1 ≡ n * 4 → s2 ≡ d + c →
+        s3 + 4 ≡ m * 4 + c + r → s4 ≡ d + 4 + r → 2 * (n + m) ≡ d + 4 → t ≡ pos 0
+    close t a b n m d c r s1 s2 s3 s4 e1 e2 e3 e4 e5 e6 e7 e8 = omega (arith, ints)
 
-    turned : (b : Bool) (k : ℕ) → (if b then negsuc 3 else pos 4) -ℤ pos k ≡ pos (if b then 0 else 4) -ℤ pos (k + (if b then 4 else 0))
-    turned true k = omega (arith, ints)
-    turned false k = omega (arith, ints)
+    both : (k more : ℕ) → pos 4 -ℤ pos k -ℤ pos more ≡ pos 4 -ℤ pos (k + more)
+    both k more = omega (arith, ints)
+
+    turned : (b : Bool) (k more : ℕ) (t : ℤ) (l r : ℕ) → t ≡ pos l -ℤ pos r →
+        (if b then negsuc 3 else pos 4) -ℤ pos k +ℤ pos more -ℤ t ≡ pos ((if b then 0 else 4) + more + r) -ℤ pos (k + (if b then 4 else 0) + l)
+    turned true k more t l r is = omega (arith, ints)
+    turned false k more t l r is = omega (arith, ints)
 
     alike : (h k : ℕ) → 1 ≤ h → eqb h (k + 1) ≡ eqb (h - 1) k
     alike h k one =

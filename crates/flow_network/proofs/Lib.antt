@@ -4,3 +4,5 @@ pub mod GrowingLists
 pub mod WrittenLists
 pub mod Faultless
 pub mod OuterSet
+pub mod GivenParts
+pub mod Taken

@@ -1,2 +1,3 @@
-pub mod Straight
+pub mod Marks
+pub mod Given
 pub mod FaceNet

@@ -1,12 +1,14 @@
 //! The flow network of a plane for the fewest bends (Tamassia 1987).
 
-ghost use Rattle.std.specs.Prelude.{◌≡◌, [], ◌+◌, ◌-◌, ◌<◌, ◌≤◌, ℕ, IfOk, vec_len};
+ghost use Rattle.std.specs.Prelude.{◌≡◌, ◌+◌, ◌-◌, ◌<◌, ◌≤◌, ℕ, IfOk, vec_len};
 ghost use Rattle.common.specs.declared.limits.TheConstants.{MAX_VERTICES};
 ghost use Rattle.embedding.specs.declared.graphs.TheConstants.{MAX_DARTS};
 ghost use Rattle.faces.specs.Planes.{darts, vertices, with_outer};
 ghost use Rattle.networks.specs.Networks.{shifted};
 ghost use Rattle.networks.specs.Flow.{Flow};
+ghost use Rattle.flow_network.specs.Given.{nothing_given};
 
+use crate::given::Given;
 use crate::parts::{arcs_of, supplies_of};
 use crate::scratch::Scratch;
 use faces::Plane;
@@ -17,16 +19,17 @@ use std::mem;
 
 /// The flow network of a plane (Tamassia 1987), whose flows give its orthogonal representations.
 ///
-/// A unit on a corner arc is a right angle beyond the first, and a unit on a crossing arc is a bend.
+/// A unit on a corner arc is a right angle beyond the first, and a unit on a crossing arc is a bend. Of angles and turns that
+/// are given the supplies have their part already, and their arcs carry nothing.
 ///
 /// For a plane with n vertices and D darts:
 ///
 /// | Thing | Number |
 /// |---|---|
-/// | node of vertex v | v - 1; it supplies 4 less its degree |
-/// | node of face f | n + f; an inner face supplies 4 less its degree, the outer face -4 less its degree |
-/// | corner arc of dart d | d, from its head to its face, at most 3 units, cost 0 |
-/// | crossing arc of dart d | D + d, from its face to the face across, any number of units, cost 1 each; none if its edge is to stay straight |
+/// | node of vertex v | v - 1; it supplies 4 less its degree, less what its given angles have beyond the first |
+/// | node of face f | n + f; an inner face supplies 4 less its degree, the outer face -4 less its degree; each what its given angles have beyond the first more, and its given left turns less |
+/// | corner arc of dart d | d, from its head to its face, at most 3 units, cost 0; none if its angle is given |
+/// | crossing arc of dart d | D + d, from its face to the face across, any number of units, cost 1 each; none if its turns are given |
 #[derive(Debug, Drop)]
 pub struct FaceNet {
     network: Network,
@@ -78,13 +81,12 @@ impl FaceNet {
         ensures net { IfOk result (IsFaceNetOf plane.now) }
         ensures flow { IfOk result (λ n. (y : ℕ → ℕ) × Flow n.network y) }
     {
-        FaceNet::build_keeping_in(alloc, scratch, plane, &[])
+        FaceNet::build_keeping_in(alloc, scratch, plane, &Given::nothing())
     }
 
-    /// The flow network of a plane in which nothing crosses the edges of marked darts, so that these stay straight.
+    /// The flow network of a plane besides what is given of its shapes.
     ///
-    /// An edge stays straight if one of its two darts is marked; darts past the end of the list are not marked. There
-    /// need not be a flow, unless no dart is marked. Linear in the darts. It reuses the caller's scratch.
+    /// There need not be a flow, unless nothing is given. Linear in the darts. It reuses the caller's scratch.
     ///
     /// # Errors
     ///
@@ -93,16 +95,19 @@ impl FaceNet {
         alloc: Global,
         scratch: &mut Scratch,
         plane: &Plane,
-        straight: &[bool],
+        given: &Given<'_>,
     ) -> Result<FaceNet, AllocError>
-        ensures net { IfOk result (IsKeepingNetOf plane.now straight.now) }
-        ensures flow { straight.now ≡ [] → IfOk result (λ n. (y : ℕ → ℕ) × Flow n.network y) }
+        ensures net { IfOk result (IsKeepingNetOf plane.now given.now) }
+        ensures flow { given.now ≡ nothing_given → IfOk result (λ n. (y : ℕ → ℕ) × Flow n.network y) }
     {
-        let supplies = supplies_of(mem::replace(&mut scratch.supplies, Vec::new(alloc)), plane)?;
+        // Only the proof needs this: `is_nothing` says how much can be given.
+        let _is_nothing = given.is_nothing();
+        let lent = mem::replace(&mut scratch.supplies, Vec::new(alloc));
+        let supplies = supplies_of(lent, plane, given)?;
         let arcs = arcs_of(
             mem::replace(&mut scratch.arcs, Vec::new(alloc)),
             plane,
-            straight,
+            given,
         )?;
         let vertices = u32::from(plane.graph().vertices());
         let darts = u32::from(plane.graph().darts());

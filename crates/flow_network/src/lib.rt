@@ -3,10 +3,13 @@
 #![tactic(auto)]
 
 mod face_net;
+mod given;
+mod marks;
 mod parts;
 mod scratch;
-mod straight;
 
 pub use face_net::FaceNet;
+pub use given::{Given, MAX_GIVEN_TURNS};
+pub use marks::has_mark;
+pub use parts::vertex_to_turn;
 pub use scratch::Scratch;
-pub use straight::{has_mark, stays_straight};

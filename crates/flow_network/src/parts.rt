@@ -1,13 +1,12 @@
 //! Supplies and arcs of the flow network of a plane (Tamassia 1987).
 
-ghost use Rattle.std.specs.Prelude.{◌≡◌, [], ◌+◌, ◌-◌, ◌<◌, ◌≤◌, ◌==◌, if◌then◌else◌, ℕ, pos, negsuc, ◌-ℤ◌, IfOk, length, slice_index, slice_index_or};
+ghost use Rattle.std.specs.Prelude.{◌≡◌, ◌+◌, ◌-◌, ◌<◌, ◌≤◌, ◌==◌, ◌↔◌, if◌then◌else◌, IsTrue, ℕ, pos, negsuc, ◌-ℤ◌, ◌≤ℤ◌, IfOk, length, slice_index_or};
 ghost use Rattle.faces.specs.Planes.{darts, vertices, head, reverse_dart, face_at, degree};
-ghost use Rattle.networks.specs.declared.arc.Cap.TheVariants.{AtMost, Any};
 ghost use Rattle.networks.specs.Networks.{no_arc};
-ghost use Rattle.flow_network.specs.Straight.{is_straight};
-ghost use Rattle.flow_network.specs.FaceNet.{vertex_degree, crossing_cap};
+ghost use Rattle.flow_network.specs.Given.{CanBeGiven, nothing_given, angle_given, turns_given, beyond_first};
+ghost use Rattle.flow_network.specs.FaceNet.{vertex_degree, vertex_has_to_turn, face_has_to_turn, corner_cap, crossing_cap};
 
-use crate::straight::stays_straight;
+use crate::given::{Given, beyond, lefts};
 use common::emptied;
 use faces::Plane;
 use min_cost_flow::{Arc, Cap};
@@ -32,10 +31,54 @@ fn face_supply(plane: &Plane, face: u16) -> i32
     turn - i32::from(plane.degree(face))
 }
 
+/// What a vertex, which counts from 1, has to turn: 4 less its degree, less what its given angles have beyond the first.
+///
+/// Linear in the darts of the plane.
+pub fn vertex_to_turn(plane: &Plane, given: &Given<'_>, vertex: u16) -> i32
+    requires some { 0 < vertex }
+    requires within { vertex ≤ vertices plane.now }
+    ensures { result ≡ vertex_has_to_turn plane.now given.now vertex }
+{
+    let mut units = 4 - i32::from(degree_of(plane, vertex));
+    for dart in 0..plane.graph().darts() {
+        units -= beyond_at(plane, given, dart, vertex);
+    }
+    units
+}
+
+/// How many right angles beyond the first a dart's given angle has at a vertex: none if the dart does not arrive there.
+fn beyond_at(plane: &Plane, given: &Given<'_>, dart: u16, vertex: u16) -> i32
+    requires { dart < darts plane.now }
+    ensures value { result ≡ pos (if head plane.now dart == vertex then beyond_first (angle_given given.now dart) else 0) }
+    ensures few { result ≤ℤ pos 3 }
+{
+    if plane.graph().head(dart) == vertex {
+        beyond(given.angle(dart))
+    } else {
+        0
+    }
+}
+
 /// Returns the supply of each node of the plane's flow network: of all vertices, then of all faces.
 ///
-/// Reuses the buffer of `old`.
-pub fn supplies_of(old: Vec<i32>, plane: &Plane) -> Result<Vec<i32>, AllocError>
+/// Each is what the vertex or the face has to turn besides what is given. Reuses the buffer of `old`.
+pub fn supplies_of(old: Vec<i32>, plane: &Plane, given: &Given<'_>) -> Result<Vec<i32>, AllocError>
+    ensures nodes { IfOk result (λ s. length s.items ≡ vertices plane.now + plane.now.faces) }
+    ensures at_vertex { IfOk result (λ s. (v : ℕ) → 1 ≤ v → v ≤ vertices plane.now
+        → slice_index_or s.items (v - 1) (pos 0) ≡ vertex_has_to_turn plane.now given.now v) }
+    ensures at_face { IfOk result (λ s. (f : ℕ) → f < plane.now.faces
+        → slice_index_or s.items (vertices plane.now + f) (pos 0) ≡ face_has_to_turn plane.now given.now f) }
+{
+    let mut supplies = supplies_of_plane(old, plane)?;
+    if given.is_nothing() {
+        return Ok(supplies);
+    }
+    take_given(&mut supplies, plane, given);
+    Ok(supplies)
+}
+
+/// The supplies where nothing is given.
+fn supplies_of_plane(old: Vec<i32>, plane: &Plane) -> Result<Vec<i32>, AllocError>
     ensures nodes { IfOk result (λ s. length s.items ≡ vertices plane.now + plane.now.faces) }
     ensures at_vertex { IfOk result (λ s. (v : ℕ) → 1 ≤ v → v ≤ vertices plane.now
         → slice_index_or s.items (v - 1) (pos 0) ≡ pos 4 -ℤ pos (vertex_degree plane.now v)) }
@@ -55,32 +98,75 @@ pub fn supplies_of(old: Vec<i32>, plane: &Plane) -> Result<Vec<i32>, AllocError>
     Ok(supplies)
 }
 
-/// The capacity of the crossing arc of a dart: 0 if its edge is to stay straight, else unlimited.
-fn cap_across(plane: &Plane, straight: &[bool], dart: u16) -> Cap
-    requires { dart < darts plane.now }
-    ensures { result ≡ crossing_cap (is_straight plane.now straight.now dart) }
+/// Takes what is given from the supplies of vertices and faces where nothing is given.
+fn take_given(supplies: &mut [i32], plane: &Plane, given: &Given<'_>)
+    requires can { CanBeGiven given.now.angles given.now.turns }
+    requires nodes { length supplies.old ≡ vertices plane.now + plane.now.faces }
+    requires at_vertex { (v : ℕ) → 1 ≤ v → v ≤ vertices plane.now
+        → slice_index_or supplies.old (v - 1) (pos 0) ≡ pos 4 -ℤ pos (vertex_degree plane.now v) }
+    requires at_face { (f : ℕ) → f < plane.now.faces
+        → slice_index_or supplies.old (vertices plane.now + f) (pos 0)
+        ≡ (if f == plane.now.outer then negsuc 3 else pos 4) -ℤ pos (degree plane.now f) }
+    ensures nodes { length supplies.new ≡ vertices plane.now + plane.now.faces }
+    ensures at_vertex { (v : ℕ) → 1 ≤ v → v ≤ vertices plane.now
+        → slice_index_or supplies.new (v - 1) (pos 0) ≡ vertex_has_to_turn plane.now given.now v }
+    ensures at_face { (f : ℕ) → f < plane.now.faces
+        → slice_index_or supplies.new (vertices plane.now + f) (pos 0) ≡ face_has_to_turn plane.now given.now f }
 {
-    if stays_straight(plane, straight, dart) {
-        Cap::AtMost(0)
-    } else {
-        Cap::Any
+    let graph = plane.graph();
+    let first_face = usize::from(graph.vertices());
+    'take: for dart in 0..graph.darts() {
+        let vertex = usize::from(graph.head(dart)) - 1;
+        let face = first_face + usize::from(plane.face_of(dart));
+        let angle = beyond(given.angle(dart));
+        supplies[vertex] -= angle;
+        supplies[face] += angle - lefts(given.turns(plane, dart));
+    }
+}
+
+/// The capacity of the corner arc of a dart: 0 if its angle is given, else 3.
+fn cap_at(given: &Given<'_>, is_nothing: bool, dart: u16) -> Cap
+    requires { IsTrue is_nothing ↔ (given.now ≡ nothing_given) }
+    ensures { result ≡ corner_cap (angle_given given.now dart) }
+{
+    if is_nothing {
+        return Cap::AtMost(3);
+    }
+    match given.angle(dart) {
+        Some(_) => Cap::AtMost(0),
+        None => Cap::AtMost(3),
+    }
+}
+
+/// The capacity of the crossing arc of a dart: 0 if its turns are given, else unlimited.
+fn cap_across(plane: &Plane, given: &Given<'_>, is_nothing: bool, dart: u16) -> Cap
+    requires within { dart < darts plane.now }
+    requires nothing { IsTrue is_nothing ↔ (given.now ≡ nothing_given) }
+    ensures { result ≡ crossing_cap (turns_given plane.now given.now dart) }
+{
+    if is_nothing {
+        return Cap::Any;
+    }
+    match given.turns(plane, dart) {
+        Some(_) => Cap::AtMost(0),
+        None => Cap::Any,
     }
 }
 
 /// Returns the arcs of the plane's flow network: the corner arcs of all darts, then the crossing arcs of all darts.
 ///
-/// The crossing arcs of edges that are marked in `straight` have capacity 0. Reuses the buffer of `old`.
-pub fn arcs_of(old: Vec<Arc>, plane: &Plane, straight: &[bool]) -> Result<Vec<Arc>, AllocError>
+/// The arcs of what is given have capacity 0. Reuses the buffer of `old`.
+pub fn arcs_of(old: Vec<Arc>, plane: &Plane, given: &Given<'_>) -> Result<Vec<Arc>, AllocError>
     ensures arcs { IfOk result (λ a. length a.items ≡ darts plane.now + darts plane.now) }
     ensures corner { IfOk result (λ a. (d : ℕ) → d < darts plane.now
         → slice_index_or a.items d no_arc
-        ≡ record { from = head plane.now d - 1; to = vertices plane.now + face_at plane.now d; cap = AtMost 3; cost = 0 }) }
+        ≡ record { from = head plane.now d - 1; to = vertices plane.now + face_at plane.now d; cap = corner_cap (angle_given given.now d); cost = 0 }) }
     ensures crossing { IfOk result (λ a. (d : ℕ) → d < darts plane.now
         → slice_index_or a.items (darts plane.now + d) no_arc
-        ≡ record { from = vertices plane.now + face_at plane.now d; to = vertices plane.now + face_at plane.now (reverse_dart plane.now d); cap = crossing_cap (is_straight plane.now straight.now d); cost = 1 }) }
+        ≡ record { from = vertices plane.now + face_at plane.now d; to = vertices plane.now + face_at plane.now (reverse_dart plane.now d); cap = crossing_cap (turns_given plane.now given.now d); cost = 1 }) }
 {
     let mut arcs = resized(old, 2 * usize::from(plane.graph().darts()))?;
-    write_arcs(&mut arcs, plane, straight);
+    write_arcs(&mut arcs, plane, given);
     Ok(arcs)
 }
 
@@ -101,35 +187,37 @@ fn resized(old: Vec<Arc>, count: usize) -> Result<Vec<Arc>, AllocError>
 }
 
 /// Writes the corner arcs of all darts, followed by their crossing arcs.
-fn write_arcs(arcs: &mut [Arc], plane: &Plane, straight: &[bool])
+fn write_arcs(arcs: &mut [Arc], plane: &Plane, given: &Given<'_>)
     requires { length arcs.old ≡ darts plane.now + darts plane.now }
     ensures arcs { length arcs.new ≡ darts plane.now + darts plane.now }
     ensures corner { (d : ℕ) → d < darts plane.now
         → slice_index_or arcs.new d no_arc
-        ≡ record { from = head plane.now d - 1; to = vertices plane.now + face_at plane.now d; cap = AtMost 3; cost = 0 } }
+        ≡ record { from = head plane.now d - 1; to = vertices plane.now + face_at plane.now d; cap = corner_cap (angle_given given.now d); cost = 0 } }
     ensures crossing { (d : ℕ) → d < darts plane.now
         → slice_index_or arcs.new (darts plane.now + d) no_arc
-        ≡ record { from = vertices plane.now + face_at plane.now d; to = vertices plane.now + face_at plane.now (reverse_dart plane.now d); cap = crossing_cap (is_straight plane.now straight.now d); cost = 1 } }
+        ≡ record { from = vertices plane.now + face_at plane.now d; to = vertices plane.now + face_at plane.now (reverse_dart plane.now d); cap = crossing_cap (turns_given plane.now given.now d); cost = 1 } }
 {
     let graph = plane.graph();
     let first_face = u32::from(graph.vertices());
     let count = usize::from(graph.darts());
+    let is_nothing = given.is_nothing();
     'write: for dart in 0..graph.darts() {
         let vertex = u32::from(graph.head(dart)) - 1;
         let face = first_face + u32::from(plane.face_of(dart));
         let across = first_face + u32::from(plane.face_of(graph.reverse(dart)));
-        let cap = cap_across(plane, straight, dart);
+        let corner_cap = cap_at(given, is_nothing, dart);
+        let crossing_cap = cap_across(plane, given, is_nothing, dart);
         let place = usize::from(dart);
         arcs[place] = Arc {
             from: vertex,
             to: face,
-            cap: Cap::AtMost(3),
+            cap: corner_cap,
             cost: 0,
         };
         arcs[count + place] = Arc {
             from: face,
             to: across,
-            cap,
+            cap: crossing_cap,
             cost: 1,
         };
     }

@@ -2,7 +2,7 @@
 
 use answers::{RecordScratch, ShapedPlane};
 use common::{Choice, DrawingKind};
-use conditions::{Conditions, DartEnds};
+use conditions::{Conditions, TurnsAlong};
 use faces::Plane;
 use ortho_rep::{Point, Points};
 use std::alloc::{AllocError, Global};
@@ -50,13 +50,14 @@ fn length_keeping(
     rt: &impl Abort,
     alloc: Global,
     bytes: &[u8],
-    straight: &[DartEnds],
+    turns: &[TurnsAlong],
     kind: DrawingKind,
 ) -> Option<u32> {
     let rec = record_of(alloc, bytes).expect(rt, "a record");
     let mut scratch = RecordScratch::empty(alloc);
     let conditions = Conditions {
-        straight,
+        turns,
+        angles: &[],
         inner: &[],
     };
     let made = scratch.shape_keeping(alloc, &rec, &conditions, Choice::First, kind);
@@ -102,12 +103,13 @@ fn path(alloc: Global, count: u8) -> Result<Vec<u8>, AllocError> {
 }
 
 /// The darts of a path of this many vertices, from its first one on.
-fn along_path(alloc: Global, count: u16) -> Result<Vec<DartEnds>, AllocError> {
+fn along_path(alloc: Global, count: u16) -> Result<Vec<TurnsAlong>, AllocError> {
     let mut list = Vec::new(alloc);
     for from in 1..count {
-        list.push(DartEnds {
+        list.push(TurnsAlong {
             from,
             to: from.wrapping_add(1),
+            turns: 0,
         })?;
     }
     Ok(list)

@@ -3,7 +3,7 @@
 ghost use Rattle.std.specs.Prelude.{◌<◌};
 
 use common::Choice;
-use conditions::{Conditions, DartEnds, KeepFault, shape_keeping_in};
+use conditions::{Conditions, DartEnds, KeepFault, TurnsAlong, shape_keeping_in};
 use faces::Plane;
 use ortho_rep::Scratch;
 use std::alloc::{AllocError, Global};
@@ -98,6 +98,19 @@ fn darts_but(alloc: Global, plane: &Plane, face: Option<u16>) -> Result<Vec<Dart
     Ok(list)
 }
 
+/// No turns along the darts of a list.
+fn straight_along(alloc: Global, list: &[DartEnds]) -> Result<Vec<TurnsAlong>, AllocError> {
+    let mut turns = Vec::new(alloc);
+    for ends in list.iter() {
+        turns.push(TurnsAlong {
+            from: ends.from,
+            to: ends.to,
+            turns: 0,
+        })?;
+    }
+    Ok(turns)
+}
+
 /// The number of bends and the number of darts of the outer face, or the reason why there is no shape.
 type Told = Result<(u32, u16), &'static str>;
 
@@ -105,15 +118,22 @@ type Told = Result<(u32, u16), &'static str>;
 fn told(
     alloc: Global,
     plane: &mut Plane,
-    straight: &[DartEnds],
+    straight: &[TurnsAlong],
     inner: &[DartEnds],
     choice: Choice,
 ) -> Told {
     let mut scratch = Scratch::empty(alloc);
-    let conditions = Conditions { straight, inner };
+    let conditions = Conditions {
+        turns: straight,
+        angles: &[],
+        inner,
+    };
     match shape_keeping_in(alloc, &mut scratch, plane, &conditions, choice) {
         Ok((shape, _)) => Ok((shape.bends(), plane.degree(plane.outer()))),
+        Err(KeepFault::NoAngle) => Err("no angle"),
         Err(KeepFault::NoEdge) => Err("no edge"),
+        Err(KeepFault::Conflict) => Err("conflict"),
+        Err(KeepFault::TooManyTurns) => Err("too many turns"),
         Err(KeepFault::NoOuter) => Err("no outer face"),
         Err(KeepFault::NoShape(_)) => Err("no shape"),
         Err(KeepFault::Memory) => Err("memory"),
@@ -128,13 +148,14 @@ fn both_darts_of_all_edges_of_a_grid(rt: HostRuntime) {
     let bytes = grid(alloc, 15, 17).expect(&rt, "memory");
     let mut plane = plane_in(alloc, &bytes).expect(&rt, "a plane");
     let all = darts_but(alloc, &plane, None).expect(&rt, "memory");
+    let straight = straight_along(alloc, &all).expect(&rt, "memory");
     let outer = Some(plane.outer());
     let inner = darts_but(alloc, &plane, outer).expect(&rt, "memory");
     same!(&rt, (all.len(), inner.len()), (956, 896));
     for choice in [Choice::First, Choice::Best] {
-        let found = told(alloc, &mut plane, &all, &inner, choice);
+        let found = told(alloc, &mut plane, &straight, &inner, choice);
         same!(&rt, found, Ok((0, 60)));
-        let found = told(alloc, &mut plane, &all, &all, choice);
+        let found = told(alloc, &mut plane, &straight, &all, choice);
         same!(&rt, found, Err("no outer face"));
     }
 }
@@ -150,6 +171,7 @@ fn all_edges_of_a_graph_with_510(rt: HostRuntime) {
     let bytes = prism_edges(alloc).expect(&rt, "memory");
     let mut plane = plane_in(alloc, &bytes).expect(&rt, "a plane");
     let all = darts_but(alloc, &plane, None).expect(&rt, "memory");
+    let straight = straight_along(alloc, &all).expect(&rt, "memory");
     let outer = Some(plane.outer());
     let inner = darts_but(alloc, &plane, outer).expect(&rt, "memory");
     same!(&rt, (all.len(), inner.len()), (1020, 935));
@@ -157,11 +179,11 @@ fn all_edges_of_a_graph_with_510(rt: HostRuntime) {
     same!(&rt, found, Ok((178, 85)));
     let found = told(alloc, &mut plane, &[], &inner, Choice::Best);
     same!(&rt, found, Ok((178, 85)));
-    let found = told(alloc, &mut plane, &all, &inner, Choice::First);
+    let found = told(alloc, &mut plane, &straight, &inner, Choice::First);
     same!(&rt, found, Err("no shape"));
-    let found = told(alloc, &mut plane, &all, &inner, Choice::Best);
+    let found = told(alloc, &mut plane, &straight, &inner, Choice::Best);
     same!(&rt, found, Err("no shape"));
-    let found = told(alloc, &mut plane, &all, &all, Choice::First);
+    let found = told(alloc, &mut plane, &straight, &all, Choice::First);
     same!(&rt, found, Err("no outer face"));
 }
 
@@ -171,12 +193,15 @@ fn each_number_of_conditions(rt: HostRuntime) {
     let alloc = rt.alloc();
     let mut plane = plane_in(alloc, SQUARE).expect(&rt, "a plane");
     let all = darts_but(alloc, &plane, None).expect(&rt, "memory");
+    let straight = straight_along(alloc, &all).expect(&rt, "memory");
     let outer = Some(plane.outer());
     let inner = darts_but(alloc, &plane, outer).expect(&rt, "memory");
     let mut straight_list = Vec::new(alloc);
     let mut inner_list = Vec::new(alloc);
     for _ in 0..140 {
-        straight_list.extend_from_slice(&all).expect(&rt, "memory");
+        straight_list
+            .extend_from_slice(&straight)
+            .expect(&rt, "memory");
         inner_list.extend_from_slice(&inner).expect(&rt, "memory");
     }
     same!(&rt, (straight_list.len(), inner_list.len()), (1120, 560));

@@ -3,10 +3,11 @@
 
 use embedding::MAX_DARTS;
 use faces::Plane;
+use flow_network::{Given, has_mark};
 use ortho_rep::{
     Scratch, SolveFault, best_shape_keeping, certify_keeping, is_shape, least_shape_keeping_in,
 };
-use std::alloc::Global;
+use std::alloc::{AllocError, Global};
 use std::process::Abort;
 use test_inputs::{Case, L, ONE_BEND, R, plane_in, prices_in, shape_in};
 use test_tools::records::{
@@ -27,11 +28,37 @@ const ALL: [bool; MAX_DARTS] = [true; MAX_DARTS];
 /// straight.
 type Figures = (u32, (bool, bool));
 
+/// No turns for each edge one of whose darts is marked.
+fn turns_of(
+    alloc: Global,
+    plane: &Plane,
+    straight: &[bool],
+) -> Result<Vec<Option<i32>>, AllocError> {
+    let graph = plane.graph();
+    let mut turns = Vec::new(alloc);
+    for dart in 0..graph.darts() {
+        let is_straight = has_mark(straight, dart) || has_mark(straight, graph.reverse(dart));
+        turns.push(if is_straight { Some(0) } else { None })?;
+    }
+    Ok(turns)
+}
+
+/// These turns as what is given, if they can be given.
+fn given_of(turns: &[Option<i32>]) -> Given<'_> {
+    if Given::can_be(&[], turns) {
+        Given::new(&[], turns)
+    } else {
+        Given::nothing()
+    }
+}
+
 /// The figures of a least shape that keeps the edges of marked darts straight.
 fn figures_keeping(alloc: Global, plane: &Plane, straight: &[bool]) -> Result<Figures, SolveFault> {
     let mut scratch = Scratch::empty(alloc);
-    let (shape, prices) = least_shape_keeping_in(alloc, &mut scratch, plane, straight)?;
-    let proved = certify_keeping(plane, straight, &shape, &prices);
+    let turns = turns_of(alloc, plane, straight)?;
+    let given = given_of(&turns);
+    let (shape, prices) = least_shape_keeping_in(alloc, &mut scratch, plane, &given)?;
+    let proved = certify_keeping(plane, &given, &shape, &prices);
     Ok((shape.bends(), (is_shape(plane, &shape), proved)))
 }
 
@@ -113,8 +140,10 @@ fn best_keeping(
     straight: &[bool],
     barred: &[bool],
 ) -> Result<Best, SolveFault> {
-    let (shape, prices) = best_shape_keeping(alloc, plane, straight, barred)?;
-    let proved = certify_keeping(plane, straight, &shape, &prices);
+    let turns = turns_of(alloc, plane, straight)?;
+    let given = given_of(&turns);
+    let (shape, prices) = best_shape_keeping(alloc, plane, &given, barred)?;
+    let proved = certify_keeping(plane, &given, &shape, &prices);
     let tests = (is_shape(plane, &shape), proved);
     Ok((shape.bends(), plane.outer(), tests))
 }
@@ -190,7 +219,8 @@ fn prices_by_hand(rt: HostRuntime) {
         let plane = plane_in(rt.alloc(), case.record).expect(&rt, "a plane");
         let shape = shape_in(rt.alloc(), case.angles, case.strings).expect(&rt, "a shape");
         let prices = prices_in(rt.alloc(), &case).expect(&rt, "memory");
-        let found = certify_keeping(&plane, straight, &shape, &prices);
+        let turns = turns_of(rt.alloc(), &plane, straight).expect(&rt, "memory");
+        let found = certify_keeping(&plane, &given_of(&turns), &shape, &prices);
         same!(&rt, (is_shape(&plane, &shape), found), (true, proved));
     }
 }

@@ -1,22 +1,23 @@
 -- A representation that prices prove has short strings: across the faces and vertices whose prices are at most
 -- that of a dart's face nothing comes back, so no more crosses there than they hold.
-use Rattle.std.proofs.Common.{◌≡◌, ◌≤◌, ◌<◌, ℕ, zero, suc, ◌+◌, ◌*◌, Bool, true, false, cond, eqb, List, [], length, sym, ap, ◌∙◌, inl, inr, arith}
-use Rattle.std.specs.Prelude.{ℤ, pos, ◌-ℤ◌, ◌≤ℤ◌, ◌<ℤ◌, negsuc}
-use Rattle.std.proofs.lemmas.Bool.{cases_lt, cases_eq, ne_eqb, cond-true, cond-false}
+use Rattle.std.proofs.Common.{◌≡◌, ◌≤◌, ◌<◌, ℕ, zero, suc, ◌+◌, ◌*◌, Bool, true, false, cond, eqb, List, length, refl, sym, ap, ◌∙◌, ◌⊎◌, inl, inr, arith}
+use Rattle.std.specs.Prelude.{ℤ, pos, ◌-ℤ◌, ◌≤ℤ◌, ◌<ℤ◌, negsuc, Option, Some, None}
+use Rattle.std.proofs.lemmas.Bool.{cases_eq, ne_eqb, cond-true, cond-false}
 use Rattle.std.proofs.lemmas.Int.{ints, by_lt_z}
 use lib.Signed.{lt_z}
 use Rattle.common.specs.Sums.{sum_below}
-use Rattle.common.proofs.Sums.{sum_below-same, sum_below-add, sum_below-le, sum_below-constant, exchanged}
+use Rattle.common.proofs.Sums.{sum_below-same, sum_below-add, sum_below-le, sum_below-constant, sum_below-member, exchanged}
 use Rattle.common.specs.declared.limits.TheConstants.{MAX_VERTICES}
 use Rattle.ortho_rep.specs.declared.turn.Turn.{Turn}
 use Rattle.ortho_rep.specs.declared.turn.TheConstants.{MAX_REPEATS}
 use Rattle.faces.specs.Planes.{PlaneModel, HasEnds, darts, vertices, head, reverse_dart, face_at}
-use Rattle.flow_network.specs.Straight.{is_straight}
+use Rattle.flow_network.specs.Given.{GivenModel, CanBeGiven, nothing_given, turns_given, turns_in_all}
+use Rattle.flow_network.proofs.GivenParts.{left_part, right_part, left_back, both_parts, all_parts}
 use Rattle.ortho_rep.specs.Turns.{lefts, rights}
 use Rattle.ortho_rep.specs.Representation.{Rep, whole_turn}
-use Rattle.ortho_rep.specs.Prices.{IsPricedKeeping, ProveKeeping, Prove}
-use Rattle.ortho_rep.proofs.Priced.{narrower_of, tight_of}
+use Rattle.ortho_rep.specs.Prices.{AreTurnsPriced, AreTurnsKept, ProveKeeping, Prove}
 use Rattle.ortho_rep.proofs.TurnCounts.{lefts-add-rights}
+use Rattle.ortho_rep.proofs.GivenFlow.{lefts_one_way}
 use Rattle.ortho_rep.proofs.WeakDuality.{weighed, part_at, paired, left_sums, right_sums, turning-split, lefts_of, rights_are}
 
 -- 1 where the price is at most k
@@ -96,55 +97,51 @@ low_faces p a s w ends rep few =
         let top : whole_turn p f ≤ℤ pos 4 = whole_turn-le (eqb f p.outer) in
         omega (arith, ints)
 
--- a low face has its corners at low vertices, but for a right angle each
-low_corner : (straight : Bool) (k : ℤ) (angle : ℕ) (turns : List Turn) (vertex face across : ℤ) → IsPricedKeeping straight angle turns vertex face across → low k face * angle ≤ low k vertex * angle + 1
-low_corner straight k angle turns vertex face across priced =
-    by_lt_z k face
-    (λ above. omega (arith, ap (λ (x : ℕ). x * angle) (low-zero k face above)))
-    (λ under. elim (cases_lt 1 angle) [
-      | inl wide ↦
-          let below : vertex ≤ℤ k = omega (arith, ints, narrower_of straight angle turns vertex face across priced wide) in
-          omega (arith, ap (λ (x : ℕ). x * angle) (low-one k face under), ap (λ (x : ℕ). x * angle) (low-one k vertex below))
-      | inr narrow ↦ omega (arith, ap (λ (x : ℕ). x * angle) (low-one k face under))
-    ])
-
--- what crosses into a low face comes from one
-low_crossing : (straight : Bool) (k : ℤ) (angle : ℕ) (turns : List Turn) (vertex face across : ℤ) → IsPricedKeeping straight angle turns vertex face across → low k across * lefts turns ≤ low k face * lefts turns
-low_crossing straight k angle turns vertex face across priced =
+-- what crosses into a low face comes from one, or is given
+low_crossing : (given : Option ℤ) (k : ℤ) (turns : List Turn) (face across : ℤ) → AreTurnsKept given turns face across → low k across * lefts turns ≤ low k face * lefts turns + left_part given
+low_crossing (Some t) k turns face across kept =
+    omega (arith, small (low k across) (lefts turns) (low-few k across), ap lefts kept, lefts_one_way t)
+  where
+    small : (x y : ℕ) → x ≤ 1 → x * y ≤ y
+    small zero y h = omega arith
+    small (suc x) y h = let none : x ≡ 0 = omega arith in rw none (omega arith)
+low_crossing None k turns face across kept =
     elim (cases_eq (lefts turns) 0) [
       | inl e ↦ omega (arith, ap (λ (x : ℕ). low k across * x) e)
       | inr ne ↦ by_lt_z k across
           (λ above. omega (arith, ap (λ (x : ℕ). x * lefts turns) (low-zero k across above)))
           (λ under.
-          let below : face ≤ℤ k = omega (arith, ints, tight_of straight angle turns vertex face across priced (omega arith)) in
+          let below : face ≤ℤ k = omega (arith, ints, kept.tight (omega arith)) in
           omega (arith, ap (λ (x : ℕ). x * lefts turns) (low-one k across under), ap (λ (x : ℕ). x * lefts turns) (low-one k face below)))
     ]
 
--- and what crosses out of a face of price k stays above
-high_crossing : (straight : Bool) (angle : ℕ) (turns : List Turn) (vertex face across : ℤ) → IsPricedKeeping straight angle turns vertex face across → low face across * lefts turns + lefts turns ≤ low face face * lefts turns
-high_crossing straight angle turns vertex face across priced =
+-- and what crosses out of a face of price k without being given stays above
+high_crossing : (turns : List Turn) (face across : ℤ) → AreTurnsPriced turns face across → low face across * lefts turns + lefts turns ≤ low face face * lefts turns
+high_crossing turns face across priced =
     elim (cases_eq (lefts turns) 0) [
       | inl e ↦ omega (arith, ap (λ (x : ℕ). low face across * x) e)
       | inr ne ↦
-          let above : face <ℤ across = omega (arith, ints, tight_of straight angle turns vertex face across priced (omega arith)) in
+          let above : face <ℤ across = omega (arith, ints, priced.tight (omega arith)) in
           let level : face ≤ℤ face = omega (arith, ints) in
           omega (arith, ap (λ (x : ℕ). x * lefts turns) (low-zero face across above), ap (λ (x : ℕ). x * lefts turns) (low-one face face level))
     ]
 
--- a dart of a representation that prices prove has few left turns
-few_lefts : (p : PlaneModel) (marks : List Bool) (a : ℕ → ℕ) (s : ℕ → List Turn) (v q : ℕ → ℤ) → HasEnds p → Rep p a s → ProveKeeping p marks a s v q → (d : ℕ) → d < darts p → lefts (s d) ≤ 4 * (vertices p + 1) + darts p + 4 * p.faces
-few_lefts p marks a s v q ends rep prove e b =
+-- a dart of a representation that prices prove has few left turns: no more cross out of the low faces than their angles and
+-- one turn each hold, and than are given
+free_lefts : (p : PlaneModel) (given : GivenModel) (a : ℕ → ℕ) (s : ℕ → List Turn) (v q : ℕ → ℤ) → HasEnds p → Rep p a s → ProveKeeping p given a s v q → (d : ℕ) → d < darts p → AreTurnsPriced (s d) (q (face_at p d)) (q (face_at p (reverse_dart p d))) →
+    lefts (s d) ≤ 4 * (vertices p + 1) + 4 * p.faces + turns_in_all given.turns
+free_lefts p given a s v q ends rep prove e b free =
     let k = q (face_at p e) in
     let n = darts p in
     let own = λ (d : ℕ). low k (q (face_at p d)) in
     let over = λ (d : ℕ). low k (q (face_at p (reverse_dart p d))) in
-    let at_head = λ (d : ℕ). low k (v (head p d)) in
-    let corners : sum_below n (λ d. own d * a d) ≤ sum_below n (λ d. at_head d * a d + 1) =
-    sum_below-le n (λ d. own d * a d) (λ d. at_head d * a d + 1) (λ d c. low_corner (is_straight p marks d) k (a d) (s d) (v (head p d)) (q (face_at p d)) (q (face_at p (reverse_dart p d))) (prove d c)) in
-    let crossings : sum_below n (λ d. over d * lefts_of s d) + lefts (s e) ≤ sum_below n (λ d. own d * lefts_of s d) =
-    sum-gap n e (lefts (s e)) (λ d. over d * lefts_of s d) (λ d. own d * lefts_of s d) b
-    (λ d c. low_crossing (is_straight p marks d) k (a d) (s d) (v (head p d)) (q (face_at p d)) (q (face_at p (reverse_dart p d))) (prove d c))
-    (high_crossing (is_straight p marks e) (a e) (s e) (v (head p e)) (q (face_at p e)) (q (face_at p (reverse_dart p e))) (prove e b)) in
+    let left = λ (d : ℕ). left_part (turns_given p given d) in
+    let corners : sum_below n (λ d. own d * a d) ≤ weighed n (λ d. 1) a =
+    sum_below-le n (λ d. own d * a d) (λ d. 1 * a d) (λ d c. once (own d) (a d) (low-few k (q (face_at p d)))) in
+    let crossings : sum_below n (λ d. over d * lefts_of s d) + lefts (s e) ≤ sum_below n (λ d. own d * lefts_of s d + left d) =
+    sum-gap n e (lefts (s e)) (λ d. over d * lefts_of s d) (λ d. own d * lefts_of s d + left d) b
+    (λ d c. low_crossing (turns_given p given d) k (s d) (q (face_at p d)) (q (face_at p (reverse_dart p d))) (prove d c).turns)
+    (omega (arith, high_crossing (s e) (q (face_at p e)) (q (face_at p (reverse_dart p e))) free)) in
     let back : weighed n over (lefts_of s) ≡ weighed n own (λ d. lefts_of s (reverse_dart p d)) = paired n (reverse_dart p) own (lefts_of s) ends.reverse_dart_in_range ends.reverse_dart_back in
     let rights_here : sum_below n (λ d. own d * rights (s d)) ≡ weighed n own (λ d. lefts_of s (reverse_dart p d)) =
     sum_below-same n (λ d. own d * rights (s d)) (λ d. own d * lefts_of s (reverse_dart p d)) (λ d c. ap (λ (z : ℕ). own d * z) (rights_are p a s rep d c)) in
@@ -160,24 +157,48 @@ few_lefts p marks a s v q ends rep prove e b =
       rights_here,
       left_sum,
       right_sum,
-      sum_below-add n (λ d. at_head d * a d) (λ d. 1),
-      sum_below-constant n 1,
-      low_angles p a s (λ u. low k (v u)) ends rep (λ u. low-few k (v u)),
+      sum_below-add n (λ d. own d * lefts_of s d) left,
+      all_parts p given left_part right_part ends left_back both_parts,
+      low_angles p a s (λ u. 1) ends rep (λ u. omega arith),
       low_faces p a s (λ f. low k (q f)) ends rep (λ f. low-few k (q f)),
     )
+  where
+    once : (x y : ℕ) → x ≤ 1 → x * y ≤ 1 * y
+    once zero y h = omega arith
+    once (suc x) y h = let none : x ≡ 0 = omega arith in rw none (omega arith)
 
--- so its string is short
-pub few_turns_keeping : (p : PlaneModel) (marks : List Bool) (a : ℕ → ℕ) (s : ℕ → List Turn) (v q : ℕ → ℤ) → HasEnds p → vertices p ≤ MAX_VERTICES → Rep p a s → ProveKeeping p marks a s v q → (d : ℕ) → d < darts p → length (s d) ≤ MAX_REPEATS
-few_turns_keeping p marks a s v q ends order rep prove d b =
+pub few_lefts : (p : PlaneModel) (given : GivenModel) (a : ℕ → ℕ) (s : ℕ → List Turn) (v q : ℕ → ℤ) → HasEnds p → Rep p a s → ProveKeeping p given a s v q → (d : ℕ) → d < darts p →
+    lefts (s d) ≤ 4 * (vertices p + 1) + 4 * p.faces + turns_in_all given.turns
+few_lefts p given a s v q ends rep prove d b = by_given (turns_given p given d) refl (prove d b).turns
+  where
+    by_given : (g : Option ℤ) → turns_given p given d ≡ g → AreTurnsKept g (s d) (q (face_at p d)) (q (face_at p (reverse_dart p d))) → lefts (s d) ≤ 4 * (vertices p + 1) + 4 * p.faces + turns_in_all given.turns
+    by_given None is kept = free_lefts p given a s v q ends rep prove d b kept
+    by_given (Some t) is kept =
+        omega (
+          arith,
+          ap lefts kept,
+          lefts_one_way t,
+          ap left_part is,
+          sum_below-member (darts p) d (λ e. left_part (turns_given p given e)) b,
+          all_parts p given left_part right_part ends left_back both_parts,
+        )
+
+-- so a string that turns one way only is short
+pub short_one_way : (p : PlaneModel) (given : GivenModel) (a : ℕ → ℕ) (s : ℕ → List Turn) (v q : ℕ → ℤ) → HasEnds p → vertices p ≤ MAX_VERTICES → CanBeGiven given.angles given.turns → Rep p a s → ProveKeeping p given a s v q → (d : ℕ) → d < darts p → (lefts (s d) ≡ 0) ⊎ (rights (s d) ≡ 0) → length (s d) ≤ MAX_REPEATS
+short_one_way p given a s v q ends order can rep prove d b one =
+    elim one [
+      | inl no_left ↦ omega (arith, no_left, lefts-add-rights (s d), rights_are p a s rep d b, ends.few_faces, can.few, few_lefts p given a s v q ends rep prove (reverse_dart p d) (ends.reverse_dart_in_range d b))
+      | inr no_right ↦ omega (arith, no_right, lefts-add-rights (s d), ends.few_faces, can.few, few_lefts p given a s v q ends rep prove d b)
+    ]
+
+-- where nothing is given, each string is
+pub few_turns : (p : PlaneModel) (a : ℕ → ℕ) (s : ℕ → List Turn) (v q : ℕ → ℤ) → HasEnds p → vertices p ≤ MAX_VERTICES → Rep p a s → Prove p a s v q → (d : ℕ) → d < darts p → length (s d) ≤ MAX_REPEATS
+few_turns p a s v q ends order rep prove d b =
     omega (
       arith,
       lefts-add-rights (s d),
       rights_are p a s rep d b,
-      ends.few_darts,
       ends.few_faces,
-      few_lefts p marks a s v q ends rep prove d b,
-      few_lefts p marks a s v q ends rep prove (reverse_dart p d) (ends.reverse_dart_in_range d b),
+      few_lefts p nothing_given a s v q ends rep prove d b,
+      few_lefts p nothing_given a s v q ends rep prove (reverse_dart p d) (ends.reverse_dart_in_range d b),
     )
-
-pub few_turns : (p : PlaneModel) (a : ℕ → ℕ) (s : ℕ → List Turn) (v q : ℕ → ℤ) → HasEnds p → vertices p ≤ MAX_VERTICES → Rep p a s → Prove p a s v q → (d : ℕ) → d < darts p → length (s d) ≤ MAX_REPEATS
-few_turns p a s v q ends order rep prove = few_turns_keeping p [] a s v q ends order rep prove

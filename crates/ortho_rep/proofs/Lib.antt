@@ -10,6 +10,8 @@ pub mod Priced
 pub mod FlatPrices
 pub mod Tallied
 pub mod FewTurns
+pub mod FlowStrings
+pub mod GivenFlow
 pub mod FromFlow
 pub mod IntoFlow
 pub mod PushedLists

@@ -1,14 +1,14 @@
 -- Angles, strings and prices matter only at darts, vertices and faces of the plane.
-use Rattle.std.proofs.Common.{◌≡◌, ◌≤◌, ◌<◌, ℕ, cond, eqb, Bool, List, [], sym, ap, ◌∙◌, arith}
+use Rattle.std.proofs.Common.{◌≡◌, ◌≤◌, ◌<◌, ℕ, cond, eqb, List, sym, ap, ◌∙◌, arith}
 use Rattle.std.specs.Prelude.{ℤ, pos}
 use Rattle.common.proofs.Sums.{sum_below-same, total_below-same}
 use Rattle.faces.specs.Planes.{PlaneModel, HasEnds, darts, vertices, head, reverse_dart, face_at}
-use Rattle.flow_network.specs.Straight.{is_straight}
+use Rattle.flow_network.specs.Given.{GivenModel, nothing_given, angle_given, turns_given}
 use Rattle.ortho_rep.specs.declared.turn.Turn.{Turn}
 use Rattle.ortho_rep.specs.Turns.{mirrored}
 use Rattle.ortho_rep.specs.Representation.{Rep, turning_of}
 use Rattle.ortho_rep.specs.Prices.{ProveKeeping, Prove}
-use Rattle.ortho_rep.proofs.Priced.{priced_same}
+use Rattle.ortho_rep.proofs.Priced.{angle_same, turns_same}
 
 pub rep-alike : (p : PlaneModel) (a b : ℕ → ℕ) (s t : ℕ → List Turn) → HasEnds p → ((d : ℕ) → d < darts p → b d ≡ a d) → ((d : ℕ) → d < darts p → t d ≡ s d) → Rep p a s → Rep p b t
 rep-alike p a b s t ends angles strings rep = record {
@@ -23,10 +23,15 @@ rep-alike p a b s t ends angles strings rep = record {
       ∙ rep.faces f c;
 }
 
-pub prove_keeping-alike : (p : PlaneModel) (marks : List Bool) (a b : ℕ → ℕ) (s t : ℕ → List Turn) (v v' q q' : ℕ → ℤ) → HasEnds p → ((d : ℕ) → d < darts p → b d ≡ a d) → ((d : ℕ) → d < darts p → t d ≡ s d) → ((u : ℕ) → 1 ≤ u → u ≤ vertices p → v' u ≡ v u) → ((f : ℕ) → f < p.faces → q' f ≡ q f) → ProveKeeping p marks a s v q → ProveKeeping p marks b t v' q'
-prove_keeping-alike p marks a b s t v v' q q' ends angles strings vertex face prove = λ d c.
-    priced_same (is_straight p marks d) (a d) (b d) (s d) (t d) (v (head p d)) (v' (head p d)) (q (face_at p d)) (q' (face_at p d)) (q (face_at p (reverse_dart p d))) (q' (face_at p (reverse_dart p d)))
-    (angles d c) (strings d c) (vertex (head p d) (ends.head_from d c) (ends.head_to d c)) (face (face_at p d) (ends.face_named d c)) (face (face_at p (reverse_dart p d)) (ends.face_named (reverse_dart p d) (ends.reverse_dart_in_range d c))) (prove d c)
+pub prove_keeping-alike : (p : PlaneModel) (given : GivenModel) (a b : ℕ → ℕ) (s t : ℕ → List Turn) (v v' q q' : ℕ → ℤ) → HasEnds p → ((d : ℕ) → d < darts p → b d ≡ a d) → ((d : ℕ) → d < darts p → t d ≡ s d) → ((u : ℕ) → 1 ≤ u → u ≤ vertices p → v' u ≡ v u) → ((f : ℕ) → f < p.faces → q' f ≡ q f) → ProveKeeping p given a s v q → ProveKeeping p given b t v' q'
+prove_keeping-alike p given a b s t v v' q q' ends angles strings vertex face prove = λ d c.
+    let head_at = vertex (head p d) (ends.head_from d c) (ends.head_to d c) in
+    let own = face (face_at p d) (ends.face_named d c) in
+    let across = face (face_at p (reverse_dart p d)) (ends.face_named (reverse_dart p d) (ends.reverse_dart_in_range d c)) in
+    record {
+      angle = angle_same (angle_given given d) (a d) (b d) (v (head p d)) (v' (head p d)) (q (face_at p d)) (q' (face_at p d)) (angles d c) head_at own (prove d c).angle;
+      turns = turns_same (turns_given p given d) (s d) (t d) (q (face_at p d)) (q' (face_at p d)) (q (face_at p (reverse_dart p d))) (q' (face_at p (reverse_dart p d))) (strings d c) own across (prove d c).turns;
+    }
 
 pub prove-alike : (p : PlaneModel) (a b : ℕ → ℕ) (s t : ℕ → List Turn) (v v' q q' : ℕ → ℤ) → HasEnds p → ((d : ℕ) → d < darts p → b d ≡ a d) → ((d : ℕ) → d < darts p → t d ≡ s d) → ((u : ℕ) → 1 ≤ u → u ≤ vertices p → v' u ≡ v u) → ((f : ℕ) → f < p.faces → q' f ≡ q f) → Prove p a s v q → Prove p b t v' q'
-prove-alike p a b s t v v' q q' ends angles strings vertex face prove = prove_keeping-alike p [] a b s t v v' q q' ends angles strings vertex face prove
+prove-alike p a b s t v v' q q' ends angles strings vertex face prove = prove_keeping-alike p nothing_given a b s t v v' q q' ends angles strings vertex face prove

@@ -1,5 +1,5 @@
 -- The best of the faces that were tried.
-use Rattle.std.proofs.Common.{◌≡◌, ◌≤◌, ◌<◌, ◌+◌, ◌-◌, ◌*◌, ℕ, ◌⊎◌, inl, inr, List, [], length, get_or, set, replicate, sym, ap, ◌∙◌, subst, below_more, arith}
+use Rattle.std.proofs.Common.{◌≡◌, ◌≤◌, ◌<◌, ◌+◌, ◌-◌, ◌*◌, ℕ, ◌⊎◌, inl, inr, List, length, get_or, set, replicate, sym, ap, ◌∙◌, subst, below_more, arith}
 use Rattle.std.proofs.lemmas.Bool.{cases_eq}
 use Rattle.std.proofs.lemmas.List.{get_or-replicate, get_or-set_same, get_or-set_other}
 use Rattle.std.specs.Prelude.{ℤ, pos, ◌+ℤ◌, ◌-ℤ◌, ◌*ℤ◌}
@@ -7,19 +7,22 @@ use borrow.Author.Differences.{up, down}
 use Rattle.std.proofs.lemmas.Int.{ints}
 use Rattle.common.specs.Sums.{sum_below}
 use Rattle.common.proofs.Sums.{sum_below-same, sum_below-none, sum_below-split}
-use Rattle.faces.specs.Planes.{PlaneModel, IsPlane, HasEnds, darts, vertices, reverse_dart, with_outer}
+use Rattle.faces.specs.Planes.{PlaneModel, IsPlane, HasEnds, darts, vertices, with_outer}
 use Rattle.networks.specs.declared.arc.Arc.{Arc}
 use Rattle.networks.specs.Networks.{NetworkModel, arc_at}
 use Rattle.networks.specs.Flow.{Flow, at_nodes, cost_of}
 use Rattle.min_cost_flow.specs.SolverState.{IsShown}
 use Rattle.flow_network.specs.FaceNet.{IsFaceNet}
+use Rattle.flow_network.specs.Given.{nothing_given}
+use Rattle.flow_network.proofs.GivenParts.{left_part, none_along}
 use Rattle.ortho_rep.specs.declared.best.Incumbent.{Incumbent}
 use Rattle.ortho_rep.specs.Representation.{bends_of}
 use Rattle.ortho_rep.specs.OfFlow.{angles_of, strings_of}
 use Rattle.ortho_rep.specs.Best.{HasRep, NeedsBends, IsBest}
 use Rattle.ortho_rep.specs.Tries.{IsIncumbent, IsNoWorse, IsNoBetter, AreBounds}
 use Rattle.ortho_rep.proofs.WeakDuality.{lefts_of, lengths-twice, least_by_prices, more_by_prices, all_keep}
-use Rattle.ortho_rep.proofs.FromFlow.{lefts-lefts_then_rights, rep_of_flow, prove_of_potentials}
+use Rattle.ortho_rep.proofs.GivenFlow.{nothing_can}
+use Rattle.ortho_rep.proofs.FromFlow.{left_is, rep_of_flow, prove_of_potentials}
 
 -- a face that is no better than one is no better than a better one
 pub no_better_still : (p : PlaneModel) (bends face lower other f : ℕ) → lower ≤ bends → (lower ≡ bends → other ≤ face) → IsNoBetter p bends face f → IsNoBetter p lower other f
@@ -100,13 +103,13 @@ tried_next p incumbent other face no_worse all here =
     below_more _ _ (λ f b. no_better_still p other.bends other.face incumbent.bends incumbent.face f no_worse.fewer no_worse.first (all f b)) here
 
 -- the bends of a flow are what it costs
-pub bends_are_cost : (p : PlaneModel) (net : NetworkModel) (x : ℕ → ℕ) → HasEnds p → IsFaceNet p net → Flow net x → bends_of (darts p) (strings_of p x) ≡ cost_of net x
+pub bends_are_cost : (p : PlaneModel) (net : NetworkModel) (x : ℕ → ℕ) → HasEnds p → IsFaceNet p net → Flow net x → bends_of (darts p) (strings_of p nothing_given x) ≡ cost_of net x
 bends_are_cost p net x ends is flow =
     let n = darts p in
     let left : ℕ → ℕ = λ d. x (n + d) in
-    let twice = lengths-twice p (angles_of x) (strings_of p x) ends (rep_of_flow p net x ends is flow) in
-    let lefts_are : sum_below n (lefts_of (strings_of p x)) ≡ sum_below n left =
-    sum_below-same n (lefts_of (strings_of p x)) left (λ d b. lefts-lefts_then_rights (x (n + d)) (x (n + reverse_dart p d))) in
+    let twice = lengths-twice p (angles_of nothing_given x) (strings_of p nothing_given x) ends (rep_of_flow p net x ends nothing_can is flow) in
+    let lefts_are : sum_below n (lefts_of (strings_of p nothing_given x)) ≡ sum_below n left =
+    sum_below-same n (lefts_of (strings_of p nothing_given x)) left (λ d b. omega (arith, left_is p net x is flow.within d b, ap left_part (none_along p d))) in
     let split : cost_of net x ≡ sum_below n (λ d. (arc_at net d).cost * x d) + sum_below n (λ d. (arc_at net (n + d)).cost * x (n + d)) =
     ap (λ (m : ℕ). sum_below m (λ i. (arc_at net i).cost * x i)) is.arcs ∙ sum_below-split n n (λ i. (arc_at net i).cost * x i) in
     let none : sum_below n (λ d. (arc_at net d).cost * x d) ≡ 0 =
@@ -124,13 +127,13 @@ bends_are_cost p net x ends is flow =
 -- what a flow of least cost shows of the plane's outer face
 pub rep_of_cost : (p : PlaneModel) (net : NetworkModel) (bends : ℕ) (ps : List ℤ) → HasEnds p → IsFaceNet p net → IsShown net bends ps → HasRep p bends
 rep_of_cost p net bends ps ends is shown =
-    (angles_of shown.amounts, strings_of p shown.amounts, rep_of_flow p net shown.amounts ends is shown.flow, bends_are_cost p net shown.amounts ends is shown.flow ∙ shown.costs)
+    (angles_of nothing_given shown.amounts, strings_of p nothing_given shown.amounts, rep_of_flow p net shown.amounts ends nothing_can is shown.flow, bends_are_cost p net shown.amounts ends is shown.flow ∙ shown.costs)
 
 pub needs_cost : (p : PlaneModel) (net : NetworkModel) (bends : ℕ) (ps : List ℤ) → HasEnds p → IsFaceNet p net → IsShown net bends ps → NeedsBends p bends
 needs_cost p net bends ps ends is shown = λ a s rep.
     let x = shown.amounts in
-    let own = rep_of_flow p net x ends is shown.flow in
-    let least = least_by_prices p (angles_of x) (strings_of p x) (λ v. at_nodes ps (v - 1)) (λ f. at_nodes ps (vertices p + f)) ends own (prove_of_potentials p net x (at_nodes ps) ends is shown.flow shown.potentials) in
+    let own = rep_of_flow p net x ends nothing_can is shown.flow in
+    let least = least_by_prices p (angles_of nothing_given x) (strings_of p nothing_given x) (λ v. at_nodes ps (v - 1)) (λ f. at_nodes ps (vertices p + f)) ends own (prove_of_potentials p net x (at_nodes ps) is shown.potentials) in
     omega (arith, least.least a s rep, bends_are_cost p net x ends is shown.flow, shown.costs)
 
 -- and its potentials prove a bound for each face
@@ -138,9 +141,9 @@ pub bound_of_potentials : (p : PlaneModel) (net : NetworkModel) (bends : ℕ) (p
 bound_of_potentials p net bends ps face bound own other ends outer inside is shown of_own of_other (inl none) = λ a s rep. omega arith
 bound_of_potentials p net bends ps face bound own other ends outer inside is shown of_own of_other (inr sum) = λ a s rep.
     let x = shown.amounts in
-    let prove = prove_of_potentials p net x (at_nodes ps) ends is shown.flow shown.potentials in
-    let more = more_by_prices p [] face (angles_of x) a (strings_of p x) s (λ v. at_nodes ps (v - 1)) (λ f. at_nodes ps (vertices p + f)) ends outer inside (rep_of_flow p net x ends is shown.flow) prove rep (all_keep p s) in
-    let priced : bends_of (darts p) (strings_of p x) + 8 * up other + 8 * down own ≤ bends_of (darts p) s + 8 * up own + 8 * down other = rw (of_own, of_other) more in
+    let prove = prove_of_potentials p net x (at_nodes ps) is shown.potentials in
+    let more = more_by_prices p nothing_given face (angles_of nothing_given x) a (strings_of p nothing_given x) s (λ v. at_nodes ps (v - 1)) (λ f. at_nodes ps (vertices p + f)) ends outer inside (rep_of_flow p net x ends nothing_can is shown.flow) prove rep (all_keep p a s) in
+    let priced : bends_of (darts p) (strings_of p nothing_given x) + 8 * up other + 8 * down own ≤ bends_of (darts p) s + 8 * up own + 8 * down other = rw (of_own, of_other) more in
     omega (arith, ints, priced, sum, bends_are_cost p net x ends is shown.flow, shown.costs)
 
 -- to begin with, no bends are needed

@@ -1,5 +1,5 @@
 -- How many turns of each kind a string has.
-use Rattle.std.proofs.Common.{◌≡◌, ℕ, ◌+◌, cond, List, [], ◌∷◌, length, map, reverse, not, ◌∙◌, refl, arith}
+use Rattle.std.proofs.Common.{◌≡◌, ℕ, zero, suc, ◌+◌, cond, List, [], ◌∷◌, replicate, length, map, reverse, not, ◌∙◌, refl, ap, arith}
 use Rattle.std.proofs.lemmas.List.Sums.{sum_by-cons}
 use Rattle.std.proofs.lemmas.List.Sorted.{sum_by-IsPermutation, IsPermutation-reverse}
 use Rattle.ortho_rep.specs.declared.turn.Turn.{Turn}
@@ -35,3 +35,31 @@ lefts-map-opposite (Right ∷ ts) = omega (arith, lefts-cons Left (map opposite 
 pub lefts-mirrored : (ts : List Turn) → lefts (mirrored ts) ≡ rights ts
 lefts-mirrored ts =
     lefts-map-opposite (reverse ts) ∙ sum_by-IsPermutation one_if_right ts (reverse ts) (IsPermutation-reverse ts)
+
+-- strings of one kind
+pub lefts-lefts_only : (n : ℕ) → lefts (replicate n Left) ≡ n
+lefts-lefts_only zero = refl
+lefts-lefts_only (suc n) = omega (arith, lefts-cons Left (replicate n Left), lefts-lefts_only n)
+
+pub lefts-rights_only : (n : ℕ) → lefts (replicate n Right) ≡ 0
+lefts-rights_only zero = refl
+lefts-rights_only (suc n) = omega (arith, lefts-cons Right (replicate n Right), lefts-rights_only n)
+
+pub rights-lefts_only : (n : ℕ) → rights (replicate n Left) ≡ 0
+rights-lefts_only zero = refl
+rights-lefts_only (suc n) = omega (arith, rights-cons Left (replicate n Left), rights-lefts_only n)
+
+pub rights-rights_only : (n : ℕ) → rights (replicate n Right) ≡ n
+rights-rights_only zero = refl
+rights-rights_only (suc n) = omega (arith, rights-cons Right (replicate n Right), rights-rights_only n)
+
+-- a string with left turns only, and one with none
+pub lefts-all : (ts : List Turn) → lefts ts ≡ length ts → ts ≡ replicate (length ts) Left
+lefts-all [] all = refl
+lefts-all (Left ∷ ts) all = ap (λ (rest : List Turn). Left ∷ rest) (lefts-all ts (omega (arith, all, lefts-cons Left ts)))
+lefts-all (Right ∷ ts) all = absurd (omega (arith, all, lefts-cons Right ts, lefts-add-rights ts))
+
+pub lefts-none : (ts : List Turn) → lefts ts ≡ 0 → ts ≡ replicate (length ts) Right
+lefts-none [] none = refl
+lefts-none (Left ∷ ts) none = absurd (omega (arith, none, lefts-cons Left ts))
+lefts-none (Right ∷ ts) none = ap (λ (rest : List Turn). Right ∷ rest) (lefts-none ts (omega (arith, none, lefts-cons Right ts)))

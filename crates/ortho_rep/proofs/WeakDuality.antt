@@ -1,9 +1,9 @@
--- Weak duality: a representation whose prices prove it has the fewest bends among those that keep the same edges
--- straight, and with another outer face at least as many more are needed as the prices of the two faces differ, eight
+-- Weak duality: a representation whose prices prove it has the fewest bends among those that keep what is
+-- given, and with another outer face at least as many more are needed as the prices of the two faces differ, eight
 -- times.
-use Rattle.std.proofs.Common.{◌≡◌, ◌≤◌, ◌<◌, ℕ, ◌+◌, ◌*◌, ◌-◌, Bool, true, false, cond, eqb, List, [], length, refl, sym, ap, ◌∙◌, inl, inr, subst, arith}
-use Rattle.std.specs.Prelude.{ℤ, pos, negsuc, ◌+ℤ◌, ◌-ℤ◌}
-use Rattle.std.proofs.lemmas.Bool.{cases_order, cases_eq, cases_Bool, eq-eqb, ne_eqb, cond-false, true≢false}
+use Rattle.std.proofs.Common.{◌≡◌, ◌≤◌, ◌<◌, ℕ, ◌+◌, ◌*◌, ◌-◌, Bool, true, false, cond, eqb, List, length, refl, sym, ap, ◌∙◌, inl, inr, subst, arith}
+use Rattle.std.specs.Prelude.{ℤ, pos, negsuc, ◌+ℤ◌, ◌-ℤ◌, slice_index_or, Some, None, if◌then◌else◌}
+use Rattle.std.proofs.lemmas.Bool.{cases_order, cases_eq, eq-eqb, ne_eqb, cond-false}
 use Rattle.std.proofs.lemmas.Int.{ints}
 use Rattle.std.proofs.Math.Nat.{mul-add, mul-le-mul_left}
 use borrow.Author.Differences.{up, down}
@@ -11,12 +11,13 @@ use Rattle.common.specs.Sums.{sum_below}
 use Rattle.common.proofs.Sums.{sum_below-same, sum_below-add, sum_below-le, sum_below-times, sum_below-one, exchanged, total_below-parts}
 use Rattle.ortho_rep.specs.declared.turn.Turn.{Turn}
 use Rattle.faces.specs.Planes.{PlaneModel, HasEnds, darts, vertices, head, reverse_dart, face_at, with_outer}
-use Rattle.flow_network.specs.Straight.{is_straight}
+use Rattle.embedding.specs.Lesser.{is_lesser_of}
+use Rattle.flow_network.specs.Given.{GivenModel, nothing_given, angle_given, turns_given, walked_back}
 use Rattle.ortho_rep.specs.Turns.{lefts, rights}
 use Rattle.ortho_rep.specs.Representation.{Rep, Least, bends_of, turning_of, turning_around, whole_turn}
-use Rattle.ortho_rep.specs.Keeping.{Keeps, LeastKeeping}
+use Rattle.ortho_rep.specs.Keeping.{one_way, Keeps, LeastKeeping}
 use Rattle.ortho_rep.specs.Prices.{IsPricedAt, ProveKeeping, Prove}
-use Rattle.ortho_rep.proofs.Priced.{wider_of, narrower_of, crossed_of, tight_of, turnless_of}
+use Rattle.ortho_rep.proofs.Priced.{wider_of, narrower_of, crossed_of, tight_of, angle_of, turns_of}
 use Rattle.ortho_rep.proofs.TurnCounts.{lefts-add-rights, lefts-mirrored}
 
 -- the sum of x, each number weighed by w
@@ -224,59 +225,56 @@ across p q side d = side (q (face_at p (reverse_dart p d)))
 abbrev at_head : PlaneModel → (ℕ → ℤ) → (ℤ → ℕ) → ℕ → ℕ
 at_head p v side d = side (v (head p d))
 
--- one corner: by the prices another angle is no cheaper
-corner : (p : PlaneModel) (marks : List Bool) (a b : ℕ → ℕ) (s : ℕ → List Turn) (v q : ℕ → ℤ) (d : ℕ) → IsPricedAt p marks a s v q d → (1 ≤ a d) × (a d ≤ 4) → (1 ≤ b d) × (b d ≤ 4) →
+-- one corner: by the prices another angle is no cheaper, and where it is given it is the same
+corner : (p : PlaneModel) (given : GivenModel) (a b : ℕ → ℕ) (s : ℕ → List Turn) (v q : ℕ → ℤ) (d : ℕ) → IsPricedAt p given a s v q d → ((k : ℕ) → angle_given given d ≡ Some k → b d ≡ k) → (1 ≤ b d) × (b d ≤ 4) →
     at_head p v up d * a d + own p q down d * a d + at_head p v down d * b d + own p q up d * b d
     ≤ at_head p v up d * b d + own p q down d * b d + at_head p v down d * a d + own p q up d * a d
-corner p marks a b s v q d priced of_a of_b =
-    let wider = wider_of (is_straight p marks d) (a d) (s d) (v (head p d)) (q (face_at p d)) (q (face_at p (reverse_dart p d))) priced in
-    let narrower = narrower_of (is_straight p marks d) (a d) (s d) (v (head p d)) (q (face_at p d)) (q (face_at p (reverse_dart p d))) priced in
+corner p given a b s v q d priced keeps of_b =
+    let wider = wider_of (angle_given given d) (a d) (b d) (v (head p d)) (q (face_at p d)) priced.angle keeps of_b.1 in
+    let narrower = narrower_of (angle_given given d) (a d) (b d) (v (head p d)) (q (face_at p d)) priced.angle keeps of_b.0 in
     omega (
       arith,
       arranged (a d) (b d) (at_head p v up d + own p q down d) (at_head p v down d + own p q up d)
-          (λ more. omega (arith, ints, wider (omega arith)))
-          (λ less. omega (arith, ints, narrower (omega arith))),
+          (λ more. omega (arith, ints, wider more))
+          (λ less. omega (arith, ints, narrower less)),
     )
 
--- one crossing: by the prices other left turns are no cheaper, and where the edge is to stay straight there are none
-crossing : (p : PlaneModel) (marks : List Bool) (a : ℕ → ℕ) (s t : ℕ → List Turn) (v q : ℕ → ℤ) (d : ℕ) → IsPricedAt p marks a s v q d → (is_straight p marks d ≡ true → t d ≡ []) →
+-- one crossing: by the prices other left turns are no cheaper, and where they are given they are the same
+crossing : (p : PlaneModel) (given : GivenModel) (a : ℕ → ℕ) (s t : ℕ → List Turn) (v q : ℕ → ℤ) (d : ℕ) → IsPricedAt p given a s v q d → ((n : ℤ) → turns_given p given d ≡ Some n → t d ≡ one_way n) →
     lefts_of s d + (own p q up d * lefts_of s d + across p q down d * lefts_of s d) + own p q down d * lefts_of t d + across p q up d * lefts_of t d
     ≤ lefts_of t d + (own p q up d * lefts_of t d + across p q down d * lefts_of t d) + own p q down d * lefts_of s d + across p q up d * lefts_of s d
-crossing p marks a s t v q d priced straight =
-    let crossed = crossed_of (is_straight p marks d) (a d) (s d) (v (head p d)) (q (face_at p d)) (q (face_at p (reverse_dart p d))) priced in
-    let tight = tight_of (is_straight p marks d) (a d) (s d) (v (head p d)) (q (face_at p d)) (q (face_at p (reverse_dart p d))) priced in
+crossing p given a s t v q d priced keeps =
+    let crossed = crossed_of (turns_given p given d) (s d) (t d) (q (face_at p d)) (q (face_at p (reverse_dart p d))) priced.turns keeps in
+    let tight = tight_of (turns_given p given d) (s d) (t d) (q (face_at p d)) (q (face_at p (reverse_dart p d))) priced.turns keeps in
     omega (
       arith,
       arranged (lefts_of s d) (lefts_of t d) (1 + own p q up d + across p q down d) (own p q down d + across p q up d)
-          (λ more. elim (cases_Bool (is_straight p marks d)) [
-            | inl on ↦ absurd (omega (arith, ap lefts (straight on)))
-            | inr off ↦ omega (arith, ints, crossed off)
-          ])
-          (λ less. omega (arith, ints, tight (omega arith))),
+          (λ more. omega (arith, ints, crossed more))
+          (λ less. omega (arith, ints, tight less)),
     )
 
 -- the same of all corners
-corners : (p : PlaneModel) (marks : List Bool) (a b : ℕ → ℕ) (s t : ℕ → List Turn) (v q : ℕ → ℤ) → ProveKeeping p marks a s v q → Rep p a s → ((d : ℕ) → d < darts p → (1 ≤ b d) × (b d ≤ 4)) →
+corners : (p : PlaneModel) (given : GivenModel) (a b : ℕ → ℕ) (s t : ℕ → List Turn) (v q : ℕ → ℤ) → ProveKeeping p given a s v q → Keeps p given b t → ((d : ℕ) → d < darts p → (1 ≤ b d) × (b d ≤ 4)) →
     weighed (darts p) (at_head p v up) a + weighed (darts p) (own p q down) a + weighed (darts p) (at_head p v down) b + weighed (darts p) (own p q up) b
     ≤ weighed (darts p) (at_head p v up) b + weighed (darts p) (own p q down) b + weighed (darts p) (at_head p v down) a + weighed (darts p) (own p q up) a
-corners p marks a b s t v q prove one angles =
+corners p given a b s t v q prove keeps angles =
     let each = sum_below-le (darts p)
     (λ d. at_head p v up d * a d + own p q down d * a d + at_head p v down d * b d + own p q up d * b d)
     (λ d. at_head p v up d * b d + own p q down d * b d + at_head p v down d * a d + own p q up d * a d)
-    (λ d c. corner p marks a b s v q d (prove d c) (one.angles d c) (angles d c)) in
+    (λ d c. corner p given a b s v q d (prove d c) (keeps.angles d c) (angles d c)) in
     let left = sum-four (darts p) (λ d. at_head p v up d * a d) (λ d. own p q down d * a d) (λ d. at_head p v down d * b d) (λ d. own p q up d * b d) in
     let right = sum-four (darts p) (λ d. at_head p v up d * b d) (λ d. own p q down d * b d) (λ d. at_head p v down d * a d) (λ d. own p q up d * a d) in
     omega (arith, each, left, right)
 
 -- the same of all crossings
-crossings : (p : PlaneModel) (marks : List Bool) (a : ℕ → ℕ) (s t : ℕ → List Turn) (v q : ℕ → ℤ) → ProveKeeping p marks a s v q → Keeps p marks t →
+crossings : (p : PlaneModel) (given : GivenModel) (a b : ℕ → ℕ) (s t : ℕ → List Turn) (v q : ℕ → ℤ) → ProveKeeping p given a s v q → Keeps p given b t →
     sum_below (darts p) (lefts_of s) + weighed (darts p) (own p q up) (lefts_of s) + weighed (darts p) (across p q down) (lefts_of s) + weighed (darts p) (own p q down) (lefts_of t) + weighed (darts p) (across p q up) (lefts_of t)
     ≤ sum_below (darts p) (lefts_of t) + weighed (darts p) (own p q up) (lefts_of t) + weighed (darts p) (across p q down) (lefts_of t) + weighed (darts p) (own p q down) (lefts_of s) + weighed (darts p) (across p q up) (lefts_of s)
-crossings p marks a s t v q prove keeps =
+crossings p given a b s t v q prove keeps =
     let each = sum_below-le (darts p)
     (λ d. lefts_of s d + (own p q up d * lefts_of s d + across p q down d * lefts_of s d) + own p q down d * lefts_of t d + across p q up d * lefts_of t d)
     (λ d. lefts_of t d + (own p q up d * lefts_of t d + across p q down d * lefts_of t d) + own p q down d * lefts_of s d + across p q up d * lefts_of s d)
-    (λ d c. crossing p marks a s t v q d (prove d c) (keeps d c)) in
+    (λ d c. crossing p given a s t v q d (prove d c) (keeps.turns d c)) in
     omega (arith, each, sum-crossing p q s t, sum-crossing p q t s)
   where
     sum-crossing : (p : PlaneModel) (q : ℕ → ℤ) (s t : ℕ → List Turn) →
@@ -289,48 +287,61 @@ crossings p marks a s t v q prove keeps =
           sum_below-add (darts p) (λ d. own p q up d * lefts_of s d) (λ d. across p q down d * lefts_of s d),
         )
 
--- no representation with the outer face h that keeps the same edges straight has fewer left turns than one that prices
+-- no representation with the outer face h that keeps what is given has fewer left turns than one that prices
 -- prove, with as many more as the prices of the two outer faces tell
-fewest_lefts : (p : PlaneModel) (marks : List Bool) (h : ℕ) (a b : ℕ → ℕ) (s t : ℕ → List Turn) (v q : ℕ → ℤ) → HasEnds p → ProveKeeping p marks a s v q → Rep p a s → Rep (with_outer p h) b t → Keeps p marks t →
+fewest_lefts : (p : PlaneModel) (given : GivenModel) (h : ℕ) (a b : ℕ → ℕ) (s t : ℕ → List Turn) (v q : ℕ → ℤ) → HasEnds p → ProveKeeping p given a s v q → Rep p a s → Rep (with_outer p h) b t → Keeps p given b t →
     sum_below (darts p) (lefts_of s) + weighed p.faces (λ k. up (q k)) (eight_at h) + weighed p.faces (λ k. down (q k)) (eight_at p.outer)
     ≤ sum_below (darts p) (lefts_of t) + weighed p.faces (λ k. up (q k)) (eight_at p.outer) + weighed p.faces (λ k. down (q k)) (eight_at h)
-fewest_lefts p marks h a b s t v q ends prove one two keeps =
+fewest_lefts p given h a b s t v q ends prove one two keeps =
     omega (
       arith,
-      corners p marks a b s t v q prove one two.angles,
-      crossings p marks a s t v q prove keeps,
+      corners p given a b s t v q prove keeps two.angles,
+      crossings p given a b s t v q prove keeps,
       angles_weigh p h a b s t ends one two (λ k. up (v k)),
       angles_weigh p h a b s t ends one two (λ k. down (v k)),
       faces_weigh p h a b s t ends one two (λ k. up (q k)),
       faces_weigh p h a b s t ends one two (λ k. down (q k)),
     )
 
--- a representation whose prices prove it is least among those that keep the same edges straight
-pub least_keeping_by_prices : (p : PlaneModel) (marks : List Bool) (a : ℕ → ℕ) (s : ℕ → List Turn) (v q : ℕ → ℤ) → HasEnds p → Rep p a s → ProveKeeping p marks a s v q → LeastKeeping p marks a s
-least_keeping_by_prices p marks a s v q ends rep prove = record {
+-- a representation whose prices prove it is least among those that keep what is given
+pub least_keeping_by_prices : (p : PlaneModel) (given : GivenModel) (a : ℕ → ℕ) (s : ℕ → List Turn) (v q : ℕ → ℤ) → HasEnds p → Rep p a s → ProveKeeping p given a s v q → LeastKeeping p given a s
+least_keeping_by_prices p given a s v q ends rep prove = record {
   rep = rep;
-  keeps = λ d b on. turnless_of (is_straight p marks d) (a d) (s d) (v (head p d)) (q (face_at p d)) (q (face_at p (reverse_dart p d))) (prove d b) on;
-  least = λ b t other keeps. omega (arith, fewest_lefts p marks p.outer a b s t v q ends prove rep other keeps, lengths-twice p a s ends rep, lengths-twice p b t ends other);
+  keeps = record {
+    angles = λ d b. angle_of (angle_given given d) (a d) (v (head p d)) (q (face_at p d)) (prove d b).angle;
+    turns = λ d b. turns_of (turns_given p given d) (s d) (q (face_at p d)) (q (face_at p (reverse_dart p d))) (prove d b).turns;
+  };
+  least = λ b t other keeps. omega (arith, fewest_lefts p given p.outer a b s t v q ends prove rep other keeps, lengths-twice p a s ends rep, lengths-twice p b t ends other);
 }
 
--- where no dart is marked, each representation keeps all edges straight that are to be
-pub all_keep : (p : PlaneModel) (t : ℕ → List Turn) → Keeps p [] t
-all_keep p t d b on = absurd (true≢false (sym on))
+-- where nothing is given, each representation keeps it
+pub all_keep : (p : PlaneModel) (b : ℕ → ℕ) (t : ℕ → List Turn) → Keeps p nothing_given b t
+all_keep p b t = record {
+  angles = λ d l k is. absurd (no_angle d k is);
+  turns = λ d l n is. absurd (no_turns (is_lesser_of p.lists d) d (reverse_dart p d) n is);
+}
+  where
+    no_angle : (d k : ℕ) → angle_given nothing_given d ≡ Some k → ⊥
+    no_angle d k is = cc
+
+    no_turns : (c : Bool) (d r : ℕ) (n : ℤ) → (if c then slice_index_or nothing_given.turns d None else walked_back (slice_index_or nothing_given.turns r None)) ≡ Some n → ⊥
+    no_turns true d r n is = cc
+    no_turns false d r n is = cc
 
 -- so one that is least among those is least among all
-pub least_of_keeping : (p : PlaneModel) (a : ℕ → ℕ) (s : ℕ → List Turn) → LeastKeeping p [] a s → Least p a s
-least_of_keeping p a s keeping = record { rep = keeping.rep; least = λ b t other. keeping.least b t other (all_keep p t) }
+pub least_of_keeping : (p : PlaneModel) (a : ℕ → ℕ) (s : ℕ → List Turn) → LeastKeeping p nothing_given a s → Least p a s
+least_of_keeping p a s keeping = record { rep = keeping.rep; least = λ b t other. keeping.least b t other (all_keep p b t) }
 
 pub least_by_prices : (p : PlaneModel) (a : ℕ → ℕ) (s : ℕ → List Turn) (v q : ℕ → ℤ) → HasEnds p → Rep p a s → Prove p a s v q → Least p a s
-least_by_prices p a s v q ends rep prove = least_of_keeping p a s (least_keeping_by_prices p [] a s v q ends rep prove)
+least_by_prices p a s v q ends rep prove = least_of_keeping p a s (least_keeping_by_prices p nothing_given a s v q ends rep prove)
 
 -- with the outer face h at least as many more bends are needed as it is dearer than the outer face, eight times
-pub more_by_prices : (p : PlaneModel) (marks : List Bool) (h : ℕ) (a b : ℕ → ℕ) (s t : ℕ → List Turn) (v q : ℕ → ℤ) → HasEnds p → p.outer < p.faces → h < p.faces → Rep p a s → ProveKeeping p marks a s v q → Rep (with_outer p h) b t → Keeps p marks t →
+pub more_by_prices : (p : PlaneModel) (given : GivenModel) (h : ℕ) (a b : ℕ → ℕ) (s t : ℕ → List Turn) (v q : ℕ → ℤ) → HasEnds p → p.outer < p.faces → h < p.faces → Rep p a s → ProveKeeping p given a s v q → Rep (with_outer p h) b t → Keeps p given b t →
     bends_of (darts p) s + 8 * up (q h) + 8 * down (q p.outer) ≤ bends_of (darts p) t + 8 * up (q p.outer) + 8 * down (q h)
-more_by_prices p marks h a b s t v q ends outer inside rep prove other keeps =
+more_by_prices p given h a b s t v q ends outer inside rep prove other keeps =
     omega (
       arith,
-      fewest_lefts p marks h a b s t v q ends prove rep other keeps,
+      fewest_lefts p given h a b s t v q ends prove rep other keeps,
       weight-eight p.faces (λ k. up (q k)) h inside,
       weight-eight p.faces (λ k. up (q k)) p.outer outer,
       weight-eight p.faces (λ k. down (q k)) h inside,

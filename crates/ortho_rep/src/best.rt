@@ -16,7 +16,7 @@ use crate::scratch::ShapeLists;
 use crate::shape::Shape;
 use common::filled;
 use faces::Plane;
-use flow_network::FaceNet;
+use flow_network::{FaceNet, Given};
 use min_cost_flow::{SolveFault, WarmStart};
 use std::alloc::{AllocError, Global};
 
@@ -84,7 +84,8 @@ fn best_found(alloc: Global, plane: &mut Plane) -> Result<(Shape, Prices), Alloc
     plane.set_outer(incumbent.face);
     let solved = moving.warm_start.solved(alloc)?;
     let mut lists = ShapeLists::empty(alloc);
-    shape_in(alloc, &mut lists, plane, &moving.net, &solved)
+    let nothing = Given::nothing();
+    shape_in(alloc, &mut lists, plane, &nothing, &moving.net, &solved)
 }
 
 /// A flow of least cost in the network of a plane, which goes on from one outer face to another.

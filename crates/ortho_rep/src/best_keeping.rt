@@ -1,4 +1,4 @@
-//! The best outer face among those that are not barred, with edges kept straight: each is tried.
+//! The best outer face among those that are not barred, with what is given kept: each is tried.
 
 ghost use Rattle.std.specs.Prelude.{◌≡◌, ◌<◌, if◌then◌else◌, nat_lt, OnOk, IfOk, IfErr, OnErr};
 ghost use Rattle.faces.specs.Planes.{with_outer};
@@ -13,38 +13,37 @@ use crate::prices::Prices;
 use crate::scratch::Scratch;
 use crate::shape::Shape;
 use faces::Plane;
-use flow_network::has_mark;
+use flow_network::{Given, has_mark};
 use min_cost_flow::SolveFault;
 use std::alloc::{AllocError, Global};
 
-/// Makes the best face that is not barred the outer one; returns a least shape that keeps marked edges straight.
+/// Makes the best face that is not barred the outer one; returns a least shape that keeps what is given.
 ///
 /// The shape comes with prices that prove it. The best face minimises the bends of such shapes, and has the least
-/// number among equals. `straight` has a place for each dart and `barred` one for each face; places past the end of
-/// either count as false. An edge keeps straight if one of its two darts is marked. Each face is tried by a flow of its
-/// own.
+/// number among equals. `barred` has a place for each face; places past its end count as false. Each face is tried by a
+/// flow of its own.
 ///
 /// # Errors
 ///
-/// `Infeasible` exactly if, memory aside, no face that is not barred has a shape that keeps these edges straight;
+/// `Infeasible` exactly if, memory aside, no face that is not barred has a shape that keeps what is given;
 /// `Memory` if memory runs out for the network, its flow, the shape or the prices. The plane is then unchanged.
 pub fn best_shape_keeping(
     alloc: Global,
     plane: &mut Plane,
-    straight: &[bool],
+    given: &Given<'_>,
     barred: &[bool],
 ) -> Result<(Shape, Prices), SolveFault>
     ensures outer_moved { OnOk result (plane.new ≡ with_outer plane.old plane.new.outer) }
-    ensures best { OnOk result (IsBestKeeping plane.new straight.now barred.now) }
+    ensures best { OnOk result (IsBestKeeping plane.new given.now barred.now) }
     ensures shape { IfOk result (λ found. IsShape plane.new found.0) }
-    ensures least { IfOk result (λ found. IsLeastKeeping plane.new straight.now found.0) }
-    ensures proof { IfOk result (λ found. IsProofKeeping plane.new straight.now found.0 found.1) }
-    ensures none { IfErr result (λ fault. fault ≡ SolveFault.Infeasible → HasNoFace plane.old straight.now barred.now) }
+    ensures least { IfOk result (λ found. IsLeastKeeping plane.new given.now found.0) }
+    ensures proof { IfOk result (λ found. IsProofKeeping plane.new given.now found.0 found.1) }
+    ensures none { IfErr result (λ fault. fault ≡ SolveFault.Infeasible → HasNoFace plane.old given.now barred.now) }
     ensures unchanged { OnErr result (plane.new ≡ plane.old) }
 {
     let outer = plane.outer();
     let mut scratch = Scratch::empty(alloc);
-    match best_found(alloc, &mut scratch, plane, straight, barred) {
+    match best_found(alloc, &mut scratch, plane, given, barred) {
         Ok(solution) => Ok(solution),
         Err(fault) => {
             plane.set_outer(outer);
@@ -58,20 +57,20 @@ fn best_found(
     alloc: Global,
     scratch: &mut Scratch,
     plane: &mut Plane,
-    straight: &[bool],
+    given: &Given<'_>,
     barred: &[bool],
 ) -> Result<(Shape, Prices), SolveFault>
     ensures outer_moved { plane.new ≡ with_outer plane.old plane.new.outer }
-    ensures best { OnOk result (IsBestKeeping plane.new straight.now barred.now) }
+    ensures best { OnOk result (IsBestKeeping plane.new given.now barred.now) }
     ensures shape { IfOk result (λ found. IsShape plane.new found.0) }
-    ensures least { IfOk result (λ found. IsLeastKeeping plane.new straight.now found.0) }
-    ensures proof { IfOk result (λ found. IsProofKeeping plane.new straight.now found.0 found.1) }
-    ensures none { IfErr result (λ fault. fault ≡ SolveFault.Infeasible → HasNoFace plane.old straight.now barred.now) }
+    ensures least { IfOk result (λ found. IsLeastKeeping plane.new given.now found.0) }
+    ensures proof { IfOk result (λ found. IsProofKeeping plane.new given.now found.0 found.1) }
+    ensures none { IfErr result (λ fault. fault ≡ SolveFault.Infeasible → HasNoFace plane.old given.now barred.now) }
 {
-    match best_face(alloc, scratch, plane, straight, barred)? {
+    match best_face(alloc, scratch, plane, given, barred)? {
         Some(incumbent) => {
             plane.set_outer(incumbent.face);
-            least_shape_keeping_in(alloc, scratch, plane, straight)
+            least_shape_keeping_in(alloc, scratch, plane, given)
         }
         None => Err(SolveFault::Infeasible),
     }
@@ -82,18 +81,18 @@ fn best_face(
     alloc: Global,
     scratch: &mut Scratch,
     plane: &mut Plane,
-    straight: &[bool],
+    given: &Given<'_>,
     barred: &[bool],
 ) -> Result<Option<Incumbent>, AllocError>
     ensures outer_moved { plane.new ≡ with_outer plane.old plane.new.outer }
-    ensures tried { IfOk result (IsTriedBefore plane.old straight.now barred.now plane.old.faces) }
+    ensures tried { IfOk result (IsTriedBefore plane.old given.now barred.now plane.old.faces) }
 {
     let mut best = None;
     for face in 0..plane.face_count() {
         if has_mark(barred, face) {
             continue;
         }
-        let bends = bends_with(alloc, scratch, plane, straight, face)?;
+        let bends = bends_with(alloc, scratch, plane, given, face)?;
         best = better(best, face, bends);
     }
     Ok(best)
@@ -104,15 +103,15 @@ fn bends_with(
     alloc: Global,
     scratch: &mut Scratch,
     plane: &mut Plane,
-    straight: &[bool],
+    given: &Given<'_>,
     face: u16,
 ) -> Result<Option<u64>, AllocError>
     requires { face < plane.old.faces }
     ensures outer_moved { plane.new ≡ with_outer plane.old face }
-    ensures counted { IfOk result (IsCounted plane.new straight.now) }
+    ensures counted { IfOk result (IsCounted plane.new given.now) }
 {
     plane.set_outer(face);
-    match least_shape_keeping_in(alloc, scratch, plane, straight) {
+    match least_shape_keeping_in(alloc, scratch, plane, given) {
         Ok((shape, prices)) => {
             let bends = u64::from(shape.bends());
             shape.give_back(scratch);

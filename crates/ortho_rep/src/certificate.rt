@@ -1,20 +1,19 @@
 //! Complementary slackness (Ahuja, Magnanti and Orlin, Network Flows, 1993, section 9.3): whether prices prove a shape
 //! least.
 
-ghost use Rattle.std.specs.Prelude.{◌≡◌, ◌<◌, ◌↔◌, pos, ◌+ℤ◌, ◌-ℤ◌, ◌≤ℤ◌, IsTrue};
+ghost use Rattle.std.specs.Prelude.{◌≡◌, ◌<◌, ◌↔◌, pos, ◌+ℤ◌, ◌-ℤ◌, IsTrue};
 ghost use Rattle.faces.specs.Planes.{darts};
-ghost use Rattle.ortho_rep.specs.Turns.{lefts};
 ghost use Rattle.ortho_rep.specs.Shapes.{angle_at, turns_at};
 ghost use Rattle.ortho_rep.specs.Representation.{Rep, HasDarts, IsShape, IsLeast};
-ghost use Rattle.ortho_rep.specs.Keeping.{IsLeastKeeping};
-ghost use Rattle.ortho_rep.specs.Prices.{IsPriced, IsStraightPriced, IsPricedAt, ProveKeeping, HasPrices, IsProof, IsProofKeeping, vertex_price, face_price};
+ghost use Rattle.ortho_rep.specs.Keeping.{one_way, IsLeastKeeping};
+ghost use Rattle.ortho_rep.specs.Prices.{IsAnglePriced, AreTurnsPriced, IsAngleKept, AreTurnsKept, IsPricedAt, ProveKeeping, HasPrices, IsProof, IsProofKeeping, vertex_price, face_price};
 
 use crate::prices::Prices;
 use crate::representation::has_darts;
 use crate::shape::Shape;
 use crate::turn::{Turn, count_lefts};
 use faces::Plane;
-use flow_network::stays_straight;
+use flow_network::Given;
 
 /// Whether the prices prove that the shape has the fewest bends (complementary slackness).
 ///
@@ -25,23 +24,19 @@ pub fn certify(plane: &Plane, shape: &Shape, prices: &Prices) -> bool
     ensures exact { IsTrue result ↔ IsProof plane.now shape.now prices.now }
     ensures least { IsTrue result → IsShape plane.now shape.now → IsLeast plane.now shape.now }
 {
-    certify_keeping(plane, &[], shape, prices)
+    certify_keeping(plane, &Given::nothing(), shape, prices)
 }
 
-/// Whether the prices prove that the shape has the fewest bends of all that keep the marked edges straight.
+/// Whether the prices prove that the shape has the fewest bends of all that keep what is given.
 ///
-/// These edges must have no turns, and the prices of all other darts must agree with the shape. For the marked edges'
-/// own darts the price of a bend says nothing.
-///
-/// An edge has no turns if one of its two darts is marked; darts past the end of the list are not marked. A shape that
-/// `is_shape` accepts too has the fewest bends of all that keep these edges straight.
-pub fn certify_keeping(plane: &Plane, straight: &[bool], shape: &Shape, prices: &Prices) -> bool
-    ensures exact { IsTrue result ↔ IsProofKeeping plane.now straight.now shape.now prices.now }
-    ensures least { IsTrue result → IsShape plane.now shape.now → IsLeastKeeping plane.now straight.now shape.now }
+/// What is given must be as it is given, and the prices must agree with all other angles and turns of the shape. For an angle
+/// or turns that are given the prices there say nothing. A shape that `is_shape` accepts too has the fewest bends of all that
+/// keep what is given.
+pub fn certify_keeping(plane: &Plane, given: &Given<'_>, shape: &Shape, prices: &Prices) -> bool
+    ensures exact { IsTrue result ↔ IsProofKeeping plane.now given.now shape.now prices.now }
+    ensures least { IsTrue result → IsShape plane.now shape.now → IsLeastKeeping plane.now given.now shape.now }
 {
-    has_darts(plane, shape)
-        && has_prices(plane, prices)
-        && are_priced(plane, straight, shape, prices)
+    has_darts(plane, shape) && has_prices(plane, prices) && are_priced(plane, given, shape, prices)
 }
 
 /// Whether each vertex and each face has a price.
@@ -53,14 +48,14 @@ fn has_prices(plane: &Plane, prices: &Prices) -> bool
 }
 
 /// Whether all darts agree with the prices.
-fn are_priced(plane: &Plane, straight: &[bool], shape: &Shape, prices: &Prices) -> bool
+fn are_priced(plane: &Plane, given: &Given<'_>, shape: &Shape, prices: &Prices) -> bool
     requires darts { HasDarts plane.now shape.now }
     requires prices { HasPrices plane.now prices.now }
-    ensures exact { IsTrue result ↔ ProveKeeping plane.now straight.now (angle_at shape.now) (turns_at shape.now) (vertex_price prices.now) (face_price prices.now) }
-    ensures least { IsTrue result → Rep plane.now (angle_at shape.now) (turns_at shape.now) → IsLeastKeeping plane.now straight.now shape.now }
+    ensures exact { IsTrue result ↔ ProveKeeping plane.now given.now (angle_at shape.now) (turns_at shape.now) (vertex_price prices.now) (face_price prices.now) }
+    ensures least { IsTrue result → Rep plane.now (angle_at shape.now) (turns_at shape.now) → IsLeastKeeping plane.now given.now shape.now }
 {
     for dart in 0..plane.graph().darts() {
-        if !is_priced_at(plane, straight, shape, prices, dart) {
+        if !is_priced_at(plane, given, shape, prices, dart) {
             return false;
         }
     }
@@ -68,40 +63,55 @@ fn are_priced(plane: &Plane, straight: &[bool], shape: &Shape, prices: &Prices) 
 }
 
 /// Whether a dart agrees with the prices.
-fn is_priced_at(plane: &Plane, straight: &[bool], shape: &Shape, prices: &Prices, dart: u16) -> bool
+fn is_priced_at(plane: &Plane, given: &Given<'_>, shape: &Shape, prices: &Prices, dart: u16) -> bool
     requires within { dart < darts plane.now }
     requires darts { HasDarts plane.now shape.now }
     requires prices { HasPrices plane.now prices.now }
-    ensures { IsTrue result ↔ IsPricedAt plane.now straight.now (angle_at shape.now) (turns_at shape.now) (vertex_price prices.now) (face_price prices.now) dart }
+    ensures { IsTrue result ↔ IsPricedAt plane.now given.now (angle_at shape.now) (turns_at shape.now) (vertex_price prices.now) (face_price prices.now) dart }
 {
     let graph = plane.graph();
     let vertex = prices.vertex(graph.head(dart));
     let face = prices.face(plane.face_of(dart));
-    let (angle, turns) = (shape.angle(dart), shape.turns(dart));
-    if stays_straight(plane, straight, dart) {
-        return is_straight_priced(angle, turns, vertex, face);
-    }
     let across = prices.face(plane.face_of(graph.reverse(dart)));
-    is_priced(angle, turns, vertex, face, across)
+    is_angle_kept(given.angle(dart), shape.angle(dart), vertex, face)
+        && are_turns_kept(given.turns(plane, dart), shape.turns(dart), face, across)
 }
 
-/// Whether a dart without turns, and its angle, agree with the prices of its head and of its face.
-fn is_straight_priced(angle: u8, turns: &[Turn], vertex: i32, face: i32) -> bool
-    ensures { IsTrue result ↔ IsStraightPriced angle turns.now vertex face }
+/// Whether an angle is as it is given, or else agrees with the prices.
+fn is_angle_kept(given: Option<u8>, angle: u8, vertex: i32, face: i32) -> bool
+    ensures { IsTrue result ↔ IsAngleKept given angle vertex face }
 {
-    turns.is_empty() && angle_agrees(angle, vertex, face)
+    match given {
+        Some(asked) => angle == asked,
+        None => angle_agrees(angle, vertex, face),
+    }
 }
 
-/// Whether one dart's angle and turns agree with the prices of its head, of its face and of the face across.
-fn is_priced(angle: u8, turns: &[Turn], vertex: i32, face: i32, across: i32) -> bool
-    ensures { IsTrue result ↔ IsPriced angle turns.now vertex face across }
+/// Whether turns are as they are given, or else agree with the prices.
+fn are_turns_kept(given: Option<i32>, turns: &[Turn], face: i32, across: i32) -> bool
+    ensures { IsTrue result ↔ AreTurnsKept given turns.now face across }
 {
-    angle_agrees(angle, vertex, face) && crossing_agrees(turns, face, across)
+    match given {
+        Some(asked) => are_one_way(turns, asked),
+        None => crossing_agrees(turns, face, across),
+    }
+}
+
+/// Whether these are just so many left turns, or where the number is negative as many right turns.
+fn are_one_way(turns: &[Turn], lefts: i32) -> bool
+    ensures { IsTrue result ↔ (turns.now ≡ one_way lefts) }
+{
+    let count = lefts.unsigned_abs() as usize;
+    if turns.len() != count {
+        return false;
+    }
+    let made = count_lefts(turns);
+    if lefts < 0 { made == 0 } else { made == count }
 }
 
 /// Whether an angle agrees with the prices of its vertex and its face.
 fn angle_agrees(angle: u8, vertex: i32, face: i32) -> bool
-    ensures { IsTrue result ↔ ((angle < 4 → face ≤ℤ vertex) × (1 < angle → vertex ≤ℤ face)) }
+    ensures { IsTrue result ↔ IsAnglePriced angle vertex face }
 {
     match angle {
         0 | 1 => face <= vertex,
@@ -112,7 +122,7 @@ fn angle_agrees(angle: u8, vertex: i32, face: i32) -> bool
 
 /// Whether turns agree with the prices on both sides of their dart.
 fn crossing_agrees(turns: &[Turn], face: i32, across: i32) -> bool
-    ensures { IsTrue result ↔ ((pos 0 ≤ℤ (pos 1 +ℤ face -ℤ across)) × (0 < lefts turns.now → (pos 1 +ℤ face -ℤ across) ≡ pos 0)) }
+    ensures { IsTrue result ↔ AreTurnsPriced turns.now face across }
 {
     let reduced_cost = reduced_cost(face, across);
     if count_lefts(turns) == 0 {

@@ -1,16 +1,19 @@
 //! Orthogonal representations with the fewest bends (least shapes), by a flow of least cost (Tamassia 1987), also among those
-//! that keep edges straight.
+//! that keep what is given.
 
-ghost use Rattle.std.specs.Prelude.{◌≡◌, ◌+◌, ◌<◌, ◌≤◌, ◌++◌, [], ℕ, Bool, List, OnOk, IfOk, IfErr, length, map, replicate, slice_index, slice_index_or, vec_len, ◌^◌};
+ghost use Rattle.std.specs.Prelude.{◌≡◌, ◌+◌, ◌<◌, ◌≤◌, ◌++◌, nat_abs, None, OnOk, IfOk, IfErr, length, map, replicate, slice_index, slice_index_or, vec_len, ◌^◌};
 ghost use Rattle.std.specs.List.{range_with_len};
-ghost use Rattle.faces.specs.Planes.{darts, vertices};
+ghost use Rattle.faces.specs.Planes.{darts, vertices, reverse_dart};
+ghost use Rattle.networks.specs.Networks.{node_count};
 ghost use Rattle.networks.specs.Flow.{Solves, amounts, at_nodes};
-ghost use Rattle.flow_network.specs.FaceNet.{IsKeepingNet, IsSomeNetOf};
+ghost use Rattle.flow_network.specs.Given.{CanBeGiven, nothing_given, turns_given};
+ghost use Rattle.flow_network.specs.declared.given.TheConstants.{MAX_GIVEN_TURNS};
+ghost use Rattle.flow_network.specs.FaceNet.{IsKeepingNetOf};
 ghost use Rattle.ortho_rep.specs.declared.turn.TheConstants.{MAX_REPEATS};
-ghost use Rattle.ortho_rep.specs.OfFlow.{angles_of, strings_of};
+ghost use Rattle.ortho_rep.specs.OfFlow.{lefts_then_rights, angles_of, strings_of};
 ghost use Rattle.ortho_rep.specs.Repeats.{turns_in, AreRepeats, HaveShapes};
 ghost use Rattle.ortho_rep.specs.Representation.{IsShape, IsLeast};
-ghost use Rattle.ortho_rep.specs.Keeping.{IsLeastKeeping, HasNoneKeeping};
+ghost use Rattle.ortho_rep.specs.Keeping.{one_way, IsLeastKeeping, HasNoneKeeping};
 ghost use Rattle.ortho_rep.specs.Prices.{IsProof, IsProofKeeping};
 
 use crate::prices::Prices;
@@ -20,7 +23,7 @@ use crate::shape::Shape;
 use crate::turn::Turn;
 use common::emptied;
 use faces::Plane;
-use flow_network::FaceNet;
+use flow_network::{FaceNet, Given};
 use min_cost_flow::{SolveFault, Solved, solve_in};
 use std::alloc::{AllocError, Global};
 use std::mem;
@@ -58,65 +61,66 @@ pub fn least_shape_in(
     ensures least { IfOk result (λ found. IsLeast plane.now found.0) }
     ensures proof { IfOk result (λ found. IsProof plane.now found.0 found.1) }
 {
-    match least_shape_keeping_in(alloc, scratch, plane, &[]) {
+    match least_shape_keeping_in(alloc, scratch, plane, &Given::nothing()) {
         Ok(solution) => Ok(solution),
         Err(SolveFault::Memory) => Err(AllocError),
         Err(SolveFault::Infeasible) => unreachable!(),
     }
 }
 
-/// An orthogonal representation of fewest bends among those that keep marked edges straight, and prices that prove it.
+/// An orthogonal representation of fewest bends among those that keep what is given, and prices that prove it.
 ///
-/// An edge has no turns if one of its two darts is marked; darts past the end of the list are not marked. It is
-/// [`least_shape`] with nothing crossing these edges, and whatever a unit across them would gain. It reuses the scratch,
-/// as [`least_shape_in`]; after a refusal some of that may be lost, and the next call allocates it anew.
+/// It is [`least_shape`] with each given angle and the given turns of each edge as they are, whatever a unit there would
+/// gain. It reuses the scratch, as [`least_shape_in`]; after a refusal some of that may be lost, and the next call allocates
+/// it anew.
 ///
 /// # Errors
 ///
-/// `Infeasible` exactly if no representation keeps these edges straight, memory aside, and `Memory` if memory runs out
+/// `Infeasible` exactly if no representation keeps what is given, memory aside, and `Memory` if memory runs out
 /// for the network, its flow, the shape or the prices.
 pub fn least_shape_keeping_in(
     alloc: Global,
     scratch: &mut Scratch,
     plane: &Plane,
-    straight: &[bool],
+    given: &Given<'_>,
 ) -> Result<(Shape, Prices), SolveFault>
     ensures shape { IfOk result (λ found. IsShape plane.now found.0) }
-    ensures least { IfOk result (λ found. IsLeastKeeping plane.now straight.now found.0) }
-    ensures proof { IfOk result (λ found. IsProofKeeping plane.now straight.now found.0 found.1) }
-    ensures none { IfErr result (λ fault. fault ≡ SolveFault.Infeasible → HasNoneKeeping plane.now straight.now) }
-    ensures always { straight.now ≡ [] → IfErr result (λ fault. fault ≡ SolveFault.Memory) }
+    ensures least { IfOk result (λ found. IsLeastKeeping plane.now given.now found.0) }
+    ensures proof { IfOk result (λ found. IsProofKeeping plane.now given.now found.0 found.1) }
+    ensures none { IfErr result (λ fault. fault ≡ SolveFault.Infeasible → HasNoneKeeping plane.now given.now) }
+    ensures always { given.now ≡ nothing_given → IfErr result (λ fault. fault ≡ SolveFault.Memory) }
 {
-    // Only the proof needs this: `graph` says that the plane is one.
+    // Only the proof needs these: `graph` says that the plane is one, `is_nothing` that the lists can be given.
     let _graph = plane.graph();
-    let net = FaceNet::build_keeping_in(alloc, &mut scratch.net, plane, straight)?;
+    let _nothing = given.is_nothing();
+    let net = FaceNet::build_keeping_in(alloc, &mut scratch.net, plane, given)?;
     let solved = solve_in(alloc, &mut scratch.solver, net.network())?;
-    let made = shape_in(alloc, &mut scratch.lists, plane, &net, &solved)?;
+    let made = shape_in(alloc, &mut scratch.lists, plane, given, &net, &solved)?;
     solved.give_back(&mut scratch.solver);
     net.give_back(&mut scratch.net);
     Ok(made)
 }
 
-/// The representation that a flow of least cost is, and its prices, in the memory of these lists. It keeps the edges
-/// straight that are to stay so in the network.
+/// The representation that a flow of least cost is with what is given, and its prices, in the memory of these lists.
 pub(crate) fn shape_in(
     alloc: Global,
     lists: &mut ShapeLists,
     plane: &Plane,
+    given: &Given<'_>,
     net: &FaceNet,
     solved: &Solved,
 ) -> Result<(Shape, Prices), AllocError>
-    requires net { IsSomeNetOf plane.now net.now }
+    requires net { IsKeepingNetOf plane.now given.now net.now }
     requires solves { Solves net.now.network solved.now }
     ensures shape { IfOk result (λ found. IsShape plane.now found.0) }
-    ensures least { IfOk result (λ found. (marks : List Bool) → IsKeepingNet plane.now marks net.now.network
-        → IsLeastKeeping plane.now marks found.0) }
-    ensures proof { IfOk result (λ found. (marks : List Bool) → IsKeepingNet plane.now marks net.now.network
-        → IsProofKeeping plane.now marks found.0 found.1) }
+    ensures least { IfOk result (λ found. IsLeastKeeping plane.now given.now found.0) }
+    ensures proof { IfOk result (λ found. IsProofKeeping plane.now given.now found.0 found.1) }
 {
+    // Only the proof needs this: `is_nothing` says that the lists can be given.
+    let _nothing = given.is_nothing();
     let vertices = plane.graph().vertices();
     let lent = mem::replace(&mut lists.darts, Vec::new(alloc));
-    let darts = darts_in(lent, plane, net, solved)?;
+    let darts = darts_in(lent, plane, given, net, solved)?;
     let lent = mem::replace(&mut lists.prices, Vec::new(alloc));
     let prices = prices_in(lent, plane, net, solved)?;
     Ok((
@@ -133,55 +137,102 @@ fn crossing_flow(net: &FaceNet, solved: &Solved, dart: u16) -> u32
     solved.flow(net.crossing_arc(dart))
 }
 
-/// The angles and the turns of a flow, in the buffer of a list.
+/// The angles and the turns of a flow with what is given, in the buffer of a list.
 fn darts_in(
     lent: Vec<DartShape>,
     plane: &Plane,
+    given: &Given<'_>,
     net: &FaceNet,
     solved: &Solved,
 ) -> Result<Vec<DartShape>, AllocError>
-    requires net { IsSomeNetOf plane.now net.now }
+    requires can { CanBeGiven given.now.angles given.now.turns }
+    requires net { IsKeepingNetOf plane.now given.now net.now }
     requires solves { Solves net.now.network solved.now }
     ensures repeats { IfOk result (λ found. AreRepeats found.items) }
-    ensures flow { IfOk result (λ found. HaveShapes (angles_of (amounts solved.now.flow))
-        (strings_of plane.now (amounts solved.now.flow)) (darts plane.now) found.items) }
+    ensures flow { IfOk result (λ found. HaveShapes (angles_of given.now (amounts solved.now.flow))
+        (strings_of plane.now given.now (amounts solved.now.flow)) (darts plane.now) found.items) }
 {
     let darts = plane.graph().darts();
     let mut found = emptied(lent, usize::from(darts))?;
     for dart in 0..darts {
-        found.push(dart_shape(plane, net, solved, dart))?;
+        let angle = dart_angle(plane, given, net, solved, dart);
+        let (turn, count) = dart_turns(plane, given, net, solved, dart);
+        found.push(DartShape { angle, turn, count })?;
     }
     Ok(found)
 }
 
-/// The angle and the turns of a dart in a flow. No least flow uses an edge both ways, so they are all left turns or
-/// all right turns.
-fn dart_shape(plane: &Plane, net: &FaceNet, solved: &Solved, dart: u16) -> DartShape
-    requires net { IsSomeNetOf plane.now net.now }
+/// The angle of a dart: what is given, or else one right angle and what its corner arc carries.
+fn dart_angle(plane: &Plane, given: &Given<'_>, net: &FaceNet, solved: &Solved, dart: u16) -> u8
+    requires net { IsKeepingNetOf plane.now given.now net.now }
     requires solves { Solves net.now.network solved.now }
     requires within { dart < darts plane.now }
-    ensures angle { result.angle ≡ angles_of (amounts solved.now.flow) dart }
-    ensures turns { turns_in result ≡ strings_of plane.now (amounts solved.now.flow) dart }
-    ensures short { result.count ≤ MAX_REPEATS }
+    ensures { result ≡ angles_of given.now (amounts solved.now.flow) dart }
 {
-    // Only the proof needs this: `outer` says that there is a face.
-    let _outer = plane.outer();
-    let reverse = plane.graph().reverse(dart);
-    let angle = solved.flow(net.corner_arc(dart)) as u8 + 1;
+    match given.angle(dart) {
+        Some(angle) => angle,
+        None => solved.flow(net.corner_arc(dart)) as u8 + 1,
+    }
+}
+
+/// Which way a dart turns, and how often: what is given, or else what crosses its edge.
+fn dart_turns(
+    plane: &Plane,
+    given: &Given<'_>,
+    net: &FaceNet,
+    solved: &Solved,
+    dart: u16,
+) -> (Turn, u16)
+    requires can { CanBeGiven given.now.angles given.now.turns }
+    requires net { IsKeepingNetOf plane.now given.now net.now }
+    requires solves { Solves net.now.network solved.now }
+    requires within { dart < darts plane.now }
+    ensures turns { replicate result.1 result.0 ≡ strings_of plane.now given.now (amounts solved.now.flow) dart }
+    ensures short { result.1 ≤ MAX_REPEATS }
+{
+    match given.turns(plane, dart) {
+        Some(turns) => given_turns(turns),
+        None => flow_turns(plane, given, net, solved, dart),
+    }
+}
+
+/// Which way a dart turns whose turns are not given, and how often. No least flow crosses an edge both ways, so all are left
+/// turns or all are right turns.
+fn flow_turns(
+    plane: &Plane,
+    given: &Given<'_>,
+    net: &FaceNet,
+    solved: &Solved,
+    dart: u16,
+) -> (Turn, u16)
+    requires can { CanBeGiven given.now.angles given.now.turns }
+    requires net { IsKeepingNetOf plane.now given.now net.now }
+    requires solves { Solves net.now.network solved.now }
+    requires within { dart < darts plane.now }
+    requires free { turns_given plane.now given.now dart ≡ None }
+    ensures turns { replicate result.1 result.0 ≡ lefts_then_rights (amounts solved.now.flow (darts plane.now + dart))
+        (amounts solved.now.flow (darts plane.now + reverse_dart plane.now dart)) }
+    ensures short { result.1 ≤ MAX_REPEATS }
+{
+    let graph = plane.graph();
     let lefts = crossing_flow(net, solved, dart);
-    let rights = crossing_flow(net, solved, reverse);
     if lefts > 0 {
-        DartShape {
-            angle,
-            turn: Turn::Left,
-            count: lefts as u16,
-        }
+        return (Turn::Left, lefts as u16);
+    }
+    let rights = crossing_flow(net, solved, graph.reverse(dart));
+    (Turn::Right, rights as u16)
+}
+
+/// Which way given turns go, and how many they are.
+fn given_turns(turns: i32) -> (Turn, u16)
+    requires { nat_abs turns ≤ MAX_GIVEN_TURNS }
+    ensures turns { replicate result.1 result.0 ≡ one_way turns }
+    ensures short { result.1 ≤ MAX_REPEATS }
+{
+    if turns < 0 {
+        (Turn::Right, turns.unsigned_abs() as u16)
     } else {
-        DartShape {
-            angle,
-            turn: Turn::Right,
-            count: rights as u16,
-        }
+        (Turn::Left, turns.unsigned_abs() as u16)
     }
 }
 
@@ -192,7 +243,7 @@ fn prices_in(
     net: &FaceNet,
     solved: &Solved,
 ) -> Result<Vec<i32>, AllocError>
-    requires net { IsSomeNetOf plane.now net.now }
+    requires nodes { node_count net.now.network ≡ vertices plane.now + plane.now.faces }
     requires solves { Solves net.now.network solved.now }
     ensures { IfOk result (λ prices. prices.items
         ≡ map (at_nodes solved.now.potential) (range_with_len 0 (vertices plane.now + plane.now.faces))) }

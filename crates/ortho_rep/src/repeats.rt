@@ -89,8 +89,8 @@ impl Repeats {
     {
         let mut turns = 0;
         for i in 0..self.darts.len() {
-            turns += u64::from(self.darts[i].count);
+            turns += u32::from(self.darts[i].count);
         }
-        turns
+        u64::from(turns)
     }
 }

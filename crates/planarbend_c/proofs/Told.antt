@@ -1,18 +1,18 @@
 -- From what is told of a finding to what comes of a call.
-use Rattle.std.proofs.Common.{◌≡◌, ◌∙◌, ℕ, List, Bool, false, Option, Some, None, ap, is_some, sym}
+use Rattle.std.proofs.Common.{◌≡◌, ◌∙◌, ℕ, List, Bool, false, Option, Some, None, ap, inr, is_some, sym}
 use Rattle.common.specs.declared.choice.Choice.{Choice}
 use Rattle.common.specs.declared.drawing_kind.DrawingKind.{DrawingKind}
 use Rattle.planarbend_c.specs.declared.counts.Counts.{Counts}
 use Rattle.planarbend_c.specs.declared.outcome.Outcome.{Outcome}
-use Rattle.planarbend_c.specs.declared.outcome.Outcome.TheVariants.{Laid, Refused, NotARecord, Memory, Room, Argument, NoShape, NoEdge, NoOuter, Wide, Large}
+use Rattle.planarbend_c.specs.declared.outcome.Outcome.TheVariants.{Laid, Refused, NotARecord, Memory, Room, Argument, NoShape, NoEdge, NoOuter, Wide, Large, Conflict}
 use Rattle.planarbend_c.specs.declared.request.Request.{Request}
 use Rattle.planarbend_c.specs.Cuts.{CutModel}
 use Rattle.planarbend_c.specs.Sources.{Input, IsOneRecord, input_lists, input_of}
 use Rattle.planarbend_c.specs.Faults.{IsFault, IsFaultOf, IsKeepingFaultOf, IsUnparsed}
 use Rattle.planarbend_c.specs.Requests.{choice_in, drawing_in}
 use Rattle.planarbend_c.specs.Held.{ListsModel}
-use Rattle.planarbend_c.specs.Found.{Finding, IsAsAsked}
-use Rattle.planarbend_c.specs.Outcomes.{IsAnswerOf, IsOutcome, IsOutcomeKeeping, IsOutcomeOf, IsTold}
+use Rattle.planarbend_c.specs.Found.{Finding, IsAsAsked, IsFound}
+use Rattle.planarbend_c.specs.Outcomes.{IsAnswerOf, IsOutcomeKeeping, IsOutcomeOf, IsTold}
 
 -- what is found is an answer
 pub answer_of : (Is : Choice → List (List ℕ) → Finding → Type 0) (input : Input) (outer drawing : ℕ) (choice : Choice) (kind : Option DrawingKind) (found : Finding)
@@ -46,6 +46,7 @@ told Is Unkept input outer drawing found counts lists NoEdge answer is = absurd 
 told Is Unkept input outer drawing found counts lists NoOuter answer is = absurd is
 told Is Unkept input outer drawing found counts lists Wide answer is = absurd is
 told Is Unkept input outer drawing found counts lists Large answer is = absurd is
+told Is Unkept input outer drawing found counts lists Conflict answer is = absurd is
 
 -- what is shown of the lists of a record is shown of the input
 pub of_record : (Shows : List (List ℕ) → Outcome → Type 0) (input : Input) (it : Outcome) → IsOneRecord input → (Shows (input_lists input) NotARecord → ⊥) → (Shows (input_lists input) Large → ⊥)
@@ -61,10 +62,11 @@ of_record Shows input NoEdge is_record never never_large shown = (is_record, sho
 of_record Shows input NoOuter is_record never never_large shown = (is_record, shown)
 of_record Shows input Wide is_record never never_large shown = (is_record, shown)
 of_record Shows input Large is_record never never_large shown = absurd (never_large shown)
+of_record Shows input Conflict is_record never never_large shown = (is_record, shown)
 
 -- a refusal is what comes of the call
 pub refused_told : (input : Input) (outer drawing : ℕ) (counts : Counts) (lists : ListsModel) (it : Outcome)
-    → IsFaultOf IsFault input it → IsOutcome input outer drawing counts lists it
+    → IsFaultOf IsFault input it → IsOutcomeOf IsFound (λ _. ⊥) input outer drawing counts lists it
 refused_told input outer drawing counts lists (Refused rule) shown = shown
 refused_told input outer drawing counts lists NotARecord shown = shown
 refused_told input outer drawing counts lists Memory shown = tt
@@ -76,6 +78,7 @@ refused_told input outer drawing counts lists NoEdge shown = absurd shown.1
 refused_told input outer drawing counts lists NoOuter shown = absurd shown.1
 refused_told input outer drawing counts lists Wide shown = absurd shown.1
 refused_told input outer drawing counts lists Large shown = shown
+refused_told input outer drawing counts lists Conflict shown = absurd shown.1
 
 -- the same where conditions are to be kept
 pub unlaid_told : (request : Request) (choice : Choice) (counts : Counts) (lists : ListsModel) (cut : CutModel) (it : Outcome)
@@ -91,7 +94,8 @@ unlaid_told request choice counts lists cut Wide asked shown = record { choice =
 unlaid_told request choice counts lists cut Large asked shown = shown
 unlaid_told request choice counts lists cut Laid asked shown = absurd shown.1
 unlaid_told request choice counts lists cut Room asked shown = absurd shown.1
-unlaid_told request choice counts lists cut Argument asked shown = absurd shown.1
+unlaid_told request choice counts lists cut Argument asked shown = inr (record { choice = choice; choice_asked = asked; is_record = shown.0; shown = shown.1 })
+unlaid_told request choice counts lists cut Conflict asked shown = record { choice = choice; choice_asked = asked; is_record = shown.0; shown = shown.1 }
 
 -- an input that is not parsed is not laid out
 pub unparsed_anyhow : (Shows : List (List ℕ) → Outcome → Type 0) (input : Input) (it : Outcome) → IsUnparsed input it → IsFaultOf Shows input it
@@ -106,6 +110,7 @@ unparsed_anyhow Shows input NoEdge shown = absurd shown.1
 unparsed_anyhow Shows input NoOuter shown = absurd shown.1
 unparsed_anyhow Shows input Wide shown = absurd shown.1
 unparsed_anyhow Shows input Large shown = shown
+unparsed_anyhow Shows input Conflict shown = absurd shown.1
 
 -- whether a kind of drawing is asked for
 abbrev is_drawn_in : Option (Option DrawingKind) → Bool

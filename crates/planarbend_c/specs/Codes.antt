@@ -2,7 +2,7 @@
 use Rattle.std.specs.Prelude.{ℕ}
 use Rattle.embedding.specs.Rules.{rule_number}
 use Rattle.planarbend_c.specs.declared.outcome.Outcome.{Outcome}
-use Rattle.planarbend_c.specs.declared.outcome.Outcome.TheVariants.{Laid, Refused, NotARecord, Memory, Room, Argument, NoShape, NoEdge, NoOuter, Wide, Large}
+use Rattle.planarbend_c.specs.declared.outcome.Outcome.TheVariants.{Laid, Refused, NotARecord, Memory, Room, Argument, NoShape, NoEdge, NoOuter, Wide, Large, Conflict}
 
 abbrev pub code_of : Outcome → ℕ
 code_of Laid = 0
@@ -17,3 +17,4 @@ code_of NoEdge = 14
 code_of NoOuter = 15
 code_of Wide = 16
 code_of Large = 17
+code_of Conflict = 18

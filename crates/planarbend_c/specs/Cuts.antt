@@ -1,6 +1,6 @@
--- What C is told of why no shape keeps the edges straight.
+-- What C is told of why no shape keeps the angles and turns.
 use Rattle.std.specs.Prelude.{◌≡◌, ℕ, ◌<◌, Bool, List, length, slice_index, if◌then◌else◌}
-use Rattle.flow_network.specs.Straight.{is_marked}
+use Rattle.flow_network.specs.Marks.{is_marked}
 use Rattle.conditions.specs.declared.fault.Unkept.{Unkept}
 use Rattle.planarbend_c.specs.declared.cut.CutLists.{CutLists}
 

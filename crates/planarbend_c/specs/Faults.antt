@@ -1,5 +1,5 @@
 -- Why a graph, given by its neighbour lists, is not laid out, and why what a caller gives is not.
-use Rattle.std.specs.Prelude.{◌≡◌, ℕ, List, ⊤}
+use Rattle.std.specs.Prelude.{◌≡◌, ◌⊎◌, ℕ, List, ⊤}
 use Rattle.embedding.specs.Rules.{FirstBroken}
 use Rattle.common.specs.declared.choice.Choice.{Choice}
 use Rattle.faces.specs.Planes.{PlaneModel, IsPlane}
@@ -15,7 +15,7 @@ use Rattle.answers.specs.Kept.{IsUnkept}
 use Rattle.planarbend_c.specs.Cuts.{CutModel, HoldsCut}
 use Rattle.planarbend_c.specs.Sources.{Input, IsOneRecord, IsTooLarge, input_lists}
 use Rattle.planarbend_c.specs.declared.outcome.Outcome.{Outcome}
-use Rattle.planarbend_c.specs.declared.outcome.Outcome.TheVariants.{Refused, NotARecord, Memory, NoShape, NoEdge, NoOuter, Wide, Large}
+use Rattle.planarbend_c.specs.declared.outcome.Outcome.TheVariants.{Refused, NotARecord, Memory, Argument, NoShape, NoEdge, NoOuter, Wide, Large, Conflict}
 
 -- what an outcome shows of neighbour lists that are not laid out
 abbrev pub IsFault : List (List ℕ) → Outcome → Type 0
@@ -36,7 +36,7 @@ pub record IsTooWide (conditions : Conditions) (choice : Choice) (g : List (List
   pub kept : IsKept conditions choice plane shape prices
   pub shown : IsCause plane shape cause.Wide
 
--- no shape keeps the edges straight, and the vertices and faces that show it stand in the lists of the cut
+-- no shape keeps the angles and turns, and the vertices and faces that show it stand in the lists of the cut
 pub record HasCut (conditions : Conditions) (choice : Choice) (g : List (List ℕ)) (cut : CutModel) : Type 0 where
   pub why : Unkept
   pub shown : IsUnkept conditions choice g (keep.NoShape why)
@@ -46,6 +46,9 @@ pub record HasCut (conditions : Conditions) (choice : Choice) (g : List (List �
 abbrev pub IsKeepingFault : Conditions → Choice → List (List ℕ) → CutModel → Outcome → Type 0
 IsKeepingFault conditions choice g cut NoShape = HasCut conditions choice g cut
 IsKeepingFault conditions choice g cut NoEdge = IsUnkept conditions choice g keep.NoEdge
+IsKeepingFault conditions choice g cut Conflict = IsUnkept conditions choice g keep.Conflict
+-- some angle is none, or there are more turns than can be given
+IsKeepingFault conditions choice g cut Argument = IsUnkept conditions choice g keep.NoAngle ⊎ IsUnkept conditions choice g keep.TooManyTurns
 IsKeepingFault conditions choice g cut NoOuter = IsUnkept conditions choice g keep.NoOuter
 IsKeepingFault conditions choice g cut Wide = IsTooWide conditions choice g
 IsKeepingFault conditions choice g cut outcome = IsFault g outcome

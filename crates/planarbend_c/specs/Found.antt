@@ -17,7 +17,7 @@ use Rattle.conditions.specs.declared.conditions.Conditions.{Conditions}
 use Rattle.conditions.specs.Chosen.{IsKept}
 use Rattle.entries.specs.Lengths.{IsQuick}
 use Rattle.answers.specs.Drawings.{IsDrawing}
-use Rattle.answers.specs.Kept.{AreDrawnStraight, AreKeptStraight}
+use Rattle.answers.specs.Kept.{AreDrawnStraight, KeepsAsked}
 use Rattle.planarbend_c.specs.declared.counts.Counts.{Counts}
 use Rattle.planarbend_c.specs.declared.laid.Layout.{Layout}
 use Rattle.planarbend_c.specs.declared.lists.DartTurns.{DartTurns}
@@ -82,24 +82,24 @@ abbrev pub AreStraightIfAsked : PlaneModel → ShapeModel → Option PointsModel
 AreStraightIfAsked plane shape None = ⊤
 AreStraightIfAsked plane shape (Some points) = AreDrawnStraight plane shape points
 
--- no edge that is to stay straight has corners, where a drawing is asked for
-abbrev pub AreKeptStraightIfAsked : Conditions → PlaneModel → Option PointsModel → Type 0
-AreKeptStraightIfAsked conditions plane None = ⊤
-AreKeptStraightIfAsked conditions plane (Some points) = AreKeptStraight conditions plane points
+-- the drawing has the angles and turns that are asked for, where a drawing is asked for
+abbrev pub KeepsAskedIfDrawn : Conditions → PlaneModel → Option PointsModel → Type 0
+KeepsAskedIfDrawn conditions plane None = ⊤
+KeepsAskedIfDrawn conditions plane (Some points) = KeepsAsked conditions plane points
 
 -- it is of a graph with these neighbour lists under a choice of the outer face and conditions
 pub record IsFoundKeeping (conditions : Conditions) (choice : Choice) (g : List (List ℕ)) (found : Finding) : Type 0 where
   pub lists : found.plane.lists ≡ g
   pub rules : IsPlane found.plane
   -- the outer face is the chosen one of those that may be outside, and the shape has the fewest bends of all that keep
-  -- the edges straight, as the prices prove
+  -- the angles and turns, as the prices prove
   pub kept : IsKept conditions choice found.plane found.shape found.prices
   -- the points draw the shape
   pub drawn : IsDrawnIfAsked found.plane found.shape found.points
   -- if the shape is for a quick drawing, they are one
   pub quick : found.kind ≡ Quick → IsQuickIfAsked found.plane found.shape found.points
   pub straight : AreStraightIfAsked found.plane found.shape found.points
-  pub kept_straight : AreKeptStraightIfAsked conditions found.plane found.points
+  pub keeps : KeepsAskedIfDrawn conditions found.plane found.points
 
 -- ---- how it is told
 

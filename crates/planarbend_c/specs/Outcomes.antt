@@ -9,8 +9,8 @@ use Rattle.planarbend_c.specs.Sources.{Input, IsOneRecord, IsTooLarge, input_lis
 use Rattle.planarbend_c.specs.Faults.{IsKeepingFault}
 use Rattle.planarbend_c.specs.declared.counts.Counts.{Counts}
 use Rattle.planarbend_c.specs.declared.outcome.Outcome.{Outcome}
-use Rattle.planarbend_c.specs.declared.outcome.Outcome.TheVariants.{Laid, Refused, NotARecord, Memory, Room, Argument, NoShape, NoEdge, NoOuter, Wide, Large}
-use Rattle.planarbend_c.specs.Requests.{choice_in, drawing_in}
+use Rattle.planarbend_c.specs.declared.outcome.Outcome.TheVariants.{Laid, Refused, NotARecord, Memory, Room, Argument, NoShape, NoEdge, NoOuter, Wide, Large, Conflict}
+use Rattle.planarbend_c.specs.Requests.{AsksNothing, choice_in, drawing_in}
 use Rattle.planarbend_c.specs.Held.{ListsModel}
 use Rattle.planarbend_c.specs.Found.{Finding, IsAsAsked, IsFound, IsFoundKeeping, AreCounts, HoldFinding, HaveRoom}
 
@@ -41,8 +41,8 @@ pub record LacksRoom (Is : Choice → List (List ℕ) → Finding → Type 0) (i
   pub short : ¬ HaveRoom (is_some found.points) counts lists
 
 -- no such outer face can be asked for, or no such drawing
-abbrev pub AsksNothing : ℕ → ℕ → Type 0
-AsksNothing outer drawing = (choice_in outer ≡ None) ⊎ (drawing_in drawing ≡ None)
+abbrev pub IsUnknown : ℕ → ℕ → Type 0
+IsUnknown outer drawing = (choice_in outer ≡ None) ⊎ (drawing_in drawing ≡ None)
 
 -- what an outcome shows, where `Unkept` says what is shown where conditions are not kept
 abbrev pub IsOutcomeOf : (Choice → List (List ℕ) → Finding → Type 0) → (Outcome → Type 0) → Input → ℕ → ℕ → Counts → ListsModel → Outcome → Type 0
@@ -53,17 +53,19 @@ IsOutcomeOf Is Unkept input outer drawing counts lists NotARecord = (¬ IsOneRec
 -- nothing is said
 IsOutcomeOf Is Unkept input outer drawing counts lists Memory = ⊤
 IsOutcomeOf Is Unkept input outer drawing counts lists Room = LacksRoom Is input outer drawing counts lists
-IsOutcomeOf Is Unkept input outer drawing counts lists Argument = AsksNothing outer drawing
+IsOutcomeOf Is Unkept input outer drawing counts lists Argument = IsUnknown outer drawing ⊎ Unkept Argument
 IsOutcomeOf Is Unkept input outer drawing counts lists NoShape = Unkept NoShape
 IsOutcomeOf Is Unkept input outer drawing counts lists NoEdge = Unkept NoEdge
 IsOutcomeOf Is Unkept input outer drawing counts lists NoOuter = Unkept NoOuter
 IsOutcomeOf Is Unkept input outer drawing counts lists Wide = Unkept Wide
 -- the number of vertices is above the maximum
 IsOutcomeOf Is Unkept input outer drawing counts lists Large = IsTooLarge input
+IsOutcomeOf Is Unkept input outer drawing counts lists Conflict = Unkept Conflict
 
--- without conditions `NoShape`, `NoEdge`, `NoOuter` and `Wide` do not come
-abbrev pub IsOutcome : Input → ℕ → ℕ → Counts → ListsModel → Outcome → Type 0
-IsOutcome input outer drawing counts lists outcome = IsOutcomeOf IsFound (λ _. ⊥) input outer drawing counts lists outcome
+-- without conditions nothing is unkept
+abbrev pub IsOutcomePlain : Request → Counts → ListsModel → Outcome → Type 0
+IsOutcomePlain request counts lists outcome =
+    IsOutcomeOf IsFound (λ _. ⊥) (input_of request.source) request.outer request.drawing counts lists outcome
 
 -- a choice that is asked for, and what is shown of the record under it
 pub record IsUnlaid (request : Request) (cut : CutModel) (outcome : Outcome) : Type 0 where
@@ -76,6 +78,11 @@ pub record IsUnlaid (request : Request) (cut : CutModel) (outcome : Outcome) : T
 abbrev pub IsOutcomeKeeping : Request → Counts → ListsModel → CutModel → Outcome → Type 0
 IsOutcomeKeeping request counts lists cut outcome =
     IsOutcomeOf (IsFoundKeeping request.conditions) (IsUnlaid request cut) (input_of request.source) request.outer request.drawing counts lists outcome
+
+-- what an outcome shows of a request
+pub record IsOutcome (request : Request) (counts : Counts) (lists : ListsModel) (cut : CutModel) (outcome : Outcome) : Type 0 where
+  pub plain : AsksNothing request.conditions → IsOutcomePlain request counts lists outcome
+  pub keeping : ¬ AsksNothing request.conditions → IsOutcomeKeeping request counts lists cut outcome
 
 -- what an outcome shows of a finding that is told to C
 abbrev pub IsTold : Finding → Counts → ListsModel → Outcome → Type 0

@@ -1,9 +1,10 @@
--- The numbers by which C asks for an outer face and a drawing.
-use Rattle.std.specs.Prelude.{ℕ, zero, suc, Option, Some, None}
+-- What C asks for: an outer face and a drawing, by numbers, and conditions.
+use Rattle.std.specs.Prelude.{◌≡◌, ℕ, zero, suc, [], Option, Some, None}
 use Rattle.common.specs.declared.choice.Choice.{Choice}
 use Rattle.common.specs.declared.choice.Choice.TheVariants.{First, Best}
 use Rattle.common.specs.declared.drawing_kind.DrawingKind.{DrawingKind}
 use Rattle.common.specs.declared.drawing_kind.DrawingKind.TheVariants.{Quick, Short}
+use Rattle.conditions.specs.declared.conditions.Conditions.{Conditions}
 
 -- the choice of an outer face with this number
 abbrev pub choice_in : ℕ → Option Choice
@@ -22,3 +23,9 @@ drawing_in (suc (suc (suc _))) = None
 abbrev pub shape_kind : Option DrawingKind → DrawingKind
 shape_kind (Some kind) = kind
 shape_kind None = Quick
+
+-- there are no conditions
+pub record AsksNothing (conditions : Conditions) : Type 0 where
+  pub turns : conditions.turns.now ≡ []
+  pub angles : conditions.angles.now ≡ []
+  pub inner : conditions.inner.now ≡ []

@@ -1,4 +1,4 @@
-//! Why no shape keeps the edges straight, in lists for C.
+//! Why no shape keeps the angles and turns, in lists for C.
 
 ghost use Rattle.std.specs.Prelude.{◌≡◌, length};
 ghost use Rattle.planarbend_c.specs.Cuts.{HoldsCut, HoldsMarks, cut_contents};
@@ -6,7 +6,7 @@ ghost use Rattle.planarbend_c.specs.Left.{AreAsLong};
 
 use conditions::Unkept;
 
-/// The output lists of a call in which no shape keeps the edges straight: marks of a cut that proves it.
+/// The output lists of a call in which no shape keeps the angles and turns: marks of a cut that proves it.
 ///
 /// The cut is a set of vertices and faces that turn more than can leave it.
 ///

@@ -1,4 +1,4 @@
-//! The calls that C makes.
+//! The call that C makes.
 
 ghost use Rattle.std.specs.Prelude.{◌≡◌, false, Some, None, is_some};
 ghost use Rattle.planarbend_c.specs.declared.outcome.Outcome.{Outcome};
@@ -7,9 +7,8 @@ ghost use Rattle.planarbend_c.specs.Held.{contents};
 ghost use Rattle.planarbend_c.specs.Cuts.{cut_contents};
 ghost use Rattle.planarbend_c.specs.Found.{AreCounts, HaveRoom, HoldFinding, IsDrawnIfAsked, finding_of};
 ghost use Rattle.planarbend_c.specs.Requests.{drawing_in};
-ghost use Rattle.planarbend_c.specs.Sources.{input_of};
 ghost use Rattle.planarbend_c.specs.Left.{AreAsLong, AreSameAfter, HaveSamePoints};
-ghost use Rattle.planarbend_c.specs.Outcomes.{IsOutcome, IsOutcomeKeeping, IsTold};
+ghost use Rattle.planarbend_c.specs.Outcomes.{IsOutcome, IsOutcomeKeeping, IsOutcomePlain, IsTold};
 
 use crate::counts::{Counts, counts_of};
 use crate::cut::CutLists;
@@ -19,40 +18,17 @@ use crate::layout::lay_out;
 use crate::lists::Lists;
 use crate::outcome::Outcome;
 use crate::points::{put_corner_starts, put_corners, put_points};
-use crate::request::{Request, choice_of, drawing_of};
+use crate::request::{Request, asks_nothing, choice_of, drawing_of};
 use crate::shapes::{put_angles, put_face_prices, put_turns, put_vertex_prices};
-use crate::source::Source;
 use std::alloc::Global;
 
-/// Lays out the record that the source is, and returns the code of the outcome.
+/// Lays out the record of a request, under its conditions if it has any, and returns the code of the outcome.
 ///
-/// `outer` and `drawing` are the numbers of an outer face and of a kind of drawing; `planarbend.h` says what each
-/// number means. The counts are written if the record is laid out, and the lists too if each has room.
+/// The shape has the fewest bends of all that keep the conditions. `planarbend.h` says what each number of an outer face and
+/// of a drawing means. The counts are written if the record is laid out, and the lists too if each has room. If no shape
+/// keeps the angles and turns, the cut is written instead.
 #[unsafe(no_mangle)]
 pub extern "C" fn planarbend_c_layout(
-    alloc: Global,
-    source: &Source<'_>,
-    outer: u32,
-    drawing: u32,
-    counts: &mut Counts,
-    lists: &mut Lists<'_>,
-) -> u32
-    ensures outcome { (outcome : Outcome) × (result ≡ code_of outcome)
-        × IsOutcome (input_of source.now) outer drawing counts.new (contents lists.new) outcome }
-    ensures refused { ¬ (result ≡ code_of Outcome.Laid) → contents lists.new ≡ contents lists.old }
-    ensures rest { AreSameAfter counts.new (contents lists.old) (contents lists.new) }
-    ensures undrawn { drawing_in drawing ≡ Some None → HaveSamePoints (contents lists.old) (contents lists.new) }
-    ensures uncounted { ¬ (result ≡ code_of Outcome.Laid) → ¬ (result ≡ code_of Outcome.Room) → counts.new ≡ counts.old }
-{
-    answer(alloc, source, outer, drawing, counts, lists).code()
-}
-
-/// Lays out the record of a request under its conditions; returns the code of the outcome.
-///
-/// What is written is as for [`planarbend_c_layout`]; the shape has the fewest bends of all that keep the conditions.
-/// If no shape keeps the edges straight, the cut is written instead.
-#[unsafe(no_mangle)]
-pub extern "C" fn planarbend_c_layout_keeping(
     alloc: Global,
     request: &Request<'_>,
     counts: &mut Counts,
@@ -60,7 +36,7 @@ pub extern "C" fn planarbend_c_layout_keeping(
     cut: &mut CutLists<'_>,
 ) -> u32
     ensures outcome { (outcome : Outcome) × (result ≡ code_of outcome)
-        × IsOutcomeKeeping request.now counts.new (contents lists.new) (cut_contents cut.new) outcome }
+        × IsOutcome request.now counts.new (contents lists.new) (cut_contents cut.new) outcome }
     ensures refused { ¬ (result ≡ code_of Outcome.Laid) → contents lists.new ≡ contents lists.old }
     ensures rest { AreSameAfter counts.new (contents lists.old) (contents lists.new) }
     ensures undrawn { drawing_in request.now.drawing ≡ Some None → HaveSamePoints (contents lists.old) (contents lists.new) }
@@ -68,10 +44,33 @@ pub extern "C" fn planarbend_c_layout_keeping(
     ensures uncut { ¬ (result ≡ code_of Outcome.NoShape) → cut_contents cut.new ≡ cut_contents cut.old }
     ensures cut_room { AreAsLong (cut_contents cut.old) (cut_contents cut.new) }
 {
-    answer_keeping(alloc, request, counts, lists, cut).code()
+    answer(alloc, request, counts, lists, cut).code()
 }
 
 /// Lays out the record as requested; returns the outcome.
+fn answer(
+    alloc: Global,
+    request: &Request<'_>,
+    counts: &mut Counts,
+    lists: &mut Lists<'_>,
+    cut: &mut CutLists<'_>,
+) -> Outcome
+    ensures outcome { IsOutcome request.now counts.new (contents lists.new) (cut_contents cut.new) result }
+    ensures refused { ¬ (result ≡ Outcome.Laid) → contents lists.new ≡ contents lists.old }
+    ensures rest { AreSameAfter counts.new (contents lists.old) (contents lists.new) }
+    ensures undrawn { drawing_in request.now.drawing ≡ Some None → HaveSamePoints (contents lists.old) (contents lists.new) }
+    ensures uncounted { ¬ (result ≡ Outcome.Laid) → ¬ (result ≡ Outcome.Room) → counts.new ≡ counts.old }
+    ensures uncut { ¬ (result ≡ Outcome.NoShape) → cut_contents cut.new ≡ cut_contents cut.old }
+    ensures cut_room { AreAsLong (cut_contents cut.old) (cut_contents cut.new) }
+{
+    if asks_nothing(&request.conditions) {
+        answer_plain(alloc, request, counts, lists)
+    } else {
+        answer_keeping(alloc, request, counts, lists, cut)
+    }
+}
+
+/// Lays out the record under the conditions of the request; returns the outcome.
 fn answer_keeping(
     alloc: Global,
     request: &Request<'_>,
@@ -106,28 +105,26 @@ fn answer_keeping(
     }
 }
 
-/// Lays out the record; returns the outcome.
-fn answer(
+/// Lays out the record without conditions; returns the outcome.
+fn answer_plain(
     alloc: Global,
-    source: &Source<'_>,
-    outer: u32,
-    drawing: u32,
+    request: &Request<'_>,
     counts: &mut Counts,
     lists: &mut Lists<'_>,
 ) -> Outcome
-    ensures outcome { IsOutcome (input_of source.now) outer drawing counts.new (contents lists.new) result }
+    ensures outcome { IsOutcomePlain request.now counts.new (contents lists.new) result }
     ensures refused { ¬ (result ≡ Outcome.Laid) → contents lists.new ≡ contents lists.old }
     ensures rest { AreSameAfter counts.new (contents lists.old) (contents lists.new) }
-    ensures undrawn { drawing_in drawing ≡ Some None → HaveSamePoints (contents lists.old) (contents lists.new) }
+    ensures undrawn { drawing_in request.now.drawing ≡ Some None → HaveSamePoints (contents lists.old) (contents lists.new) }
     ensures uncounted { ¬ (result ≡ Outcome.Laid) → ¬ (result ≡ Outcome.Room) → counts.new ≡ counts.old }
 {
-    let Some(choice) = choice_of(outer) else {
+    let Some(choice) = choice_of(request.outer) else {
         return Outcome::Argument;
     };
-    let Some(kind) = drawing_of(drawing) else {
+    let Some(kind) = drawing_of(request.drawing) else {
         return Outcome::Argument;
     };
-    match lay_out(alloc, source, choice, kind) {
+    match lay_out(alloc, &request.source, choice, kind) {
         Ok(layout) => tell(&layout, counts, lists),
         Err(outcome) => outcome,
     }

@@ -11,7 +11,7 @@ ghost use Rattle.answers.specs.Kept.{IsKeptPlane, IsUnkept};
 ghost use Rattle.planarbend_c.specs.declared.outcome.Outcome.{Outcome};
 ghost use Rattle.planarbend_c.specs.Cuts.{cut_contents};
 ghost use Rattle.planarbend_c.specs.Left.{AreAsLong};
-ghost use Rattle.planarbend_c.specs.Found.{AreKeptStraightIfAsked, AreStraightIfAsked, IsAsAsked, IsDrawnIfAsked, IsFoundKeeping, IsQuickIfAsked, finding, finding_of};
+ghost use Rattle.planarbend_c.specs.Found.{AreStraightIfAsked, IsAsAsked, IsDrawnIfAsked, IsFoundKeeping, IsQuickIfAsked, KeepsAskedIfDrawn, finding, finding_of};
 ghost use Rattle.planarbend_c.specs.Faults.{IsKeepingFault, IsKeepingFaultOf};
 ghost use Rattle.planarbend_c.specs.Sources.{IsOneRecord, input_lists, input_of, parsed_lists};
 
@@ -31,7 +31,7 @@ use std::alloc::Global;
 
 /// The layout that keeps conditions of the record that the source is, with this drawing or none.
 ///
-/// If no shape keeps the edges straight, the cut is written.
+/// If no shape keeps the angles and turns, the cut is written.
 pub(crate) fn lay_out_keeping(
     alloc: Global,
     source: &Source<'_>,
@@ -106,7 +106,7 @@ fn laid_kept(kept: KeptPlane, drawing: Option<Points>) -> Layout
 }
 
 /// The outcome of a call if the plane of a record has no shape that keeps the conditions for this reason. If none keeps
-/// the edges straight, the cut is written.
+/// the angles and turns, the cut is written.
 fn unkept(fault: KeepFault, cut: &mut CutLists<'_>) -> Outcome
     ensures told { (conditions : Conditions) (choice : Choice) (g : List (List ℕ))
         → IsUnkept conditions choice g fault → IsKeepingFault conditions choice g (cut_contents cut.new) result }
@@ -118,7 +118,10 @@ fn unkept(fault: KeepFault, cut: &mut CutLists<'_>) -> Outcome
             put_cut(cut, &why);
             Outcome::NoShape
         }
+        KeepFault::NoAngle => Outcome::Argument,
         KeepFault::NoEdge => Outcome::NoEdge,
+        KeepFault::Conflict => Outcome::Conflict,
+        KeepFault::TooManyTurns => Outcome::Argument,
         KeepFault::NoOuter => Outcome::NoOuter,
         KeepFault::Memory => Outcome::Memory,
     }
@@ -135,7 +138,7 @@ fn drawn_keeping(
     ensures straight { IfOk result (AreStraightIfAsked kept.now.plane kept.now.shape) }
     ensures kept { IfOk result (λ drawing. (conditions : Conditions) (choice : Choice)
         → IsKept conditions choice kept.now.plane kept.now.shape kept.now.prices
-        → AreKeptStraightIfAsked conditions kept.now.plane drawing) }
+        → KeepsAskedIfDrawn conditions kept.now.plane drawing) }
     ensures quick { kept.now.drawing_kind ≡ DrawingKind.Quick
         → IfOk result (IsQuickIfAsked kept.now.plane kept.now.shape) }
     ensures asked { IfOk result (λ drawing. is_some drawing ≡ is_some kind) }

@@ -1,5 +1,5 @@
-//! The calls that C makes. A call answers one record of planar_code and writes what it finds into lists that the caller
-//! owns. It keeps nothing from call to call, starts no thread, and frees all memory that it takes before it returns.
+//! The call that C makes. It answers one record of planar_code and writes what it finds into lists that the caller owns. It
+//! keeps nothing from call to call, starts no thread, and frees all memory that it takes before it returns.
 #![tactic(auto)]
 
 mod counts;
@@ -18,7 +18,7 @@ mod source;
 
 pub use counts::Counts;
 pub use cut::CutLists;
-pub use export::{planarbend_c_layout, planarbend_c_layout_keeping};
+pub use export::planarbend_c_layout;
 pub use lists::{DartTurns, GridPoint, Lists};
 pub use request::Request;
 pub use source::Source;

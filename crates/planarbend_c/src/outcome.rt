@@ -19,9 +19,9 @@ pub(crate) enum Outcome {
     Memory,
     /// The record is laid out, but some list has room for less than there is. The counts are written.
     Room,
-    /// No such outer face or drawing can be asked for.
+    /// No such outer face or drawing can be asked for, no such angle, or not as many turns.
     Argument,
-    /// No shape with the outer face that was asked for keeps the edges straight.
+    /// No shape with the outer face that was asked for keeps the angles and turns.
     NoShape,
     /// Two vertices that are named are not adjacent.
     NoEdge,
@@ -31,6 +31,8 @@ pub(crate) enum Outcome {
     Wide,
     /// The entries begin with a number of vertices above the maximum.
     Large,
+    /// Two conditions on one angle, or on one edge, differ.
+    Conflict,
 }
 
 impl Outcome {
@@ -50,6 +52,7 @@ impl Outcome {
             Outcome::NoOuter => 15,
             Outcome::Wide => 16,
             Outcome::Large => 17,
+            Outcome::Conflict => 18,
         }
     }
 }

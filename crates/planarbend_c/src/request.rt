@@ -1,13 +1,13 @@
 //! How a record is to be laid out.
 
-ghost use Rattle.std.specs.Prelude.{◌≡◌};
-ghost use Rattle.planarbend_c.specs.Requests.{choice_in, drawing_in, shape_kind};
+ghost use Rattle.std.specs.Prelude.{◌≡◌, ◌↔◌, IsTrue};
+ghost use Rattle.planarbend_c.specs.Requests.{AsksNothing, choice_in, drawing_in, shape_kind};
 
 use crate::source::Source;
 use common::{Choice, DrawingKind};
 use conditions::Conditions;
 
-/// What a call is asked for: a record, the numbers of an outer face and of a kind of drawing, and the conditions to keep.
+/// What a call is asked for: a record, the numbers of an outer face and of a kind of drawing, and conditions to keep.
 #[repr(C)]
 #[derive(Clone, Copy)]
 pub struct Request<'a> {
@@ -15,6 +15,13 @@ pub struct Request<'a> {
     pub outer: u32,
     pub drawing: u32,
     pub conditions: Conditions<'a>,
+}
+
+/// Whether there are no conditions.
+pub(crate) fn asks_nothing(conditions: &Conditions<'_>) -> bool
+    ensures { IsTrue result ↔ AsksNothing conditions.now }
+{
+    conditions.turns.is_empty() && conditions.angles.is_empty() && conditions.inner.is_empty()
 }
 
 /// The outer face with this number: 0 the face with the most darts, 1 the one that minimises bends.

@@ -4,7 +4,7 @@ use crate::layouts::{REPORT, UNREAD};
 use crate::shared::{Row, check_failed_write, check_rows, check_said, make_file, words_of};
 use test_tools::records::{EDGE, HEADER, TRIANGLE};
 
-const VERSION: &str = "planarbend 1.0.0\ntoolchain rattle-kit-13 logic dac8208d650f15bf\n";
+const VERSION: &str = "planarbend 2.0.0\ntoolchain rattle-kit-13 logic dac8208d650f15bf\n";
 
 /// The option `--version` prints the version if it comes first.
 #[test]

@@ -9,11 +9,12 @@ use Rattle.embedding.specs.Faces.{HasFaces}
 use Rattle.embedding.specs.Rules.{Breaks, KeepsBefore}
 use Rattle.common.specs.declared.choice.Choice.{Choice}
 use Rattle.common.specs.declared.choice.Choice.TheVariants.{First, Best}
-use Rattle.faces.specs.Planes.{PlaneModel, IsPlane, face_at, with_outer}
+use Rattle.faces.specs.Planes.{PlaneModel, IsPlane, darts, head, reverse_dart, face_at, with_outer}
 use Rattle.ortho_rep.specs.declared.turn.Turn.{Turn}
 use Rattle.ortho_rep.specs.Shapes.{ShapeModel, angle_at, turns_at}
 use Rattle.ortho_rep.specs.Points.{PointsModel}
-use Rattle.ortho_rep.specs.Prices.{PricesModel, IsProof}
+use Rattle.ortho_rep.specs.Prices.{PricesModel, IsAnglePriced, AreTurnsPriced, IsProof, vertex_price, face_price}
+use Rattle.ortho_rep.proofs.Priced.{plain_angle, plain_turns}
 use Rattle.ortho_rep.specs.Representation.{Rep, IsLeast, whole_turn}
 use Rattle.ortho_rep.specs.Best.{IsBest, IsChosen}
 use Rattle.entries.specs.declared.cause.Cause.{Cause}
@@ -98,11 +99,17 @@ proves : (p : PlaneModel) (shape : ShapeModel) (prices : PricesModel) → IsProo
 proves p shape prices proof = record {
   vertices = proof.prices.vertices;
   faces = proof.prices.faces;
-  greater = λ d d_in. (proof.prove d d_in).wider;
-  less = λ d d_in. (proof.prove d d_in).narrower;
-  across = λ d d_in. (proof.prove d d_in).crossed;
-  bent = λ d d_in. (proof.prove d d_in).tight;
+  greater = λ d d_in. (angle d d_in).wider;
+  less = λ d d_in. (angle d d_in).narrower;
+  across = λ d d_in. (turns d d_in).crossed;
+  bent = λ d d_in. (turns d d_in).tight;
 }
+  where
+    angle : (d : ℕ) → d < darts p → IsAnglePriced (angle_at shape d) (vertex_price prices (head p d)) (face_price prices (face_at p d))
+    angle d d_in = plain_angle p (angle_at shape) (turns_at shape) (vertex_price prices) (face_price prices) d (proof.prove d d_in)
+
+    turns : (d : ℕ) → d < darts p → AreTurnsPriced (turns_at shape d) (face_price prices (face_at p d)) (face_price prices (face_at p (reverse_dart p d)))
+    turns d d_in = plain_turns p (angle_at shape) (turns_at shape) (vertex_price prices) (face_price prices) d (proof.prove d d_in)
 
 are_drawn : (p : PlaneModel) (shape : ShapeModel) (points : PointsModel) → IsDrawingOf p shape points → AreDrawn p shape points
 are_drawn p shape points is =

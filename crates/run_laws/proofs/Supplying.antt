@@ -9,6 +9,7 @@ use Rattle.common.proofs.Sums.{sum_below-same, sum_below-split}
 use Rattle.faces.specs.Planes.{PlaneModel, IsPlane, vertices, degree}
 use Rattle.networks.specs.Networks.{NetworkModel, supply_at}
 use Rattle.flow_network.specs.FaceNet.{FaceNetModel, IsFaceNetOf, vertex_degree}
+use Rattle.flow_network.proofs.GivenParts.{vertex_plain, face_plain}
 use Rattle.min_cost_flow.specs.Round.{supply_sum}
 use Rattle.run_laws.specs.Supplies.{is_inner_triangle, supplied_quarters, inner_triangles}
 use Rattle.run_laws.proofs.ShortFaces.{three_darts}
@@ -45,10 +46,10 @@ units p n plane is =
     (λ k k_in.
     let back : k + 1 - 1 ≡ k = omega arith in
     up_less (supply_at net k) 4 (vertex_degree p (k + 1))
-    (subst (λ (j : ℕ). supply_at net j ≡ pos 4 -ℤ pos (vertex_degree p (k + 1))) back (is.network.at_vertex (k + 1) (omega arith) (omega arith)))) in
+    (subst (λ (j : ℕ). supply_at net j ≡ pos 4 -ℤ pos (vertex_degree p (k + 1))) back (is.network.at_vertex (k + 1) (omega arith) (omega arith) ∙ vertex_plain p (k + 1)))) in
     let at_faces : sum_below p.faces (λ k. f (vertices p + k)) ≡ inner_triangles p =
     sum_below-same p.faces (λ k. f (vertices p + k)) (λ k. if is_inner_triangle p k then 1 else 0)
-    (λ k k_in. face_units (eqb k p.outer) (supply_at net (vertices p + k)) (degree p k) (is.network.at_face k k_in)
+    (λ k k_in. face_units (eqb k p.outer) (supply_at net (vertices p + k)) (degree p k) (is.network.at_face k k_in ∙ face_plain p k)
     (λ inner. three_darts p plane k k_in (λ same. outside k inner same))) in
     ap (λ (m : ℕ). sum_below m f) is.network.nodes ∙ sum_below-split (vertices p) p.faces f
     ∙ ap (λ (m : ℕ). m + sum_below p.faces (λ k. f (vertices p + k))) at_vertices

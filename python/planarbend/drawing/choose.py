@@ -29,7 +29,9 @@ MOST_MENDS = 4  # rounds in which edges may bend instead of boxes
 MOST_MENDED = 4  # shapes with which each of these rounds continues
 MOST_PICKED = 4  # shapes that are tried in pixels
 MOST_COMPACT = 8  # further shapes that are tried in pixels for a compact drawing
+MOST_SQUARES = 4_000_000  # calls for boxes of a dense graph, times the square of its nodes, for each plan
 LARGE = 80  # nodes from which other embeddings are tried even if nothing bends
+DENSE = 600  # nodes from which plans are compared by few calls of an engine that keeps conditions
 ROUNDS, WIDTH = 8, 12  # of the search for another embedding: rounds for each unit of effort, and embeddings in each
 
 
@@ -77,6 +79,23 @@ class Search:
             plan = plan.spined(vertex, 0)
         return plan
 
+    def fitting_plans(self) -> list[Plan]:
+        """Return the plans with as few spines as fit: one with spines for the largest vertices, one for the smallest."""
+        ranked = sorted(self.large, key=lambda vertex: (-self.degree[vertex], vertex))
+        found = []
+        for order in (ranked, ranked[::-1]):
+            plan = Plan(frozenset(order))
+            for vertex in order:
+                if self.expanded(plan) is not None:
+                    break
+                plan = plan.spined(vertex, 0)
+            found.append(plan)
+        return list(dict.fromkeys(found))
+
+    def is_dense(self, expansion: Expansion) -> bool:
+        """Return whether an expansion is so large that few calls are made, and the engine keeps conditions."""
+        return self.engine.keeps and len(expansion.rotation) >= DENSE
+
     def shapes_of(self, plans: Iterable[Plan]) -> list[Shape]:
         """Return the shapes of plans with their best outer faces, each under several numberings, which can lead to different
         shapes with the fewest bends."""
@@ -86,15 +105,16 @@ class Search:
     def laid(self, forms: Sequence[Form], outer: str) -> list[Shape | None]:
         """Return the shape of each form; None if some edges must be straight, and cannot be."""
         if self.options.straight:
-            return self.kept(forms, outer)
+            return self.kept(forms, outer, outer == "first")
         self.budget.left -= sum(len(form.lists) for form in forms)
         return list(map(shape_of, forms, self.engine.lay([form.lists for form in forms], outer)))
 
-    def kept(self, forms: Iterable[Form], outer: str) -> list[Shape | None]:
-        """Return the shape of each form in which boxes are rectangles and the required edges are straight, or None."""
+    def kept(self, forms: Iterable[Form], outer: str, has_outer: bool = False) -> list[Shape | None]:
+        """Return the shape of each form in which boxes are rectangles and the required edges are straight, or None. If the
+        forms already have their outer faces, these are the longest."""
         found: list[Shape | None] = []
         for form in forms:
-            conditions = conditions_of(form, self.options.straight, outer == "first")
+            conditions = conditions_of(form, self.options.straight, has_outer)
             try:
                 shape = shape_of(form, self.engine.lay_keeping(form.lists, outer, conditions))
             except NotKept:
@@ -138,6 +158,9 @@ class Search:
         pool = self.look(self.first)
         if not pool and self.options.straight:
             pool = self.look(self.first.caged(self.small(self.first)))
+        if not pool and self.engine.keeps:
+            pool = self.look(*self.fitting_plans())
+            self.first = best_of(pool).plan if pool else self.first
         if not pool:
             self.first = self.first_plan(True)
             pool = self.look(self.first)
@@ -176,19 +199,22 @@ class Search:
             return []
         from planarbend.drawing.moves import climbed  # slow to load, and often not needed
 
-        other = climbed(self.planar, lambda planars: self.prices(planars, best.plan), self.random,
-                        rounds=ROUNDS * self.options.effort, width=WIDTH)
+        is_kept = self.is_dense(best.expansion) and self.prices([self.planar], best.plan)[0][0] > 0
+        other = climbed(self.planar, lambda planars: self.prices(planars, best.plan, is_kept), self.random,
+                        rounds=ROUNDS * self.options.effort * (1 + is_kept), width=WIDTH)
         if other is self.planar:
             return []
         search = Search(other, self.engine, replace(self.options, seed=0, outer=()), self.budget)
         pool = search.shapes_of([replace(best.plan, loose=())])
         return search.repaired(pool) if pool else []
 
-    def prices(self, planars: Sequence[Planarization], plan: Plan) -> list[tuple[int, ...]]:
-        """Return the price of a plan in each of several embeddings, which have other pieces."""
-        plan = replace(plan, loose=())
-        forms = [next(self.numberings(Expansion(planar, plan, self.most))) for planar in planars]
-        laid = iter(self.laid([form for form in forms if len(form.lists) <= self.most], "best"))
+    def prices(self, planars: Sequence[Planarization], plan: Plan, is_kept: bool = False) -> list[tuple[int, ...]]:
+        """Return the price of a plan in each of several embeddings, which have other pieces: with the best outer face, or with
+        rectangles for boxes and the longest outer face outside them, which is quickly found."""
+        expansions = [Expansion(planar, replace(plan, loose=()), self.most) for planar in planars]
+        forms = [next(self.numberings(expansion)) for expansion in expansions]
+        fitting = [form for form in forms if len(form.lists) <= self.most]
+        laid = iter(self.kept(fitting, "first") if is_kept else self.laid(fitting, "best"))
         found = [next(laid) if len(form.lists) <= self.most else None for form in forms]
         return [(sys.maxsize,) if one is None else one.price() for one in found]
 
@@ -231,8 +257,15 @@ class Search:
         for expansion in map(self.expanded, itertools.islice(plans, MOST_KEPT)):
             if expansion is not None:
                 forms = outer_forms(expansion, outer) if outer else self.numberings(expansion, dice)
-                found += there(self.kept(itertools.islice(forms, MOST_FACES), "first" if outer else "best"))
+                most = MOST_FACES
+                if self.is_dense(expansion) and not outer:
+                    most = max(1, MOST_SQUARES // len(expansion.rotation) ** 2)  # numberings: none has fewer bends
+                found += there(self.kept(itertools.islice(forms, most), "first" if outer else "best", bool(outer)))
         return found
+
+    def kept_first(self, pool: list[Shape]) -> list[Shape]:
+        """Return what `kept_boxes` returns if the best shape so far is dense: no other way to rectangles takes as few calls."""
+        return self.kept_boxes(pool) if self.is_dense(best_of(pool).expansion) else []
 
     def mend(self, pool: list[Shape]) -> list[Shape]:
         """Return shapes with edges that may bend instead of boxes, starting from a few of the best shapes."""
@@ -297,6 +330,7 @@ MOVES: tuple[Move, ...] = (
     Search.unboxed,   # those that could as well be points lose them
 )
 REPAIRS: tuple[tuple[Move, ...], ...] = (  # tried in turn while a box is not a rectangle; moves of a row begin alike
+    (Search.kept_first,),              # the engine keeps boxes of a dense graph
     (Search.mend, Search.kept_boxes),  # edges may bend instead of boxes; the engine keeps boxes, if it can
     (Search.outward,),                 # other outer faces
     (Search.spined,),                  # spines in place of broken cages, and then of all

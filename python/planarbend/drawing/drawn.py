@@ -3,8 +3,10 @@ from __future__ import annotations
 
 import json
 from dataclasses import dataclass, field
+from typing import Any
 
 from planarbend.graph import Graph
+from planarbend.drawing.frames import Frame, ends_json, fields_json, frames_json
 from planarbend.drawing.nets import net_labels
 from planarbend.layout.planar_code import HEADER, Lists, record_of
 
@@ -42,6 +44,13 @@ class Drawing:
         from 1, clockwise. Loops are left out.
     end_boxes : dict from (edge, whether at the head) to Box
         The place of each label at an end of an edge.
+    frames : dict from cluster to Frame
+        Those of all clusters, but for those of which a warning says that they are left out.
+    field_boxes : dict from vertex to list of Box
+        For each vertex whose fields are drawn their boxes, in the order of `Field.walk`, that of the whole first.
+    meets : dict from (edge, whether at the head) to (x, y)
+        The point where an edge meets its port: at the border of its field, at the side that is its compass point, or at the frame
+        of a cluster. It is the end of the edge's line, unless the field is within others: then it is straight on from there.
     """
 
     graph: Graph
@@ -52,6 +61,9 @@ class Drawing:
     label_boxes: dict[int, Box]
     embedding: list[Lists]
     end_boxes: dict[tuple[int, bool], Box] = field(default_factory=dict)
+    frames: dict[int, Frame] = field(default_factory=dict)
+    field_boxes: dict[int, list[Box]] = field(default_factory=dict)
+    meets: dict[tuple[int, bool], Point] = field(default_factory=dict)
 
     @property
     def bends(self) -> int:
@@ -63,20 +75,26 @@ class Drawing:
         return HEADER + b"".join(map(record_of, self.embedding))
 
     def json(self) -> str:
-        """Return the drawing as JSON: vertices, edges, crossings, bends and size."""
-        vertices = [{"name": vertex.name, "label": vertex.label, "kind": vertex.kind.value, "box": list(box)}
-                    for vertex, box in zip(self.graph.vertices, self.boxes, strict=True)]
+        """Return the drawing as JSON: vertices, edges, crossings, bends, size and, if there are any, frames."""
+        vertices: list[dict[str, Any]] = [
+            {"name": vertex.name, "label": vertex.label, "kind": vertex.kind.value, "box": list(box)}
+            for vertex, box in zip(self.graph.vertices, self.boxes, strict=True)]
         for number, box in net_labels(self).items():
             vertices[number]["label_box"] = list(box)
+        for number, boxes in self.field_boxes.items():
+            vertices[number]["fields"] = fields_json(self.graph.fields[number], boxes)
         edges = []
         for number, (edge, line) in enumerate(zip(self.graph.edges, self.lines, strict=True)):
             edges.append({"tail": edge.tail, "head": edge.head, "label": edge.label, "arrow": edge.arrow.value,
                           "points": [list(point) for point in line]})
             if number in self.label_boxes:
                 edges[-1]["label_box"] = list(self.label_boxes[number])
+            edges[-1] |= ends_json(self, number)
         found = {"vertices": vertices, "edges": edges,
                  "crossings": [{"at": list(one.at), "edges": list(one.edges)} for one in self.crossings],
                  "bends": self.bends, "size": list(self.size)}
+        if self.frames:
+            found["frames"] = frames_json(self)
         return json.dumps(found, ensure_ascii=False, separators=(",", ":"))
 
     def text(self, form: str) -> str:

@@ -14,15 +14,8 @@ from __future__ import annotations
 import random
 from collections.abc import Iterator, Sequence
 
+from planarbend.drawing.dual import FAR, FIXED, DualPaths, one_of
 from planarbend.drawing.planarization import NONE, LinkedEmbedding
-
-FIXED = 1 << 20  # the weight of an edge that nothing may cross
-FAR = 1 << 60  # the distance of a face that no path reaches
-
-
-def one_of(numbers: Sequence[int], dice: random.Random) -> int:
-    """Return one of some numbers, at random if there are several."""
-    return numbers[int(dice.random() * len(numbers))] if len(numbers) > 1 else numbers[0]
 
 
 def growth(embedding: LinkedEmbedding, dice: random.Random) -> Iterator[tuple[int, list[int]]]:
@@ -47,20 +40,20 @@ def growth(embedding: LinkedEmbedding, dice: random.Random) -> Iterator[tuple[in
         yield vertex, edges
 
 
-class Reinsertion:
+class Reinsertion(DualPaths):
     """A search for an embedding with few crossings.
 
     `embedding`: of all of the graph's edges, of some that connect all its vertices, or of none. It is edited.
     `weights`: for each edge its weight: a crossing of two edges costs the product of their weights. An edge of weight `FIXED`
     is never crossed; such edges must form no cycle.
-    `dice`: the source of random choices.
     `cost`: the sum of the costs of the embedding's crossings.
-    `work`: number of darts passed so far.
     """
+
+    embedding: LinkedEmbedding
 
     def __init__(self, embedding: LinkedEmbedding, weights: Sequence[int], dice: random.Random) -> None:
         """Return a search that begins with an embedding."""
-        self.embedding, self.weights, self.dice, self.work = embedding, list(weights), dice, 0
+        super().__init__(embedding, weights, dice)
         self.cost = sum(map(self.cost_of, range(len(embedding.ends)))) // 2
 
     def cost_of(self, edge: int) -> int:
@@ -72,62 +65,9 @@ class Reinsertion:
 
     def distances(self, vertex: int, goals: Sequence[int] = (), most: int = FAR, near: Sequence[int] = (), sum_most: int = FAR
                   ) -> tuple[list[int], list[list[int]]]:
-        """Return for each face the weight of the edges to cross from a vertex to it, by Dial's algorithm, and the faces that
-        are reached; `FAR` if there is no path, and maybe for faces farther than the nearest of some goals, farther than
-        `most`, or with a sum above `sum_most` of this distance and that of `near`, there or on each shortest path."""
-        embedding, weights = self.embedding, self.weights
-        onward, face, corner, edge = embedding.onward, embedding.face, embedding.corner, embedding.edge
-        buckets = [list({face[dart] for dart in embedding.around(vertex)})]
-        distance = [FAR] * len(corner)
-        for here in buckets[0]:
-            distance[here] = 0
-        near = near or [0] * len(corner)
-        work, steps, end = 0, 0, min(most + 1, FIXED)
-        while steps < len(buckets) and steps < most and min(map(distance.__getitem__, goals), default=FAR) > steps:
-            next_step = steps + 1
-            for here in buckets[steps]:
-                if distance[here] < steps:
-                    continue
-                first = dart = corner[here]
-                while True:
-                    work += 1
-                    other = face[dart ^ 1]
-                    if distance[other] > next_step:
-                        there = steps + weights[edge[dart >> 1]]
-                        if there < distance[other] and there < end and near[other] + there <= sum_most:
-                            distance[other] = there
-                            while len(buckets) <= there:
-                                buckets.append([])
-                            buckets[there].append(other)
-                    dart = onward[dart]
-                    if dart == first:
-                        break
-            steps = next_step
-        self.work += work
-        return distance, buckets
-
-    def path(self, distance: list[int], to: int) -> list[int]:
-        """Return the darts that a shortest path to a face crosses, from its start on, chosen at random among the shortest."""
-        embedding, weights, chance = self.embedding, self.weights, self.dice.random
-        onward, face, edge = embedding.onward, embedding.face, embedding.edge
-        crossed: list[int] = []
-        here = to
-        while distance[here]:
-            left = distance[here]
-            first = dart = embedding.corner[here]
-            choices: list[int] = []
-            while True:
-                weight = weights[edge[dart >> 1]]
-                if distance[face[dart ^ 1]] == left - weight and weight != FIXED:
-                    choices.append(dart ^ 1)
-                dart = onward[dart]
-                if dart == first:
-                    break
-            chosen = choices[int(chance() * len(choices))] if len(choices) > 1 else choices[0]
-            crossed.append(chosen)
-            here = face[chosen]
-        crossed.reverse()
-        return crossed
+        """Return what `distances_from` returns for the faces at a vertex."""
+        faces = list({self.embedding.face[dart] for dart in self.embedding.around(vertex)})
+        return self.distances_from(faces, goals, most, near, sum_most)
 
     # Moves
 

@@ -5,7 +5,8 @@ import re
 
 THEMES = ("light", "dark", "auto")
 PAPER = "white"
-DARK = {"#1d2733": "#e6edf3", "#3f5873": "#9db4cc", "#f4f7fb": "#1f2a36", "#fdf6e3": "#3a3320", "#e3f1e4": "#22382a"}
+DARK = {"#1d2733": "#e6edf3", "#3f5873": "#9db4cc", "#f4f7fb": "#1f2a36", "#fdf6e3": "#3a3320", "#e3f1e4": "#22382a",
+        "#0a6e2c": "#56c27d", "#fffbe6": "#2b2a22", "#334455": "#a9bccf"}
 DARK_PAPER = "#12171d"
 TAG = re.compile(r"<[a-zA-Z][^<>]*>")
 PAINT = re.compile(r' (fill|stroke)="(' + "|".join(DARK) + ')"')

@@ -3,14 +3,15 @@ from __future__ import annotations
 
 import json
 import os
-from collections.abc import Sequence
-from dataclasses import dataclass
+from collections.abc import Mapping, Sequence
+from dataclasses import dataclass, field
 from typing import Any, Protocol
 
 from planarbend.layout.planar_code import HEADER, MOST_VERTICES, Lists, record_of
 from planarbend.programs import PlanarbendError, RunFailed, program
 
 GridPoint = tuple[int, int]
+Dart = tuple[Any, Any]  # by its ends, which are numbers or names
 
 
 @dataclass(frozen=True, slots=True)
@@ -44,15 +45,58 @@ class Refusal:
 
 @dataclass(frozen=True, slots=True)
 class Conditions:
-    """Conditions on a layout. Vertices are numbered from 1."""
+    """Conditions on a layout, of which no two on one edge differ.
 
-    straight: Sequence[tuple[int, int]] = ()  # edges that must be straight, each given by its ends
-    inner: Sequence[tuple[int, int]] = ()  # faces that must not be the outer one, each given by a dart with it on its left
+    A dart is the edge from its first vertex to its second. Vertices are numbered from 1; for `layouts` they have names.
+
+    Raises
+    ------
+    Conflict
+        Two conditions on one edge differ.
+    ValueError
+        An angle is not 1, 2, 3 or 4.
+    """
+
+    straight: Sequence[Dart] = ()  # edges that must be straight, each given by its ends
+    inner: Sequence[Dart] = ()  # faces that must not be the outer one, each given by a dart with it on its left
+    angles: Mapping[Dart, int] = field(default_factory=dict)  # by dart: right angles at its head, on its left
+    turns: Mapping[Dart, int] = field(default_factory=dict)  # by dart: turns to the left; below 0, turns to the right
+
+    def __post_init__(self) -> None:
+        """Look at the angles, and for conflicts."""
+        for (tail, head), angle in self.angles.items():
+            if angle not in (1, 2, 3, 4):
+                raise ValueError(f"the angle from {tail!r} to {head!r} is {angle!r}, not 1 to 4 right angles")
+        found: dict[Dart, tuple[int, tuple[Dart, int]]] = {}  # by dart, its turns, and the condition that gives them
+        for given in [*self.turns.items(), *((dart, 0) for dart in self.straight)]:
+            (tail, head), number = given
+            along, before = found.setdefault((tail, head), (number, given))
+            if along != number:
+                raise Conflict(before, given)
+            found.setdefault((head, tail), (-number, given))
+
+    def __bool__(self) -> bool:
+        """Return whether there are any."""
+        return bool(self.straight or self.inner or self.angles or self.turns)
+
+    @property
+    def darts(self) -> list[Dart]:
+        """The darts that the conditions name."""
+        return [*self.straight, *self.turns, *self.angles, *self.inner]
+
+    def numbered(self, number: Mapping[Any, int]) -> Conditions:
+        """Return the same conditions with the numbers of the vertices in place of their names."""
+        def of(dart: Dart) -> Dart:
+            return number[dart[0]], number[dart[1]]
+
+        return Conditions([of(dart) for dart in self.straight], [of(dart) for dart in self.inner],
+                          {of(dart): angle for dart, angle in self.angles.items()},
+                          {of(dart): turns for dart, turns in self.turns.items()})
 
 
 @dataclass(frozen=True, slots=True)
 class Cut:
-    """Why no shape keeps the edges straight: a set of vertices and faces that turn more than can leave it."""
+    """Why no shape has the angles and turns: a set of vertices and faces that turn more than can leave it."""
 
     vertices: tuple[int, ...]  # numbered from 1
     faces: tuple[int, ...]  # numbered from 0, in the order of their lowest darts
@@ -77,6 +121,16 @@ class NotKept(PlanarbendError):
         """Return the error of a word."""
         super().__init__(f"planarbend has no layout that keeps the conditions: {word}{f' ({cut})' if cut else ''}")
         self.word, self.cut = word, cut
+
+
+class Conflict(ValueError):
+    """Two conditions on one edge differ. `one` and `other` are these: a dart, and its turns to the left."""
+
+    def __init__(self, one: tuple[Dart, int], other: tuple[Dart, int]) -> None:
+        """Return the error of two conditions."""
+        said = " and ".join(f"{turns} turns from {tail!r} to {head!r}" for (tail, head), turns in (one, other))
+        super().__init__(f"two conditions on one edge differ: {said}")
+        self.one, self.other = one, other
 
 
 class Engine(Protocol):

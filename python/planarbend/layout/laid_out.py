@@ -7,8 +7,8 @@ A graph is a mapping from each vertex to its neighbours in clockwise order, a ne
 are read and layouts returned while the program runs, so memory does not grow with their number. After a million graphs,
 another run continues. Only Python's standard library is needed.
 
-Errors are exceptions: `NoProgram` and `RunFailed`, and for a single graph `GraphRefused`, `GraphUndrawn` or `GraphLost`. After
-an error of a single graph, `next` continues with the next graph.
+Errors are exceptions: `NoProgram` and `RunFailed`, and for a single graph `GraphRefused`, `GraphUnkept`, `GraphUndrawn` or
+`GraphLost`. After an error of a single graph, `next` continues with the next graph.
 """
 from __future__ import annotations
 
@@ -23,7 +23,7 @@ from typing import Any
 
 from planarbend.layout import library
 from planarbend.layout.embedding import Embedding
-from planarbend.layout.engine import Answer, Refusal, Representation, points_of
+from planarbend.layout.engine import Answer, Conditions, Dart, NotKept, Refusal, Representation, points_of
 from planarbend.layout.faults import fault_of
 from planarbend.layout.planar_code import (
     HEADER, MOST_NEIGHBOURS, MOST_RECORDS, MOST_VERTICES, MOST_WIDE, Lists, lists_of, record_of)
@@ -51,6 +51,40 @@ class GraphRefused(GraphError):
         """Return the error of a graph."""
         super().__init__(number, f"refused {rule}{what and ': '}{what}")
         self.rule, self.what, self.vertices = rule, what, vertices
+
+
+class GraphUnkept(GraphError):
+    """No layout of the graph keeps the conditions.
+
+    `word`: "noshape" (no shape has these angles and turns), "noedge" (two vertices are not neighbours), "noouter" (all faces
+    must be inner) or "wide" (the drawing does not fit the grid).
+    `vertices`, `faces`: with "noshape", vertices and faces that turn more than can leave them, if the outer face is
+    `outer_face`. A face has its vertices in walking order, with the face on the left. With "noedge", `vertices` are the two.
+    """
+
+    def __init__(self, number: int, word: str, what: str = "", vertices: tuple[Vertex, ...] = (),
+                 faces: tuple[tuple[Vertex, ...], ...] = (), outer_face: tuple[Vertex, ...] = ()) -> None:
+        """Return the error of a graph."""
+        super().__init__(number, f"no layout keeps the conditions: {word}{what and ': '}{what}")
+        self.word, self.what, self.vertices, self.faces, self.outer_face = word, what, vertices, faces, outer_face
+
+    @staticmethod
+    def of(number: int, record: Record, fault: NotKept) -> GraphUnkept:
+        """Return the error of a record whose conditions cannot be kept."""
+        if fault.cut is None:
+            return GraphUnkept(number, fault.word)
+        embedding, names = Embedding.of(record.lists), record.names
+        walks = [tuple(names[embedding.tail[dart]] for dart in walk) for walk in embedding.walks]
+        vertices = tuple(names[vertex - 1] for vertex in fault.cut.vertices)
+        faces = tuple(walks[face] for face in fault.cut.faces)
+        said = [f"vertices {', '.join(map(repr, vertices))}"] if vertices else []
+        said += [f"faces {', '.join(map(repr, faces))}"] if faces else []
+        return GraphUnkept(number, fault.word, f"{' and '.join(said)} turn more than can leave them", vertices, faces,
+                           walks[fault.cut.outer])
+
+
+Found = Answer | Refusal | GraphUnkept
+Answered = tuple["Record", Found]
 
 
 class GraphUndrawn(GraphError):
@@ -154,8 +188,10 @@ class Layout:
         return [self.points[tail], *self.corners[tail, head], self.points[head]]
 
     @staticmethod
-    def of(number: int, record: Record, answer: Answer | Refusal) -> Layout:
-        """Return the layout of a record, or raise a `GraphError` if the answer is a refusal."""
+    def of(number: int, record: Record, answer: Found) -> Layout:
+        """Return the layout of a record, or raise a `GraphError` if the answer is none."""
+        if isinstance(answer, GraphUnkept):
+            raise answer
         if isinstance(answer, Refusal):
             if answer.status == "refused":
                 what, which = fault_of(answer.word, record.names, record.lists)
@@ -273,10 +309,7 @@ def refuse_single(graphs: Any) -> None:
         raise TypeError("layouts takes an iterable of graphs, not a single graph: pass [graph], or call layout_of")
 
 
-Answers = Iterator[tuple[Record, Answer | Refusal]]
-
-
-def answers_of(words: list[str], records: Iterator[Record], most: int, runs: list[Run]) -> Answers:
+def answers_of(words: list[str], records: Iterator[Record], most: int, runs: list[Run]) -> Iterator[Answered]:
     """Yield the answers of one run after another; the list has the run that goes on."""
     is_last = False
     while not is_last:
@@ -286,10 +319,29 @@ def answers_of(words: list[str], records: Iterator[Record], most: int, runs: lis
         is_last = runs.pop().is_last
 
 
-def answers_by(found: library.Library, records: Iterator[Record], outer: str, drawing: str) -> Answers:
-    """Yield the answers of the library."""
-    for record in records:
-        yield record, found.laid(library.any_record_of(record.lists), outer, drawing)
+def answers_by(found: library.Library, records: Iterator[Record], outer: str, drawing: str,
+               conditions: Conditions) -> Iterator[Answered]:
+    """Yield the answers of the library for records that are to keep conditions, by names of vertices."""
+    for number, record in enumerate(records, 1):
+        yield record, answer_by(found, number, record, (outer, drawing), conditions)
+
+
+def answer_by(found: library.Library, number: int, record: Record, asked: tuple[str, str], conditions: Conditions) -> Found:
+    """Return the answer of the library for a record, the one with this number in the stream."""
+    given = library.any_record_of(record.lists)
+    if not conditions:
+        return found.laid(given, *asked)
+    place = {name: place for place, name in enumerate(record.names, 1)}
+    strange = [name for dart in conditions.darts for name in dart if name not in place]
+    if strange:
+        raise ValueError(f"a condition names {strange[0]!r}, which is not a vertex")
+    try:
+        return found.laid(given, *asked, conditions.numbered(place))
+    except NotKept as fault:
+        apart = ((tail, head) for tail, head in conditions.darts if place[head] not in record.lists[place[tail] - 1])
+        if fault.word == "noedge" and (ends := next(apart, None)):
+            return GraphUnkept(number, fault.word, f"{ends[0]!r} and {ends[1]!r} are not neighbours", ends)
+        return GraphUnkept.of(number, record, fault)
 
 
 class Layouts:
@@ -303,7 +355,7 @@ class Layouts:
         self.runs: list[Run] = []  # the one that goes on, if there is one
         self.answers = self._answers(map(Record.of, graphs), outer, words, most)
 
-    def _answers(self, records: Iterator[Record], outer: str, words: Iterable[str], most: int) -> Answers:
+    def _answers(self, records: Iterator[Record], outer: str, words: Iterable[str], most: int) -> Iterator[Answered]:
         """Return the answers for all records, each with its record."""
         return answers_of([program(), "layout", "--json", "--outer", outer, *words, "-"], records, most, self.runs)
 
@@ -345,16 +397,18 @@ class Layouts:
 class LibraryLayouts(Layouts):
     """The same by calls of the library, with a drawing that is "short" or "quick"."""
 
-    def __init__(self, graphs: Iterable[Any], outer: str = "first", drawing: str = "short") -> None:
+    def __init__(self, graphs: Iterable[Any], outer: str = "first", drawing: str = "short",
+                 conditions: Conditions = library.FREE) -> None:
         """Return an iterator, as `layouts`."""
         refuse_single(graphs)
         self.library = library.Library()
+        self.conditions = conditions
         super().__init__(graphs, outer, [drawing])
 
-    def _answers(self, records: Iterator[Record], outer: str, words: Iterable[str], most: int) -> Answers:
+    def _answers(self, records: Iterator[Record], outer: str, words: Iterable[str], most: int) -> Iterator[Answered]:
         """Return the answers for all records, each with its record."""
         drawing, = words
-        return answers_by(self.library, records, outer, drawing)
+        return answers_by(self.library, records, outer, drawing, self.conditions)
 
     def close(self) -> None:
         """Stop, and free the library's memory; no layouts follow."""
@@ -362,20 +416,31 @@ class LibraryLayouts(Layouts):
         self.library.close()
 
 
-def layouts(graphs: Iterable[Any], outer: str = "first", words: Iterable[str] = ()) -> Layouts:
+def layouts(graphs: Iterable[Any], outer: str = "first", words: Iterable[str] = (), *, straight: Iterable[Dart] = (),
+            inner: Iterable[Dart] = (), angles: Mapping[Dart, int] = library.NOTHING,
+            turns: Mapping[Dart, int] = library.NOTHING) -> Layouts:
     """Return an iterator over the layouts of a stream of graphs.
 
     Uses the library if there is one, PLANARBEND is not set, and `words` is empty or `--drawing KIND`; otherwise runs the
-    program. The layouts are the same.
+    program. The layouts are the same. Conditions need the library.
 
     Parameters
     ----------
     graphs : iterable
         Mappings from each vertex to its neighbours in clockwise order, networkx `PlanarEmbedding`s, or `Record`s.
     outer : {"first", "best"}
-        The outer face, as in `layout --outer`.
+        The outer face, as in `layout --outer`; under conditions, of the faces that may be outside.
     words : iterable of str, optional
         Further arguments for `layout`.
+    straight : iterable of (vertex, vertex), optional
+        Edges of each graph that must be straight.
+    inner : iterable of (vertex, vertex), optional
+        Faces that must not be the outer one, each by a dart (from, to) with the face on its left.
+    angles : mapping from (vertex, vertex) to int, optional
+        By dart (from, to), the angle at its head on its left, in right angles, 1 to 4. It lies between the dart and the edge
+        to the neighbour that is clockwise after `from` around `to`.
+    turns : mapping from (vertex, vertex) to int, optional
+        By dart (from, to), how often it turns left; below 0, how often it turns right. It turns no other way.
 
     Raises
     ------
@@ -383,25 +448,36 @@ def layouts(graphs: Iterable[Any], outer: str = "first", words: Iterable[str] = 
         `graphs` is a single graph.
     NoProgram
         The program is needed, and there is none.
+    PlanarbendError
+        There are conditions, and no library, or `words` for the program.
+    ValueError
+        Two conditions on one edge differ (`planarbend.layout.engine.Conflict`), or an angle is not 1 to 4.
 
     Notes
     -----
-    `next` raises a `GraphError` for a graph without a layout, what `Record.of` raises, and `RunFailed` if the program
-    fails.
+    `next` raises a `GraphError` for a graph without a layout, what `Record.of` raises, `ValueError` if a condition names no
+    vertex or there are more turns than edges can be given, and `RunFailed` if the program fails.
 
     Examples
     --------
-    >>> [layout.bends for layout in layouts([{"a": ["b", "c"], "b": ["c", "a"], "c": ["a", "b"]}])]
+    >>> triangle = {"a": ["b", "c"], "b": ["c", "a"], "c": ["a", "b"]}
+    >>> [layout.bends for layout in layouts([triangle])]
     [1]
+    >>> [layout.bends for layout in layouts([triangle], turns={("a", "b"): 3})]
+    [3]
     """
-    words = list(words)
+    words, conditions = list(words), Conditions(tuple(straight), tuple(inner), angles, turns)
     drawing = {(): "short", ("--drawing", "short"): "short", ("--drawing", "quick"): "quick"}.get(tuple(words))
-    if drawing is None or not library.is_wanted():
-        return Layouts(graphs, outer, words)
-    return LibraryLayouts(graphs, outer, drawing)
+    if drawing is not None and library.is_wanted():
+        return LibraryLayouts(graphs, outer, drawing, conditions)
+    if conditions:
+        raise PlanarbendError("conditions need the library libplanarbend, which ./planarbend --build builds; it takes no"
+                              " arguments of the program but --drawing")
+    return Layouts(graphs, outer, words)
 
 
-def layout_of(graph: Any, outer: str = "first") -> Layout:
+def layout_of(graph: Any, outer: str = "first", *, straight: Iterable[Dart] = (), inner: Iterable[Dart] = (),
+              angles: Mapping[Dart, int] = library.NOTHING, turns: Mapping[Dart, int] = library.NOTHING) -> Layout:
     """Return the layout of one graph.
 
     Parameters
@@ -410,15 +486,23 @@ def layout_of(graph: Any, outer: str = "first") -> Layout:
         An embedded graph, as in `layouts`.
     outer : {"first", "best"}
         The outer face, as in `layout --outer`.
+    straight, inner, angles, turns : optional
+        Conditions, as in `layouts`.
 
     Raises
     ------
     GraphError
         The graph has no layout.
     ValueError, TypeError
-        The argument is not an embedded graph, as for `Record.of`.
-    NoProgram, RunFailed
-        There is neither program nor library, or the program fails.
+        The argument is not an embedded graph, as for `Record.of`, or the conditions are none, as for `layouts`.
+    NoProgram, RunFailed, PlanarbendError
+        There is neither program nor library, the program fails, or there are conditions and no library.
+
+    Examples
+    --------
+    >>> square = {1: [2, 4], 2: [3, 1], 3: [4, 2], 4: [1, 3]}
+    >>> layout_of(square, angles={(1, 2): 3}).bends
+    2
     """
-    with layouts([graph], outer) as found:
+    with layouts([graph], outer, straight=straight, inner=inner, angles=angles, turns=turns) as found:
         return next(found)

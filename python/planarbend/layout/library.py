@@ -10,18 +10,18 @@ from __future__ import annotations
 import ctypes
 import itertools
 import os
+import types
 from array import array
-from collections.abc import Iterable, Iterator, Sequence
+from collections.abc import Iterable, Iterator, Mapping, Sequence
 from typing import Any
 
-from planarbend.layout.engine import Answer, Conditions, Cut, GridPoint, NotKept, Refusal, Representation
+from planarbend.layout.engine import Answer, Conditions, Cut, Dart, GridPoint, NotKept, Refusal, Representation
 from planarbend.layout.planar_code import MOST_VERTICES, MOST_WIDE, Lists, record_of, wide_record_of
 from planarbend.programs import ROOT, NoProgram, PlanarbendError
 
-MOST_EDGES, MOST_FACES, MOST_BENDS = 2400, 1202, 7204  # of a record with entries of 16 bits
 OUTER = {"first": 0, "best": 1}
 DRAWING = {"none": 0, "quick": 1, "short": 2}
-OK, FIRST_RULE, LAST_RULE, NOT_A_RECORD, MEMORY, NO_SHAPE, WIDE, LARGE = 0, 1, 8, 9, 10, 13, 16, 17
+OK, NOT_A_RECORD, MEMORY, FULL, ARGUMENT, NO_SHAPE, WIDE, LARGE, CONFLICT = 0, 9, 10, 11, 12, 13, 16, 17, 18
 NAME = "libplanarbend.so.2"
 PLACES = [os.path.join(ROOT, "out", NAME), os.path.join(os.path.dirname(ROOT), NAME)]  # built, and installed
 
@@ -31,66 +31,46 @@ class Counts(ctypes.Structure):
 
     _fields_ = [(name, ctypes.c_uint32) for name in ("vertices", "edges", "faces", "bends", "outer_face", "corners")]
 
+    def sizes(self) -> dict[str, int]:
+        """Return the items of each list."""
+        return {"angles": 2 * self.edges, "turns": 2 * self.edges, "vertex_prices": self.vertices, "face_prices": self.faces,
+                "points": self.vertices, "corner_starts": self.edges + 1, "corners": self.corners}
 
-class Buffer(ctypes.Structure):
-    """Room for all lists of any graph without conditions; a point is two numbers, and so are the turns of a dart."""
 
-    _fields_ = [
-        ("turns", ctypes.c_uint32 * (4 * MOST_EDGES)),
-        ("vertex_prices", ctypes.c_int32 * MOST_WIDE),
-        ("face_prices", ctypes.c_int32 * MOST_FACES),
-        ("corner_starts", ctypes.c_uint32 * (MOST_EDGES + 1)),
-        ("points", ctypes.c_uint16 * (2 * MOST_WIDE)),
-        ("corners", ctypes.c_uint16 * (2 * MOST_BENDS)),
-        ("angles", ctypes.c_uint8 * (2 * MOST_EDGES)),
-    ]
+# The lists of planarbend.h: the type of a number, and the numbers of an item.
+LISTS: dict[str, tuple[Any, int]] = {
+    "angles": (ctypes.c_uint8, 1), "turns": (ctypes.c_uint32, 2), "vertex_prices": (ctypes.c_int32, 1),
+    "face_prices": (ctypes.c_int32, 1), "points": (ctypes.c_uint16, 2), "corner_starts": (ctypes.c_uint32, 1),
+    "corners": (ctypes.c_uint16, 2)}
 
 
 class Room(ctypes.Structure):
     """`planarbend_lists` of planarbend.h: the address of each list, and its capacity in items."""
 
-    _fields_ = [field for name in ("angles", "turns", "vertex_prices", "face_prices", "points", "corner_starts", "corners")
-                for field in ((name, ctypes.c_void_p), (f"{name}_room", ctypes.c_size_t))]
-
-    @staticmethod
-    def of(buffer: Buffer) -> Room:
-        """Return lists that refer to the buffer."""
-        room = Room()
-        for name, kind in Buffer._fields_:
-            numbers = 2 if name in ("turns", "points", "corners") else 1  # of an item
-            setattr(room, name, ctypes.addressof(buffer) + getattr(Buffer, name).offset)
-            setattr(room, f"{name}_room", ctypes.sizeof(kind) // ctypes.sizeof(kind._type_) // numbers)
-        return room
+    _fields_ = [("size", ctypes.c_size_t), *(field for name in LISTS for field in (
+        (name, ctypes.c_void_p), (f"{name}_room", ctypes.c_size_t)))]
 
 
-class Kept(ctypes.Structure):
-    """`planarbend_conditions` of planarbend.h; a dart is two numbers of 16 bits."""
+class Request(ctypes.Structure):
+    """`planarbend_request` of planarbend.h."""
 
-    _fields_ = [("straight", ctypes.c_void_p), ("straight_count", ctypes.c_size_t),
-                ("inner", ctypes.c_void_p), ("inner_count", ctypes.c_size_t)]
-
-
-class Wide(ctypes.Structure):
-    """`planarbend_wide_request` of planarbend.h."""
-
-    _fields_ = [("size", ctypes.c_size_t), ("record", ctypes.c_void_p), ("entries", ctypes.c_size_t), ("outer", ctypes.c_int),
-                ("drawing", ctypes.c_int), ("conditions", ctypes.c_void_p)]
+    _fields_ = [("size", ctypes.c_size_t), ("record8", ctypes.c_char_p), ("record8_count", ctypes.c_size_t),
+                ("record16", ctypes.c_void_p), ("record16_count", ctypes.c_size_t), ("outer", ctypes.c_int),
+                ("drawing", ctypes.c_int), ("turns", ctypes.c_void_p), ("turns_count", ctypes.c_size_t),
+                ("angles", ctypes.c_void_p), ("angles_count", ctypes.c_size_t), ("inner", ctypes.c_void_p),
+                ("inner_count", ctypes.c_size_t)]
 
 
 class Marks(ctypes.Structure):
     """`planarbend_cut` of planarbend.h."""
 
-    _fields_ = [("vertices", ctypes.c_uint8 * MOST_WIDE), ("faces", ctypes.c_uint8 * MOST_FACES),
-                ("outer_face", ctypes.c_uint32)]
-
-    def cut(self) -> Cut:
-        """Return the cut: the marked vertices and faces, and the outer face."""
-        vertices = tuple(vertex for vertex, mark in enumerate(self.vertices, 1) if mark)
-        return Cut(vertices, tuple(face for face, mark in enumerate(self.faces) if mark), self.outer_face)
+    _fields_ = [("size", ctypes.c_size_t), ("vertices", ctypes.c_void_p), ("vertices_room", ctypes.c_size_t),
+                ("faces", ctypes.c_void_p), ("faces_room", ctypes.c_size_t), ("outer_face", ctypes.c_uint32)]
 
 
-Darts = Iterable[tuple[int, int]]
 Record = bytes | array  # entries of 8 or of 16 bits
+NOTHING: Mapping[Dart, int] = types.MappingProxyType({})
+FREE = Conditions()
 
 
 def path() -> str | None:
@@ -132,23 +112,18 @@ class Library:
             self._library = ctypes.CDLL(name)
         except OSError as error:
             raise NoProgram(f"{name}: {error}") from None
+        if not hasattr(self._library, "planarbend_room"):
+            raise NoProgram(f"{name} is older than the package: run ./planarbend --build")
         self._library.planarbend_version.restype = ctypes.c_char_p
         self._library.planarbend_word.restype = ctypes.c_char_p
         self._library.planarbend_free.argtypes = [ctypes.c_void_p]
+        self._library.planarbend_room.restype = Counts
         self._layout = self._library.planarbend_layout
-        self._layout.argtypes = [ctypes.c_void_p, ctypes.c_char_p, ctypes.c_size_t, ctypes.c_int, ctypes.c_int,
-                                 ctypes.c_void_p, ctypes.c_void_p]
-        self._keeping = getattr(self._library, "planarbend_layout_keeping", None)
-        self.keeps = self._keeping is not None  # an older library has no such call
-        if self._keeping is not None:
-            self._keeping.argtypes = [*self._layout.argtypes[:5], ctypes.c_void_p, *self._layout.argtypes[5:], ctypes.c_void_p]
-        self._wide = getattr(self._library, "planarbend_layout_wide", None)
-        self.most_vertices = MOST_VERTICES if self._wide is None else MOST_WIDE
-        if self._wide is not None:
-            self._wide.argtypes = [ctypes.c_void_p] * 5
-        self._counts, self._buffer, self._marks = Counts(), Buffer(), Marks()
-        self._lists = Room.of(self._buffer)
-        self._addresses = ctypes.addressof(self._counts), ctypes.addressof(self._lists)
+        self._layout.argtypes = [ctypes.c_void_p] * 5
+        self._request, self._counts = Request(size=ctypes.sizeof(Request)), Counts()
+        self._lists, self._marks = Room(size=ctypes.sizeof(Room)), Marks(size=ctypes.sizeof(Marks))
+        self._held: dict[str, Any] = {}  # the memory of each list, and the marks of a cut
+        self._most = 0  # vertices for which the lists have room
         if self._library.planarbend_new(ctypes.byref(self._object)):
             raise MemoryError("planarbend_new")
 
@@ -171,7 +146,7 @@ class Library:
             self._library.planarbend_free(held)
 
     def version(self) -> str:
-        """Return the version of the library, such as "1.0.0"."""
+        """Return the version of the library, such as "2.0.0"."""
         return bytes(self._library.planarbend_version()).decode()
 
     def word(self, result: int) -> str:
@@ -184,10 +159,11 @@ class Library:
         Raises `ValueError`: an item is not exactly one record.
         Raises `MemoryError`: memory ran out.
         """
-        layout, held, choice, counts = self._layout, self._object, OUTER[outer], self._counts
-        at = self._addresses[0]
+        request, counts = Request(size=ctypes.sizeof(Request), outer=OUTER[outer]), self._counts
+        layout, given = self._layout, (self._object, ctypes.addressof(request), ctypes.addressof(counts), None, None)
         for record in records:
-            result = layout(held, record, len(record), choice, 0, at, None)
+            request.record8, request.record8_count = record, len(record)
+            result = layout(*given)
             if result != OK:
                 self._check(result)
             yield counts.bends if result == OK else None
@@ -200,31 +176,71 @@ class Library:
             raise ValueError(f"a graph of more than {MOST_WIDE} vertices")
         if result == MEMORY:
             raise MemoryError("planarbend_layout")
+        if result == ARGUMENT:
+            raise ValueError("more turns than edges can be given")
 
-    def _called(self, record: Record, outer: str, drawing: str, straight: Darts, inner: Darts) -> int:
-        """Return the result of a call, under the conditions, if any."""
-        kept = [array("H", itertools.chain.from_iterable(darts)) for darts in (straight, inner)]
-        conditions = Kept(*itertools.chain.from_iterable((ends.buffer_info()[0], len(ends) // 2) for ends in kept))
-        at = ctypes.addressof(conditions) if any(kept) else None
+    def _make_room(self, counts: Counts) -> None:
+        """Give each list room for these counts, if it has less."""
+        for name, items in counts.sizes().items():
+            if items > getattr(self._lists, f"{name}_room"):
+                kind, numbers = LISTS[name]
+                self._held[name] = (kind * (numbers * items))()
+                setattr(self._lists, name, ctypes.addressof(self._held[name]))
+                setattr(self._lists, f"{name}_room", items)
+
+    def _make_room_for(self, vertices: int) -> None:
+        """Give each list, and the cut, room for a graph with this number of vertices, if it has less."""
+        if not self._most < vertices <= MOST_WIDE:
+            return
+        counts = self._library.planarbend_room(vertices)
+        self._make_room(counts)
+        for name in ("vertices", "faces"):
+            items = getattr(counts, name)
+            self._held[name] = (ctypes.c_uint8 * items)()
+            setattr(self._marks, name, ctypes.addressof(self._held[name]))
+            setattr(self._marks, f"{name}_room", items)
+        self._most = vertices
+
+    def _called(self, record: Record, outer: str, drawing: str, conditions: Conditions) -> int:
+        """Return the result of a call. Raise `ValueError` if there are more turns than edges can be given."""
+        request = self._request
+        request.outer, request.drawing = OUTER[outer], DRAWING[drawing]
         if isinstance(record, array):
-            return self._called_wide(record, OUTER[outer], DRAWING[drawing], at)
-        given = self._object, record, len(record), OUTER[outer], DRAWING[drawing]
-        if at is None:
-            return int(self._layout(*given, *self._addresses))
-        if self._keeping is None:
-            raise PlanarbendError("this libplanarbend keeps no conditions: it is older than the package")
-        return int(self._keeping(*given, at, *self._addresses, ctypes.addressof(self._marks)))
+            request.record8, request.record8_count = None, 0
+            request.record16, request.record16_count = record.buffer_info()
+        else:
+            request.record8, request.record8_count = record, len(record)
+            request.record16, request.record16_count = None, 0
+        turns = [(tail, head, 0) for tail, head in conditions.straight]
+        turns += [(tail, head, in_16_bits(number)) for (tail, head), number in conditions.turns.items()]
+        angles = [(tail, head, number) for (tail, head), number in conditions.angles.items()]
+        held = []  # until the call has ended
+        for name, width, items in (("turns", 3, turns), ("angles", 3, angles), ("inner", 2, conditions.inner)):
+            held.append(array("H", itertools.chain.from_iterable(items)))
+            setattr(request, name, held[-1].buffer_info()[0] if held[-1] else None)
+            setattr(request, f"{name}_count", len(held[-1]) // width)
+        self._make_room_for(record[0] if record else 0)
+        result = self._call()
+        if result == FULL:  # conditions may need more bends
+            self._make_room(self._counts)
+            result = self._call()
+        if result == ARGUMENT:
+            self._check(result)
+        return result
 
-    def _called_wide(self, record: array[int], outer: int, drawing: int, conditions: int | None) -> int:
-        """Return the result of a call with a record of 16-bit entries, under the conditions at this address, if any."""
-        if self._wide is None:
-            raise PlanarbendError(f"this libplanarbend takes at most {MOST_VERTICES} vertices: it is older than the package")
-        at, entries = record.buffer_info()
-        request = Wide(ctypes.sizeof(Wide), at, entries, outer, drawing, conditions)
-        return int(self._wide(self._object, ctypes.addressof(request), *self._addresses, ctypes.addressof(self._marks)))
+    def _call(self) -> int:
+        """Return the result of a call with the request as it is."""
+        structures = self._request, self._counts, self._lists, self._marks
+        return int(self._layout(self._object, *map(ctypes.addressof, structures)))
 
-    def line(self, record: Record, outer: str = "first", drawing: str = "short", straight: Darts = (),
-             inner: Darts = ()) -> dict[str, Any]:
+    def _cut(self) -> Cut:
+        """Return the cut that the last call wrote: the marked vertices and faces, and the outer face."""
+        vertices = tuple(vertex for vertex, mark in enumerate(self._held["vertices"], 1) if mark)
+        return Cut(vertices, tuple(face for face, mark in enumerate(self._held["faces"]) if mark), self._marks.outer_face)
+
+    def line(self, record: Record, outer: str = "first", drawing: str = "short", straight: Iterable[Dart] = (),
+             inner: Iterable[Dart] = (), angles: Mapping[Dart, int] = NOTHING,
+             turns: Mapping[Dart, int] = NOTHING) -> dict[str, Any]:
         """Return the line of `planarbend layout --json` for a record, without "file" and "graph".
 
         Parameters
@@ -238,37 +254,52 @@ class Library:
         straight, inner : iterables of (u, v), optional
             See `planarbend.layout.engine.Conditions`. If they cannot be kept, "status" is "noshape", "noedge", "noouter" or
             "wide", and the only other key is "cut" (see `planarbend.layout.engine.Cut`), with "noshape" alone.
+        angles, turns : mappings from (u, v) to numbers, optional
+            The same.
 
         Raises
         ------
         ValueError
-            The bytes are not exactly one record.
-        PlanarbendError
-            There are conditions, and the library is too old for them.
+            The bytes are not exactly one record; two conditions on one edge differ (`Conflict`); an angle is not 1 to 4, or
+            there are more turns than edges can be given.
         """
-        result = self._called(record, outer, drawing, straight, inner)
+        conditions = Conditions(tuple(straight), tuple(inner), angles, turns)
+        result = self._called(record, outer, drawing, conditions)
         if NO_SHAPE <= result <= WIDE:
-            return ({"cut": self._marks.cut()} if result == NO_SHAPE else {}) | {"status": self.word(result)}
+            return ({"cut": self._cut()} if result == NO_SHAPE else {}) | {"status": self.word(result)}
         found, counts = self._found(result, drawing != "none"), self._counts
         if isinstance(found, Refusal):
             return ({"rule": found.word} if found.word else {}) | {"status": found.status}
         line = json_of(found, (counts.vertices, counts.edges, counts.faces))
         return line if drawing != "none" else line | {"drawn": "no", "points": None}
 
-    def laid(self, record: Record, outer: str, drawing: str) -> Answer | Refusal:
-        """Return the layout of a record with its representation, or why there is none, or raise `ValueError` if the bytes are
-        not exactly one record."""
-        return self._found(self._called(record, outer, drawing, (), ()))
+    def laid(self, record: Record, outer: str, drawing: str, conditions: Conditions = FREE) -> Answer | Refusal:
+        """Return the layout of a record with its representation, or why there is none.
 
-    def answer(self, record: Record, outer: str, straight: Darts = (), inner: Darts = ()) -> Answer:
+        Raises
+        ------
+        NotKept
+            No layout keeps the conditions.
+        ValueError
+            As for `line`.
+        """
+        result = self._called(record, outer, drawing, conditions)
+        self._look_whether_kept(result)
+        return self._found(result, drawing != "none")
+
+    def answer(self, record: Record, outer: str, conditions: Conditions = FREE) -> Answer:
         """Return the bends, points and corners of a record, for `planarbend.draw`; raise `NotKept` if the conditions cannot be
-        kept, and `PlanarbendError` if the record is refused, memory ran out, or the library is too old for conditions."""
-        result = self._called(record, outer, "short", straight, inner)
-        if NO_SHAPE <= result <= WIDE:
-            raise NotKept(self.word(result), self._marks.cut() if result == NO_SHAPE else None)
+        kept, and `PlanarbendError` if the record is refused or memory ran out."""
+        result = self._called(record, outer, "short", conditions)
+        self._look_whether_kept(result)
         if result != OK:
             raise PlanarbendError(f"planarbend does not draw a graph: {self.word(result)}")
         return Answer(self._counts.bends, *self._points())
+
+    def _look_whether_kept(self, result: int) -> None:
+        """Raise `NotKept` if this is the result of conditions that cannot be kept."""
+        if NO_SHAPE <= result <= WIDE:
+            raise NotKept(self.word(result), self._cut() if result == NO_SHAPE else None)
 
     def _found(self, result: int, is_drawn: bool = True) -> Answer | Refusal:
         """Return what the last call found."""
@@ -277,22 +308,29 @@ class Library:
         if result != OK:
             self._check(result)
             return Refusal("refused", self.word(result))
-        counts, buffer = self._counts, self._buffer
-        turns = buffer.turns[:4 * counts.edges]
+        counts, lists = self._counts, self._held
+        turns = lists["turns"][:4 * counts.edges]
         representation = Representation(
-            counts.outer_face, buffer.angles[:2 * counts.edges],
+            counts.outer_face, lists["angles"][:2 * counts.edges],
             ["L" * left + "R" * right for left, right in zip(turns[::2], turns[1::2])],
-            buffer.vertex_prices[:counts.vertices], buffer.face_prices[:counts.faces])
+            lists["vertex_prices"][:counts.vertices], lists["face_prices"][:counts.faces])
         return Answer(counts.bends, *(self._points() if is_drawn else ([], [])), representation)
 
     def _points(self) -> tuple[list[GridPoint], list[list[GridPoint]]]:
         """Return the points of the vertices, and the corners of the edges, that the last call found."""
-        counts, buffer = self._counts, self._buffer
-        points = pairs(buffer.points[:2 * counts.vertices])
+        counts, lists = self._counts, self._held
+        points = pairs(lists["points"][:2 * counts.vertices])
         if not counts.corners:
             return points, [[] for _ in range(counts.edges)]
-        corners, starts = pairs(buffer.corners[:2 * counts.corners]), buffer.corner_starts[:counts.edges + 1]
+        corners, starts = pairs(lists["corners"][:2 * counts.corners]), lists["corner_starts"][:counts.edges + 1]
         return points, [corners[start:end] for start, end in itertools.pairwise(starts)]
+
+
+def in_16_bits(turns: int) -> int:
+    """Return the number without a sign that has the same 16 bits, or raise `ValueError` if there is none."""
+    if not -0x8000 <= turns < 0x8000:
+        raise ValueError(f"{turns} turns of an edge: more than edges can be given")
+    return turns & 0xFFFF
 
 
 def pairs(numbers: list[int]) -> list[GridPoint]:
@@ -318,14 +356,16 @@ def any_record_of(lists: Lists) -> Record:
 class LibraryEngine:
     """The library, which is called once for each graph."""
 
+    keeps = True
+    most_vertices = MOST_WIDE
+
     def __init__(self, library: Library | None = None) -> None:
         """Return the engine of a library, by default that of `path`."""
         self.library = library or Library()
-        self.keeps, self.most_vertices = self.library.keeps, self.library.most_vertices
 
     def lay_keeping(self, lists: Lists, outer: str, conditions: Conditions) -> Answer:
         """Return a layout that keeps conditions, as `Engine.lay_keeping`."""
-        return self.library.answer(any_record_of(lists), outer, conditions.straight, conditions.inner)
+        return self.library.answer(any_record_of(lists), outer, conditions)
 
     def lay(self, graphs: Sequence[Lists], outer: str) -> list[Answer]:
         """Return the layout of each graph, as `Engine.lay`."""

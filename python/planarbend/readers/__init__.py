@@ -49,4 +49,4 @@ def read(data: bytes, name: str, form: str | None = None) -> Graph:
             raise Fault("the file contains no vertices")
     except Fault as fault:
         raise ReadError(name, fault.line, fault.reason) from None
-    return Graph(found.vertices, found.edges, found.directed, found.looks)
+    return Graph(found.vertices, found.edges, found.directed, found.looks, found.fields, found.ends, found.clusters)

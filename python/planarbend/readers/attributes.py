@@ -7,7 +7,8 @@ from collections.abc import Callable, Mapping
 from typing import Any
 
 from planarbend.readers import colours, texts
-from planarbend.style import Colour, Dash, EdgeLook, Font, GraphLook, Head, Look, Looks, NodeLook, Outline
+from planarbend.style import (Across, ClusterLook, Colour, Dash, EdgeLook, Font, GraphLook, Head, Look, Looks, NodeLook,
+                              Outline)
 
 OUTLINES = {one.value: one for one in Outline} | {
     "rect": Outline.BOX, "rectangle": Outline.BOX, "oval": Outline.ELLIPSE, "plaintext": Outline.NONE, "plain": Outline.NONE}
@@ -18,7 +19,10 @@ NODE_KEYS = ("shape", "style", "color", "fillcolor", "fontcolor", "penwidth", "f
 EDGE_KEYS = ("style", "color", "fillcolor", "fontcolor", "penwidth", "fontsize", "fontname", "URL", "href", "tooltip",
              "colorscheme", "arrowhead", "arrowtail")
 GRAPH_KEYS = ("bgcolor", "fontcolor", "fontsize", "fontname", "colorscheme")
-COLOURS = ("color", "fillcolor", "fontcolor", "bgcolor")
+CLUSTER_KEYS = ("style", "color", "fillcolor", "pencolor", "bgcolor", "fontcolor", "penwidth", "fontsize", "fontname", "URL",
+                "href", "tooltip", "colorscheme", "peripheries", "labelloc", "labeljust")
+COLOURS = ("color", "fillcolor", "fontcolor", "bgcolor", "pencolor")
+NO_COLOUR = Colour("none")
 PLAIN_FILL = Colour("lightgrey")  # of a filled node without a colour
 BOLD = 3.2  # pixels, the width of a bold line
 FONTS = (4.0, 400.0)  # pixels, the least and the greatest size of a font that is taken
@@ -80,6 +84,16 @@ class Attributes:
         if kind and kind != "none" and kind not in HEADS:
             self.strange.setdefault("arrowheads that are drawn as normal", set()).add(kind)
         return None if kind in ("", "none") else HEADS.get(kind, Head.NORMAL)
+
+    def cluster(self, values: Values, names: dict[str, str]) -> ClusterLook:
+        """Return the look of a cluster's frame; `names` are what escapes in texts stand for."""
+        styles, plain, behind = styles_of(values), self.colour(values, "color"), self.colour(values, "bgcolor")
+        fill = self.colour(values, "fillcolor") or plain if "filled" in styles else None
+        line = NO_COLOUR if values["peripheries"] == "0" else self.colour(values, "pencolor") or plain
+        found = vars_of(self.look(values, names), colour=line,
+                        fill=fill or behind or (PLAIN_FILL if "filled" in styles else None))
+        across = next((one for one in Across if one.value == values["labeljust"]), Across.CENTRE)
+        return ClusterLook(**found, is_rounded="rounded" in styles, is_label_below=values["labelloc"] == "b", across=across)
 
     def graph(self, values: Values, label: str) -> GraphLook:
         """Return the look of the whole."""

@@ -9,7 +9,7 @@ from collections.abc import Hashable, Iterable
 from typing import Any
 
 from planarbend.graph import Arrow, Graph
-from planarbend.readers import graphics
+from planarbend.readers import graphics, graphml_ports
 from planarbend.readers.building import Builder
 from planarbend.readers.fault import Fault, decoded, shown
 
@@ -29,8 +29,9 @@ def label_of(data: dict[str, Any]) -> str | None:
 def read_graphml(data: bytes) -> Graph:
     """Return the graph of a GraphML text: its first `graph`, with the nodes and edges of graphs inside its nodes.
 
-    Edges keep their order and each its own direction. Labels are the data named `label` or `name`, or the first label of yEd.
-    A `Fault` is raised if the text is not XML or not GraphML, has a hyperedge, or an edge to a node that it does not have.
+    Ports are fields of their nodes; a node with nodes inside has a cluster. Edges keep their order and each its own direction.
+    Labels are the data named `label` or `name`, or the first label of yEd. A `Fault` is raised if the text is not XML or not
+    GraphML, has a hyperedge, or an edge to a node that it does not have.
     """
     from xml.etree import ElementTree
 
@@ -64,6 +65,8 @@ def read_graphml(data: bytes) -> Graph:
         built.edge(tail, head, label_of(values) or "", Arrow.FORWARD if is_arrow else Arrow.NONE)
         built.looks.add_edge(len(built.edges) - 1, graphics.graphml_edge(lines[int(key)], values))
         built.directed |= is_arrow
+    graphml_ports.add_ports(built, elements, lines)
+    graphml_ports.add_clusters(built, root)
     return built
 
 

@@ -9,9 +9,9 @@ returns-in-Ok-chosen_shape-clause-kept c =
     let meant = c.in-Ok.meant in
     let found = c.in-Ok-chosen_shape.ensures in
     record {
-      marks = meant.marks.items;
-      barred = meant.barred.items;
-      asked = asked_moved c.args.plane.now c.chosen_shape.new.plane c.args.conditions.now meant.marks.items meant.barred.items c.chosen_shape.ensures.outer_moved c.in-Ok.ensures.asked;
+      given = meant.given;
+      barred = meant.barred;
+      asked = asked_moved c.args.plane.now c.chosen_shape.new.plane c.args.conditions.now meant.given meant.barred c.chosen_shape.ensures.outer_moved c.in-Ok.ensures.asked;
       chosen = found.chosen;
       shape_is = found.shape;
       least = found.least;
@@ -21,5 +21,5 @@ returns-in-Ok-chosen_shape-clause-kept c =
 pub returns-in-Err-Infeasible-clause-fault : goal.returns-in-Err-Infeasible-clause-fault
 returns-in-Err-Infeasible-clause-fault c =
     let meant = c.in-Ok.meant in
-    fault_told c.args.plane.now c.chosen_shape.new.plane c.args.conditions.now c.args.choice meant.marks.items meant.barred.items meant.greatest c.unkept.result
+    fault_told c.args.plane.now c.chosen_shape.new.plane c.args.conditions.now c.args.choice meant.given meant.barred meant.greatest c.unkept.result
     c.chosen_shape.ensures.outer_moved c.in-Ok.ensures.asked c.in-Ok.ensures.greatest (c.in-Err-Infeasible.ensures.none c.in-Err-Infeasible.field-0-is) c.unkept.ensures.shown

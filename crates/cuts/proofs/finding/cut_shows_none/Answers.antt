@@ -2,4 +2,4 @@ use Rattle.cuts.proofs.Excluded.{none_where_shown}
 use Rattle.cuts.proofs.finding.cut_shows_none.Goals as goal
 
 pub returns : goal.returns
-returns c p marks vertices faces = none_where_shown p marks vertices faces
+returns c p given vertices faces = none_where_shown p given vertices faces

@@ -1,6 +1,6 @@
 use Rattle.std.proofs.Common.{◌≡◌, ◌+◌, ◌<◌, ℕ, length}
 use Rattle.faces.specs.Planes.{vertices}
-use Rattle.flow_network.specs.Straight.{is_marked}
+use Rattle.flow_network.specs.Marks.{is_marked}
 use Rattle.min_cost_flow.specs.Overfull.{is_in}
 use Rattle.cuts.proofs.finding.faces_of.Given as goal
 

@@ -6,5 +6,5 @@ use Rattle.ortho_rep.proofs.best_keeping.best_face.Given as goal
 abbrev pub invariant-loop-face : goal.invariant-loop-face
 invariant-loop-face l = record {
   outer_moved : l.plane ≡ with_outer l.fn.plane l.plane.outer;
-  tried : IsTriedBefore l.fn.plane l.straight l.barred l.face l.best;
+  tried : IsTriedBefore l.fn.plane l.given l.barred l.face l.best;
 }

@@ -10,9 +10,9 @@ loop-dart-preserved c = below_more _ _ c.loop-dart.invariant (c.is_priced_at.ens
 
 pub returns : goal.returns
 returns c =
-    let prove : ProveKeeping c.args.plane.now c.args.straight.now (angle_at c.args.shape.now) (turns_at c.args.shape.now) (vertex_price c.args.prices.now) (face_price c.args.prices.now) =
+    let prove : ProveKeeping c.args.plane.now c.args.given.now (angle_at c.args.shape.now) (turns_at c.args.shape.now) (vertex_price c.args.prices.now) (face_price c.args.prices.now) =
     λ d b. c.loop-dart.invariant d (omega (arith, c.darts-dart-end.ensures.count, ap dart_count c.graph.ensures.value)) in
     record {
       exact = (λ _. prove, λ _. search rules);
-      least = λ _ rep. least_keeping_by_prices c.args.plane.now c.args.straight.now (angle_at c.args.shape.now) (turns_at c.args.shape.now) (vertex_price c.args.prices.now) (face_price c.args.prices.now) c.graph.ensures.ends rep prove;
+      least = λ _ rep. least_keeping_by_prices c.args.plane.now c.args.given.now (angle_at c.args.shape.now) (turns_at c.args.shape.now) (vertex_price c.args.prices.now) (face_price c.args.prices.now) c.graph.ensures.ends rep prove;
     }

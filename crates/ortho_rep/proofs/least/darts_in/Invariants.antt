@@ -9,5 +9,5 @@ use Rattle.ortho_rep.proofs.least.darts_in.Given as goal
 
 abbrev pub invariant-loop-dart : goal.invariant-loop-dart
 invariant-loop-dart l =
-    HaveShapes (angles_of (amounts l.solved.flow)) (strings_of l.plane (amounts l.solved.flow)) l.dart l.found.items
+    HaveShapes (angles_of l.given (amounts l.solved.flow)) (strings_of l.plane l.given (amounts l.solved.flow)) l.dart l.found.items
     × All (λ (dart : DartShape). dart.count ≤ MAX_REPEATS) l.found.items

@@ -24,7 +24,9 @@ returns c =
     let ends = c.graph.ensures.ends in
     let solves : Solves net c.args.solved.now = c.requires.solves in
     let cut : c.from.result ≡ n = c.from.ensures ∙ (c.vertices-vertices.ensures.count ∙ ap length c.graph.ensures.value) in
-    let found : IsOfFlow plane x q c.of_darts.result c.concatenated.result = rw (c.of_darts.ensures, c.concatenated.ensures, cut, c.in_ok-prices.ensures) (record {
+    let given = c.args.given.now in
+    let can = c.is_nothing-nothing.ensures.can in
+    let found : IsOfFlow plane given x q c.of_darts.result c.concatenated.result = rw (c.of_darts.ensures, c.concatenated.ensures, cut, c.in_ok-prices.ensures) (record {
       angle_count = length-map c.in_ok-darts.darts.items (λ dart. dart.angle) ∙ c.in_ok-darts.ensures.flow.count;
       string_count = length-map c.in_ok-darts.darts.items turns_in ∙ c.in_ok-darts.ensures.flow.count;
       vertex_count = vertex_count q n plane.faces;
@@ -35,7 +37,7 @@ returns c =
       face = face_value q n plane.faces;
     }) in
     record {
-      shape = shape_of_flow plane net x q c.of_darts.result c.concatenated.result ends is solves.flow found;
-      least = λ marks keeping. least_of_flow plane net x q c.of_darts.result c.concatenated.result ends keeping solves.flow solves.potentials found;
-      proof = λ marks keeping. proof_of_flow plane net x q c.of_darts.result c.concatenated.result ends keeping solves.flow solves.potentials found;
+      shape = shape_of_flow plane net x q c.of_darts.result c.concatenated.result ends can is solves.flow found;
+      least = least_of_flow plane net x q c.of_darts.result c.concatenated.result ends can is solves.flow solves.potentials found;
+      proof = proof_of_flow plane net x q c.of_darts.result c.concatenated.result ends is solves.potentials found;
     }

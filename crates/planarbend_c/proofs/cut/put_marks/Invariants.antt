@@ -1,6 +1,6 @@
 use Rattle.std.proofs.Common.{◌≡◌, ◌<◌, ℕ, if◌then◌else◌}
 use Rattle.std.specs.Prelude.{slice_index}
-use Rattle.flow_network.specs.Straight.{is_marked}
+use Rattle.flow_network.specs.Marks.{is_marked}
 use Rattle.planarbend_c.proofs.cut.put_marks.Given as goal
 
 abbrev pub invariant-loop-place : goal.invariant-loop-place

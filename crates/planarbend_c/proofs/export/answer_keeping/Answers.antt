@@ -8,10 +8,10 @@ use Rattle.planarbend_c.proofs.Told.{answer_of, not_drawn, told, unlaid_told}
 use Rattle.planarbend_c.proofs.export.answer_keeping.Goals as goal
 
 pub returns-in_default-clause-outcome : goal.returns-in_default-clause-outcome
-returns-in_default-clause-outcome c = inl (sym c.choice_of.ensures ∙ c.in_default.is)
+returns-in_default-clause-outcome c = inl (inl (sym c.choice_of.ensures ∙ c.in_default.is))
 
 pub returns-in_default-drawing_of-clause-outcome : goal.returns-in_default-drawing_of-clause-outcome
-returns-in_default-drawing_of-clause-outcome c = inr (sym c.drawing_of.ensures ∙ c.in_default-drawing_of.is)
+returns-in_default-drawing_of-clause-outcome c = inl (inr (sym c.drawing_of.ensures ∙ c.in_default-drawing_of.is))
 
 pub tell-requires : goal.tell-requires
 tell-requires c = c.in-Ok.ensures.found.drawn

@@ -10,3 +10,6 @@ returns-clause-refused c isnt = c.answer.ensures.refused (λ is. isnt (c.code.en
 
 pub returns-clause-uncounted : goal.returns-clause-uncounted
 returns-clause-uncounted c laid room = c.answer.ensures.uncounted (λ is. laid (c.code.ensures ∙ ap code_of is)) (λ is. room (c.code.ensures ∙ ap code_of is))
+
+pub returns-clause-uncut : goal.returns-clause-uncut
+returns-clause-uncut c isnt = c.answer.ensures.uncut (λ is. isnt (c.code.ensures ∙ ap code_of is))

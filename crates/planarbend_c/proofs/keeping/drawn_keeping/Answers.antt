@@ -1,7 +1,7 @@
 use Rattle.std.proofs.Common.{subst, sym}
 use Rattle.entries.specs.Lengths.{IsQuick}
 use Rattle.answers.specs.Drawings.{IsDrawing}
-use Rattle.answers.specs.Kept.{AreDrawnStraight, AreKeptStraight}
+use Rattle.answers.specs.Kept.{AreDrawnStraight, KeepsAsked}
 use Rattle.planarbend_c.proofs.keeping.drawn_keeping.Goals as goal
 
 pub returns-in-Ok-clause-drawn : goal.returns-in-Ok-clause-drawn
@@ -16,4 +16,4 @@ returns-in-Ok-clause-quick c is = subst (IsQuick c.args.kept.now.plane c.args.ke
 
 pub returns-in-Ok-clause-kept : goal.returns-in-Ok-clause-kept
 returns-in-Ok-clause-kept c conditions choice known =
-    subst (AreKeptStraight conditions c.args.kept.now.plane) (sym c.into_points.ensures) (c.in-Ok.ensures.kept conditions choice known)
+    subst (KeepsAsked conditions c.args.kept.now.plane) (sym c.into_points.ensures) (c.in-Ok.ensures.kept conditions choice known)

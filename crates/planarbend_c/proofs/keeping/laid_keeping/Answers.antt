@@ -38,7 +38,7 @@ returns-in-Ok-clause-found c =
       drawn = c.in-Ok.ensures.drawn;
       quick = c.in-Ok.ensures.quick;
       straight = c.in-Ok.ensures.straight;
-      kept_straight = c.in-Ok.ensures.kept c.args.conditions.now c.args.choice known.kept;
+      keeps = c.in-Ok.ensures.kept c.args.conditions.now c.args.choice known.kept;
     })
 
 pub returns-in-Ok-clause-asked : goal.returns-in-Ok-clause-asked

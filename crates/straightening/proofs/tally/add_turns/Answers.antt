@@ -5,7 +5,7 @@ use Rattle.faces.specs.Planes.{darts, face_at, reverse_dart}
 use Rattle.ortho_rep.specs.Turns.{lefts, rights}
 use Rattle.ortho_rep.proofs.Tallied.{tallied, tallied-bound}
 use Rattle.ortho_rep.proofs.WeakDuality.{part_at, left_sums, right_sums, turning-split}
-use Rattle.ortho_rep.proofs.FromFlow.{lefts-lefts_then_rights, rights-lefts_then_rights}
+use Rattle.ortho_rep.proofs.FlowStrings.{lefts-lefts_then_rights, rights-lefts_then_rights}
 use Rattle.straightening.specs.Flows.{angle_in, string_in}
 use Rattle.straightening.proofs.tally.add_turns.Goals as goal
 

@@ -2,7 +2,7 @@ use Rattle.std.proofs.Common.{ℕ, ap, sym, ◌∙◌}
 use Rattle.std.specs.Prelude.{slice_index}
 use Rattle.faces.specs.Planes.{reverse_dart}
 use Rattle.ortho_rep.specs.OfFlow.{lefts_then_rights}
-use Rattle.ortho_rep.proofs.FromFlow.{mirrored-lefts_then_rights}
+use Rattle.ortho_rep.proofs.FlowStrings.{mirrored-lefts_then_rights}
 use Rattle.straightening.proofs.tally.is_rep.Goals as goal
 
 pub returns-then-angles_sum_to_four : goal.returns-then-angles_sum_to_four

@@ -2,7 +2,7 @@ use Rattle.std.proofs.Common.{IfOk, subst}
 use Rattle.entries.specs.Drawn.{IsCause, IsDrawn, IsDrawingOf}
 use Rattle.drawing_laws.proofs.WideOnly.{shown_wide}
 use Rattle.entries.specs.Lengths.{IsNear, IsNoLonger, IsQuick}
-use Rattle.answers.proofs.Straight.{drawn_straight, kept_straight}
+use Rattle.answers.proofs.Straight.{drawn_as_asked, drawn_straight}
 use Rattle.answers.proofs.kept.RecordScratch.draw_keeping.Goals as goal
 
 pub returns-in-Ok-Ok-clause-drawn : goal.returns-in-Ok-Ok-clause-drawn
@@ -28,7 +28,7 @@ returns-in-Ok-Ok-clause-kept c = λ conditions choice known.
     let shape = c.args.kept.now.shape in
     let points = c.in-Ok-Ok.drawing in
     let drawn : IsDrawingOf plane shape points = subst (IsDrawn plane shape) c.in-Ok-Ok.field-0-is c.in-Ok-Ok.ensures.drawn in
-    kept_straight conditions choice plane shape c.args.kept.now.prices points c.graph-graph.ensures.ends known (drawn_straight plane shape points drawn.draws)
+    drawn_as_asked conditions choice plane shape c.args.kept.now.prices points known drawn.draws
 
 pub returns-in-Ok-Ok-clause-quick : goal.returns-in-Ok-Ok-clause-quick
 returns-in-Ok-Ok-clause-quick c asked =

@@ -1,0 +1,174 @@
+//! What is asked of the darts of a plane, as lists of what is given.
+
+ghost use Rattle.std.specs.Prelude.{◌≡◌, ◌⊎◌, ◌<◌, ◌≤◌, ◌↔◌, ◌^◌, neg_ℤ, nat_abs, IsTrue, IsFalse, IfOk, IfErr, All, length};
+ghost use Rattle.faces.specs.Planes.{darts};
+ghost use Rattle.conditions.specs.Asked.{Names, IsDart, HasAngles, AreDarts, AnglesDiffer, TurnsDiffer};
+ghost use Rattle.conditions.specs.Asking.{AreAngles, AreTurns, AreFew, lesser_of, along_lesser, IsPut, HoldsOther};
+
+use crate::conditions::{AngleAt, Conditions, TurnsAlong};
+use crate::fault::KeepFault;
+use crate::marks::{is_dart, is_named};
+use common::filled;
+use faces::Plane;
+use std::alloc::{AllocError, Global};
+
+/// Whether each asked angle is 1 to 4 right angles.
+pub(crate) fn are_angles(conditions: &Conditions<'_>) -> bool
+    ensures { IsTrue result ↔ HasAngles conditions.now }
+{
+    conditions
+        .angles
+        .iter()
+        .all(|asked| 1 <= asked.angle && asked.angle <= 4)
+}
+
+/// Whether all vertices that name an edge or a face are adjacent.
+pub(crate) fn are_darts(plane: &Plane, conditions: &Conditions<'_>) -> bool
+    ensures { IsTrue result ↔ AreDarts plane.now conditions.now }
+{
+    conditions
+        .turns
+        .iter()
+        .all(|asked| is_dart(plane, asked.from, asked.to))
+        && conditions
+            .angles
+            .iter()
+            .all(|asked| is_dart(plane, asked.from, asked.to))
+        && conditions
+            .inner
+            .iter()
+            .all(|ends| is_dart(plane, ends.from, ends.to))
+}
+
+/// The dart that leads from one vertex to another.
+fn dart_of(plane: &Plane, from: u16, to: u16) -> u16
+    requires { IsDart plane.now from to }
+    ensures inside { result < darts plane.now }
+    ensures named { Names plane.now result from to }
+{
+    for dart in 0..plane.graph().darts() {
+        if is_named(plane, dart, from, to) {
+            return dart;
+        }
+    }
+    unreachable!()
+}
+
+/// The angles that are asked for, by darts.
+///
+/// # Errors
+///
+/// `Conflict` exactly if, memory aside, angles that differ are asked for at one dart; `Memory` if memory runs out.
+pub(crate) fn angles_of(
+    alloc: Global,
+    plane: &Plane,
+    list: &[AngleAt],
+) -> Result<Vec<Option<u8>>, KeepFault>
+    requires angles { All (λ asked. (1 ≤ asked.angle) × (asked.angle ≤ 4)) list.now }
+    requires darts { All (λ asked. IsDart plane.now asked.from asked.to) list.now }
+    ensures angles { IfOk result (λ found. AreAngles plane.now list.now found.items) }
+    ensures fault { IfErr result (λ fault. (fault ≡ KeepFault.Memory) ⊎ ((fault ≡ KeepFault.Conflict) × AnglesDiffer plane.now list.now)) }
+{
+    let darts = plane.graph().darts();
+    let Ok(mut found) = filled(Vec::new(alloc), usize::from(darts), None) else {
+        return Err(KeepFault::Memory);
+    };
+    for asked in list {
+        let dart = dart_of(plane, asked.from, asked.to);
+        if !put_angle(&mut found, dart, asked.angle as u8) {
+            return Err(KeepFault::Conflict);
+        }
+    }
+    Ok(found)
+}
+
+/// Puts an angle at a dart, and returns whether no other one was there.
+fn put_angle(found: &mut [Option<u8>], dart: u16, angle: u8) -> bool
+    requires { dart < length found.old }
+    ensures put { IsTrue result → IsPut dart angle found.old found.new }
+    ensures other { IsFalse result → HoldsOther dart angle found.old }
+{
+    let place = usize::from(dart);
+    if let Some(held) = found[place] {
+        return held == angle;
+    }
+    found[place] = Some(angle);
+    true
+}
+
+/// The turns that are asked for, at the lesser darts of edges.
+///
+/// # Errors
+///
+/// `Conflict` exactly if, memory aside, turns that differ are asked for along one dart; `Memory` if memory runs out.
+pub(crate) fn turns_of(
+    alloc: Global,
+    plane: &Plane,
+    list: &[TurnsAlong],
+) -> Result<Vec<Option<i32>>, KeepFault>
+    requires { All (λ asked. IsDart plane.now asked.from asked.to) list.now }
+    ensures turns { IfOk result (λ found. AreTurns plane.now list.now found.items) }
+    ensures fault { IfErr result (λ fault. (fault ≡ KeepFault.Memory) ⊎ ((fault ≡ KeepFault.Conflict) × TurnsDiffer plane.now list.now)) }
+{
+    let darts = plane.graph().darts();
+    let Ok(mut found) = filled(Vec::new(alloc), usize::from(darts), None) else {
+        return Err(KeepFault::Memory);
+    };
+    for asked in list {
+        let dart = dart_of(plane, asked.from, asked.to);
+        if !put_along(plane, &mut found, dart, asked.turns) {
+            return Err(KeepFault::Conflict);
+        }
+    }
+    Ok(found)
+}
+
+/// Puts turns along a dart at the lesser dart of its edge, and returns whether no others were there.
+fn put_along(plane: &Plane, found: &mut [Option<i32>], dart: u16, turns: i16) -> bool
+    requires size { length found.old ≡ darts plane.now }
+    requires few { All AreFew found.old }
+    requires dart { dart < darts plane.now }
+    ensures few { All AreFew found.new }
+    ensures put { IsTrue result → IsPut (lesser_of plane.now dart) (along_lesser plane.now dart turns) found.old found.new }
+    ensures other { IsFalse result → HoldsOther (lesser_of plane.now dart) (along_lesser plane.now dart turns) found.old }
+{
+    let reverse = plane.graph().reverse(dart);
+    if dart < reverse {
+        put_turns(found, dart, forth(turns))
+    } else {
+        put_turns(found, reverse, back(turns))
+    }
+}
+
+/// The same turns, with room for more.
+fn forth(turns: i16) -> i32
+    ensures value { result ≡ turns }
+    ensures few { nat_abs result ≤ 2 ^ 15 }
+{
+    i32::from(turns)
+}
+
+/// The same turns, met in walking the other way.
+fn back(turns: i16) -> i32
+    ensures value { result ≡ neg_ℤ turns }
+    ensures few { nat_abs result ≤ 2 ^ 15 }
+{
+    -i32::from(turns)
+}
+
+/// Puts turns at a dart, and returns whether no others were there.
+fn put_turns(found: &mut [Option<i32>], dart: u16, turns: i32) -> bool
+    requires dart { dart < length found.old }
+    requires few { All AreFew found.old }
+    requires turns { nat_abs turns ≤ 2 ^ 15 }
+    ensures few { All AreFew found.new }
+    ensures put { IsTrue result → IsPut dart turns found.old found.new }
+    ensures other { IsFalse result → HoldsOther dart turns found.old }
+{
+    let place = usize::from(dart);
+    if let Some(held) = found[place] {
+        return held == turns;
+    }
+    found[place] = Some(turns);
+    true
+}

@@ -1,0 +1,116 @@
+"""Drawings of random sheets: right by the judge, near to what is wanted, and the same each time."""
+from __future__ import annotations
+
+import json
+import unittest
+from unittest import mock
+
+import support  # noqa: F401  (finds the package)
+from schematic_judge import judge_alone
+from sheets import random_sheet
+from test_wiring import given_engine, has_scipy, needs_scipy, sheet_of
+
+from planarbend.schematics.parts import EAST, NORTH, SOUTH, WEST, Kind, Part, Pin
+
+if has_scipy:
+    from planarbend.schematics.figures import figure
+    from planarbend.schematics.fitting import LARGE, best_fit, columns_of
+    from planarbend.schematics.placing import best_level, cleaned
+    from planarbend.schematics.schematic import schematic_of, shelves
+    from planarbend.schematics.spacing import Demands, Item, Skyline, least_sum
+    from planarbend.schematics.strokes import Pose
+
+
+@needs_scipy
+class Drawings(unittest.TestCase):
+    """Whole drawings."""
+
+    def test_judged(self) -> None:
+        """The judge finds no fault in drawings of random sheets, with wishes and without."""
+        engine = given_engine()
+        for seed in range(8):
+            for free in (False, True):
+                with self.subTest(seed=seed, free=free), mock.patch("planarbend.schematics.wirings.WORK", 100_000):
+                    sheet = random_sheet(seed, 6 + 2 * seed)
+                    found = schematic_of(sheet, engine, free=free)
+                    verdict = judge_alone(json.loads(found.json()))
+                    self.assertEqual(verdict.faults, [])
+                    self.assertLessEqual(verdict.counts["worst_stretch"], 3.0)
+                    if not free:
+                        self.assertEqual(verdict.counts["upright"], verdict.counts["cages"])
+                    self.assertEqual([part.ref for part in found.sheet.parts], [part.ref for part in sheet.parts])
+
+    def test_same(self) -> None:
+        """The same seed gives the same drawing."""
+        engine, sheet = given_engine(), random_sheet(3, 10)
+        self.assertEqual(*(schematic_of(sheet, engine, seed=4).json() for _ in range(2)))
+
+    def test_lone(self) -> None:
+        """Parts without wires."""
+        sheet = sheet_of(Part("U1", "X", Kind.BOX, [Pin("1", "a", EAST), Pin("2", "b", WEST), Pin("3", "c", WEST)]),
+                         Part("R1", "1k", Kind.RESISTOR, [Pin("1", "", NORTH), Pin("2", "", SOUTH)]))
+        verdict = judge_alone(json.loads(schematic_of(sheet, given_engine()).json()))
+        self.assertEqual(verdict.faults, [])
+
+
+@needs_scipy
+class Pieces(unittest.TestCase):
+    """Jogs, boxes in their rectangles, lines and shelves, by hand."""
+
+    def test_columns(self) -> None:
+        """A jog downwards is nearer to the part than those that it would meet below; one upwards than those above."""
+        self.assertEqual(columns_of([0, 20, 40], [0, 20, 40]), [0, 0, 0])
+        self.assertEqual(columns_of([0, 20, 100], [50, 70, 100]), [1, 2, 0])
+        self.assertEqual(columns_of([0, 60, 80], [0, 20, 40]), [0, 2, 1])
+        self.assertEqual(columns_of([0, 100], [20, 120]), [1, 1])
+        self.assertEqual(columns_of([0, 31], [20, 51]), [1, 2])
+        self.assertEqual(columns_of([0, 32], [20, 52]), [1, 1])
+
+    def test_fit(self) -> None:
+        """A box that is stretched by one wire far away is as large as it needs, with one jog."""
+        part = Part("U1", "", Kind.BOX, [Pin("1", "", EAST), Pin("2", "", WEST), Pin("3", "", WEST)])
+        one = figure(part, Pose(), [0, 1, 2])
+        self.assertIsNone(best_fit(one, 1, (0.0, one.needs.height), {1: 10.0, 2: 30.0}))
+        fit = best_fit(one, 1, (0.0, 400.0), {0: 20.0, 1: 10.0, 2: 390.0})
+        self.assertEqual(fit.columns, {0: {0: 0}, 2: {1: 0, 2: 1}})
+        self.assertEqual((fit.levels[0], fit.levels[1]), (20.0, 10.0))
+        self.assertLess(fit.high - fit.low, LARGE * one.needs.height)
+        self.assertIsNone(best_fit(one, 1, (0.0, 400.0), {0: 20.0, 1: 10.0, 2: 390.0}, {}))
+
+    def test_lines(self) -> None:
+        """Points at which a line does not turn are left out, and those that come twice."""
+        self.assertEqual(cleaned([(0, 0), (5, 0), (5, 0), (9, 0), (9, 4), (9, 6)]), [(0, 0), (9, 0), (9, 6)])
+        self.assertEqual(best_level([3.0, 5.0, 5.0, 1.0], 2.0), 5.0)
+        self.assertEqual(best_level([3.0, 1.0], 1.5), 1.0)
+        self.assertEqual(best_level([], 7.0), 7.0)
+
+    def test_shelves(self) -> None:
+        """Components do not overlap, and each is moved from where it was."""
+        boxes = [(0, 0, 100, 40), (-5, 7, 60, 90), (3, 3, 30, 20), (0, 0, 10, 10)]
+        moves, (width, height) = shelves(boxes)
+        found = [(left + x, top + y, right + x, bottom + y) for (left, top, right, bottom), (x, y) in zip(boxes, moves)]
+        for place, one in enumerate(found):
+            self.assertTrue(0 < one[0] and one[2] < width and 0 < one[1] and one[3] < height)
+            for other in found[:place]:
+                self.assertTrue(one[2] < other[0] or other[2] < one[0] or one[3] < other[1] or other[3] < one[1])
+
+    def test_least_sum(self) -> None:
+        """Coordinates of least sum, by hand."""
+        demands = Demands([(0, 1, 10.0), (1, 2, 5.0), (0, 3, 2.0)], [(0, 2, 1.0), (0, 3, 1.0)], [(3, 1, 0.0, 3.0)])
+        self.assertEqual(least_sum([0, 1, 2, 3], demands), {0: 0.0, 1: 10.0, 2: 15.0, 3: 10.0})
+
+    def test_skyline(self) -> None:
+        """What is covered is not seen any more, but for what the cover touches."""
+        items = [Item(0, ((0, 0.0),) * 2, ((0, 0.0),) * 2, frozenset({number}), frozenset(touched))
+                 for number, touched in enumerate(((), (), (0,)))]
+        sky = Skyline(items)
+        sky.cover(0.0, 10.0, 0)
+        self.assertEqual((sky.between(-5.0, 1.0), sky.between(11.0, 12.0)), ([0], []))
+        sky.cover(5.0, 20.0, 2)
+        self.assertEqual(sky.between(6.0, 8.0), [2, 0])
+        sky.cover(-5.0, 30.0, 1)
+        self.assertEqual(sky.between(-9.0, 40.0), [1])
+
+
+if __name__ == "__main__":
+    unittest.main()
