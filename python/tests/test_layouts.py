@@ -282,6 +282,14 @@ class Given(unittest.TestCase):
             left = into[0] * out[1] - into[1] * out[0]
             self.assertEqual((left > 0) - (left < 0), 2 - angle)
 
+    def test_the_best_face(self) -> None:
+        """The angle of 270 degrees needs two bends inside, and none outside."""
+        for outer, bends, face in zip(CHOICES, (2, 0), ({("a", "b"), ("b", "c")}, {("a", "d"), ("b", "a")})):
+            layout = planarbend.layout_of(self.SQUARE, outer, angles={("b", "a"): 3})
+            self.assertEqual(layout.bends, bends)
+            around = layout.outer_face
+            self.assertLessEqual(face, set(zip(around, around[1:] + around[:1])))
+
     def test_turns(self) -> None:
         for turns in range(-12, 13):
             layout = planarbend.layout_of(self.SQUARE, inner=self.INSIDE, turns={("b", "a"): -turns})
