@@ -1,12 +1,12 @@
 //! Orthogonal representations with the fewest bends (least shapes), by a flow of least cost (Tamassia 1987), also among those
 //! that keep what is given.
 
-ghost use Rattle.std.specs.Prelude.{◌≡◌, ◌+◌, ◌<◌, ◌≤◌, ◌++◌, ◌↔◌, nat_abs, IsTrue, None, OnOk, IfOk, IfErr, length, map, replicate, slice_index, slice_index_or, vec_len, ◌^◌};
+ghost use Rattle.std.specs.Prelude.{◌≡◌, ◌+◌, ◌<◌, ◌≤◌, ◌++◌, nat_abs, None, OnOk, IfOk, IfErr, length, map, replicate, slice_index, slice_index_or, vec_len, ◌^◌};
 ghost use Rattle.std.specs.List.{range_with_len};
 ghost use Rattle.faces.specs.Planes.{darts, vertices, reverse_dart};
 ghost use Rattle.networks.specs.Networks.{node_count};
 ghost use Rattle.networks.specs.Flow.{Solves, amounts, at_nodes};
-ghost use Rattle.flow_network.specs.Given.{CanBeGiven, nothing_given, angle_given, turns_given, lefts_given};
+ghost use Rattle.flow_network.specs.Given.{CanBeGiven, nothing_given, turns_given};
 ghost use Rattle.flow_network.specs.declared.given.TheConstants.{MAX_GIVEN_TURNS};
 ghost use Rattle.flow_network.specs.FaceNet.{IsKeepingNetOf};
 ghost use Rattle.ortho_rep.specs.declared.turn.TheConstants.{MAX_REPEATS};
@@ -152,57 +152,46 @@ fn darts_in(
     ensures flow { IfOk result (λ found. HaveShapes (angles_of given.now (amounts solved.now.flow))
         (strings_of plane.now given.now (amounts solved.now.flow)) (darts plane.now) found.items) }
 {
+    if given.is_nothing() {
+        return darts_with(lent, plane, &Given::nothing(), net, solved);
+    }
+    darts_with(lent, plane, given, net, solved)
+}
+
+/// The same. It is inlined, so that no list is read where nothing is given.
+#[inline(always)]
+fn darts_with(
+    lent: Vec<DartShape>,
+    plane: &Plane,
+    given: &Given<'_>,
+    net: &FaceNet,
+    solved: &Solved,
+) -> Result<Vec<DartShape>, AllocError>
+    requires can { CanBeGiven given.now.angles given.now.turns }
+    requires net { IsKeepingNetOf plane.now given.now net.now }
+    requires solves { Solves net.now.network solved.now }
+    ensures repeats { IfOk result (λ found. AreRepeats found.items) }
+    ensures flow { IfOk result (λ found. HaveShapes (angles_of given.now (amounts solved.now.flow))
+        (strings_of plane.now given.now (amounts solved.now.flow)) (darts plane.now) found.items) }
+{
     let darts = plane.graph().darts();
     let mut found = emptied(lent, usize::from(darts))?;
-    let is_nothing = given.is_nothing();
     for dart in 0..darts {
-        let angle = dart_angle(plane, given, is_nothing, net, solved, dart);
-        let (turn, count) = dart_turns(plane, given, is_nothing, net, solved, dart);
+        let angle = dart_angle(plane, given, net, solved, dart);
+        let (turn, count) = dart_turns(plane, given, net, solved, dart);
         found.push(DartShape { angle, turn, count })?;
     }
     Ok(found)
 }
 
-/// The angle that is given of a dart. No list is read where nothing is given.
-fn angle_asked(given: &Given<'_>, is_nothing: bool, dart: u16) -> Option<u8>
-    requires { IsTrue is_nothing ↔ (given.now ≡ nothing_given) }
-    ensures { result ≡ angle_given given.now dart }
-{
-    if is_nothing {
-        return None;
-    }
-    given.angle(dart)
-}
-
-/// The turns that are given of a dart. No list is read where nothing is given.
-fn turns_asked(plane: &Plane, given: &Given<'_>, is_nothing: bool, dart: u16) -> Option<i32>
-    requires nothing { IsTrue is_nothing ↔ (given.now ≡ nothing_given) }
-    requires within { dart < darts plane.now }
-    ensures value { result ≡ turns_given plane.now given.now dart }
-    ensures few { nat_abs (lefts_given result) ≤ MAX_GIVEN_TURNS }
-{
-    if is_nothing {
-        return None;
-    }
-    given.turns(plane, dart)
-}
-
 /// The angle of a dart: what is given, or else one right angle and what its corner arc carries.
-fn dart_angle(
-    plane: &Plane,
-    given: &Given<'_>,
-    is_nothing: bool,
-    net: &FaceNet,
-    solved: &Solved,
-    dart: u16,
-) -> u8
-    requires nothing { IsTrue is_nothing ↔ (given.now ≡ nothing_given) }
+fn dart_angle(plane: &Plane, given: &Given<'_>, net: &FaceNet, solved: &Solved, dart: u16) -> u8
     requires net { IsKeepingNetOf plane.now given.now net.now }
     requires solves { Solves net.now.network solved.now }
     requires within { dart < darts plane.now }
     ensures { result ≡ angles_of given.now (amounts solved.now.flow) dart }
 {
-    match angle_asked(given, is_nothing, dart) {
+    match given.angle(dart) {
         Some(angle) => angle,
         None => solved.flow(net.corner_arc(dart)) as u8 + 1,
     }
@@ -212,12 +201,10 @@ fn dart_angle(
 fn dart_turns(
     plane: &Plane,
     given: &Given<'_>,
-    is_nothing: bool,
     net: &FaceNet,
     solved: &Solved,
     dart: u16,
 ) -> (Turn, u16)
-    requires nothing { IsTrue is_nothing ↔ (given.now ≡ nothing_given) }
     requires can { CanBeGiven given.now.angles given.now.turns }
     requires net { IsKeepingNetOf plane.now given.now net.now }
     requires solves { Solves net.now.network solved.now }
@@ -225,7 +212,7 @@ fn dart_turns(
     ensures turns { replicate result.1 result.0 ≡ strings_of plane.now given.now (amounts solved.now.flow) dart }
     ensures short { result.1 ≤ MAX_REPEATS }
 {
-    match turns_asked(plane, given, is_nothing, dart) {
+    match given.turns(plane, dart) {
         Some(turns) => given_turns(turns),
         None => flow_turns(plane, given, net, solved, dart),
     }
