@@ -305,6 +305,19 @@ class Given(unittest.TestCase):
         found = list(planarbend.layouts([self.SQUARE] * 3, turns={("a", "b"): 40, ("c", "d"): -40}))
         self.assertEqual([(layout.number, layout.bends) for layout in found], [(1, 80), (2, 80), (3, 80)])
 
+    def test_a_large_graph(self) -> None:
+        """A cycle of 400 vertices, each with two leaves outside, needs 396 bends, which may all be along one edge."""
+        graph = {("side", at): [("side", (at + 1) % 400), ("leaf", at, 0), ("leaf", at, 1), ("side", (at - 1) % 400)]
+                 for at in range(400)}
+        graph |= {("leaf", at, end): [("side", at)] for at in range(400) for end in (0, 1)}
+        edge = ("side", 0), ("side", 1)
+        layout = planarbend.layout_of(graph, inner=[edge], turns={edge: -396})
+        self.assertEqual((len(layout.points), layout.bends, len(layout.corners[edge])), (1200, 396, 396))
+        with self.assertRaises(planarbend.GraphUnkept) as raised:
+            planarbend.layout_of(graph, inner=[edge], straight=[(("side", at), ("side", (at + 1) % 400)) for at in range(400)])
+        self.assertEqual(set(raised.exception.vertices), {("leaf", at, end) for at in range(400) for end in (0, 1)})
+        self.assertEqual(list(map(len, raised.exception.faces)), [2000])
+
     def test_conflicts(self) -> None:
         for turns, straight, said in (
                 ({("a", "b"): 2, ("b", "a"): 2}, [], "2 turns from 'a' to 'b' and 2 turns from 'b' to 'a'"),
