@@ -26,7 +26,7 @@ class Commands(unittest.TestCase):
         stand_in = types.ModuleType("planarbend.schematics.schematic")
         stand_in.schematic_of = self.schematic_of  # type: ignore[attr-defined]
         for patched in (mock.patch.dict(sys.modules, {"planarbend.schematics.schematic": stand_in}),
-                        mock.patch("planarbend.command.engine_of"), mock.patch("planarbend.layout.engine.default_engine")):
+                        mock.patch("planarbend.layout.library.LibraryEngine")):
             patched.start()
             self.addCleanup(patched.stop)
 
