@@ -6,9 +6,11 @@ import math
 from collections.abc import Sequence
 
 from planarbend.layout.engine import Engine
+from planarbend.progress import stage
 from planarbend.schematics.directions import directed
 from planarbend.schematics.drawn import Jog, Schematic, Wire
 from planarbend.schematics.figures import figure, figures_of
+from planarbend.schematics.gathering import gather
 from planarbend.schematics.labelling import label
 from planarbend.schematics.parts import TURNED_OVER, Sheet
 from planarbend.schematics.placing import Placed, lone, placed
@@ -43,7 +45,9 @@ def schematic_of(sheet: Sheet, engine: Engine, seed: int = 0, effort: int = 1, f
     """
     found: list[Placed] = []
     places: list[int] = []
-    for parts in components(sheet):
+    members = components(sheet)
+    for number, parts in enumerate(members, 1):
+        stage(f"component {number} of {len(members)}: {len(parts)} parts and flags")
         places += parts
         found.append(component(part_of_sheet(sheet, parts), engine, seed, effort, free))
     return assembled(sheet, found, places)
@@ -58,7 +62,9 @@ def component(sheet: Sheet, engine: Engine, seed: int, effort: int, free: bool) 
     one = directed([Turning(search.embedding) for search in wirings], free)
     plane = plane_graph(one)
     skeleton = skeleton_of(plane, plane.laid(engine))
-    return placed(Spacing(skeleton, figures_of(skeleton)))
+    found = placed(Spacing(skeleton, figures_of(skeleton)))
+    gather(found)
+    return found
 
 
 def assembled(sheet: Sheet, found: Sequence[Placed], places: Sequence[int]) -> Schematic:
@@ -79,6 +85,7 @@ def assembled(sheet: Sheet, found: Sequence[Placed], places: Sequence[int]) -> S
     result = Schematic(drawn, [whole.poses[at] for at in order], [whole.shapes[at] for at in order], [[] for _ in order],
                        whole.wires, whole.junctions, whole.crossings, size, whole.jogs)
     label(result)
+    stage("writing")
     return result
 
 
