@@ -42,6 +42,21 @@ def schematic_of(sheet: Sheet, engine: Engine, seed: int = 0, effort: int = 1, f
         How long to search for few crossings.
     free : bool
         Whether parts may have any direction.
+
+    Raises
+    ------
+    TooLarge
+        A component takes more vertices than the engine.
+
+    Examples
+    --------
+    >>> from planarbend.layout.library import LibraryEngine
+    >>> from planarbend.schematics.flags import split
+    >>> from planarbend.schematics.readers import read
+    >>> sheet = split(read(b"A divider\\nR1 in out 10k\\nR2 out 0 22k\\nV1 in 0 5\\n.end\\n", "divider.cir"))
+    >>> drawing = schematic_of(sheet, LibraryEngine())  # doctest: +SKIP
+    >>> drawing.bends, len(drawing.crossings), len(drawing.sheet.parts)  # doctest: +SKIP
+    (2, 0, 5)
     """
     found: list[Placed] = []
     places: list[int] = []
