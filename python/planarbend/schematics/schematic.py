@@ -7,10 +7,10 @@ from collections.abc import Sequence
 
 from planarbend.layout.engine import Engine
 from planarbend.progress import stage
-from planarbend.schematics.directions import directed
+from planarbend.schematics.directions import Directed, cheapest
 from planarbend.schematics.drawn import Jog, Schematic, Wire
 from planarbend.schematics.figures import figure, figures_of
-from planarbend.schematics.gathering import gather
+from planarbend.schematics.gathering import gather, length_of
 from planarbend.schematics.labelling import label
 from planarbend.schematics.parts import TURNED_OVER, Sheet
 from planarbend.schematics.placing import Placed, lone, placed
@@ -23,6 +23,8 @@ from planarbend.schematics.wirings import components, part_of_sheet, wirings_of
 
 BORDER = 20.0  # pixels around the drawing
 BETWEEN = 30.0  # pixels between components
+AREA = 300.0  # square pixels that cost as much as a pixel of a wire
+JOG, BEND = 40.0, 100.0  # what a jog costs, and a bend or as much of a wish, in pixels of a wire
 ASPECT = 1.4  # of the width of the drawing to its height, if the components allow it
 
 
@@ -74,12 +76,24 @@ def component(sheet: Sheet, engine: Engine, seed: int, effort: int, free: bool) 
     if not wirings[0].embedding.edge:
         part = sheet.parts[0]
         return lone(figure(part, Pose(0 if free else part.want, False, part.kind in TURNED_OVER), list(range(len(part.pins)))))
-    one = directed([Turning(search.embedding) for search in wirings], free)
+    tried = cheapest([Turning(search.embedding) for search in wirings], free)
+    found = [laid(one, engine) for one in tried]
+    return min(zip(found, tried), key=lambda pair: price_of(pair[0]) + BEND * pair[1].price)[0]
+
+
+def laid(one: Directed, engine: Engine) -> Placed:
+    """Return a wiring with directions in pixels."""
     plane = plane_graph(one)
     skeleton = skeleton_of(plane, plane.laid(engine))
     found = placed(Spacing(skeleton, figures_of(skeleton)))
     gather(found)
     return found
+
+
+def price_of(one: Placed) -> float:
+    """Return what is to be small in a component: the length of wires, the area, and the number of jogs, in pixels of a wire."""
+    left, top, right, bottom = one.bounds()
+    return sum(length_of(wire.points) for wire in one.wires) + (right - left) * (bottom - top) / AREA + JOG * len(one.jogs)
 
 
 def assembled(sheet: Sheet, found: Sequence[Placed], places: Sequence[int]) -> Schematic:
