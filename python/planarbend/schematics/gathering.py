@@ -13,7 +13,8 @@ from planarbend.schematics.spacing import BOX, FLAG, GAP, LEAST, LINE, STEM, TEX
 from planarbend.schematics.strokes import Box, Point
 
 SMALL = 4  # a kind of item beside those of `spacing`: a stub, or the number of a pin
-NARROW = 2.0  # pixels between a small item and others
+NARROW = 3.0  # pixels between a small item and others
+CROSS = 2.0  # pixels, half the size of the cross at a stub
 SAVED = 10.0  # pixels by which a wire must become shorter, unless it loses corners
 BEFORE = tuple(range(12, 97, 3))  # pixels from the other end of a wire to its corner, as far as these are tried
 AFTER = (8, 12, 16, 20, 26, 32, 40, 50)  # and from there to the flag
@@ -40,7 +41,7 @@ class Items:
             self.put(text.box, SMALL if text.role == "number" else TEXT, number)
         for pin, at in zip(part.pins, shape.pins):
             if pin.net is None:
-                self.put(around([at, step(at, pose.side(pin.side), STUB)]), SMALL, number)
+                self.put(grown(around([at, step(at, pose.side(pin.side), STUB)]), CROSS), SMALL, number)
 
     def put_wire(self, found: Placed, number: int) -> None:
         """Add the pieces of a wire."""

@@ -100,4 +100,4 @@ def order_of(wiring: Wiring) -> tuple[object, ...]:
                 dart = wiring.onward[dart]
             dart = wiring.pin_at[dart ^ 1]
         found.append(dart)
-    return tuple(found), tuple(wiring.is_mirrored), tuple(map(tuple, wiring.places))
+    return tuple(found), tuple(wiring.is_mirrored), tuple(tuple(places) for places in wiring.places)
