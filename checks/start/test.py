@@ -6,8 +6,8 @@ passed, M failed, K skipped'; the exit status is 0 if nothing failed, otherwise 
 What `rt ci` proves is kept for `planarbend --build`. What was built stays, also if a test fails or is stopped. If
 `rt ci` fails, no library is built, and the Python tests run with what was built before.
 
-The package's tests are run by the first of this Python and Debian's that has networkx. Those that need networkx,
-Graphviz or rsvg-convert are skipped, by name, if that is missing. `planarbend --test` starts this script.
+The package's tests are run by the first of this Python and Debian's that has networkx, NumPy and SciPy, otherwise by the
+first that has networkx. Those that need one of these, Graphviz or rsvg-convert are skipped, by name, if it is missing. `planarbend --test` starts this script.
 """
 from __future__ import annotations
 
@@ -62,9 +62,12 @@ def program() -> str:
 
 def python() -> str:
     """The Python that runs the package's tests."""
-    has = "import sys, networkx; sys.exit(sys.version_info < (3, 11))"
-    return next((path for path in PYTHONS if os.path.exists(path)
-                 and not subprocess.run([path, "-c", has], capture_output=True).returncode), sys.executable)
+    for modules in ("networkx, numpy, scipy", "networkx"):
+        has = f"import sys, {modules}; sys.exit(sys.version_info < (3, 11))"
+        for path in PYTHONS:
+            if os.path.exists(path) and not subprocess.run([path, "-c", has], capture_output=True).returncode:
+                return path
+    return sys.executable
 
 
 class Sources:

@@ -37,7 +37,7 @@ node-link JSON or graph6; a KiCad netlist or board; or planar_code, of which eac
 networkx (Debian: python3-networkx) tests which graphs are planar, and reads GraphML, GML and graph6. DOT is read by
 Graphviz (graphviz). rsvg-convert (librsvg2-bin) makes PNG and PDF. Layouts are computed by libplanarbend of this
 checkout or the system; or by the program planarbend: the one that PLANARBEND names, that of this checkout, or the one
-on the path.
+on the path. Schematics need the library (./planarbend --build makes it), NumPy and SciPy (python3-numpy, python3-scipy).
 
 exit status: 0; 1 if the graph cannot be read or drawn (standard error says why, and nothing is written); 2 if the
 command line is wrong; 3 if a page was written, but its planar_code does not end complete
@@ -227,6 +227,7 @@ def is_circuit(data: bytes, words: argparse.Namespace) -> bool:
 
 def draw_circuit(data: bytes, words: argparse.Namespace) -> int:
     """Return the exit status after drawing the schematic of a circuit."""
+    from planarbend.layout.library import LibraryEngine
     from planarbend.schematics import schematic_of
     from planarbend.schematics.flags import split as flagged
     from planarbend.schematics.picture import svg as schematic_svg
@@ -242,7 +243,7 @@ def draw_circuit(data: bytes, words: argparse.Namespace) -> int:
         print(f"planarbend-draw: {words.graph}: {note}", file=sys.stderr)
     with Progress("planarbend-draw"):
         wired = [name for name in map(str.strip, words.wire.split(",")) if name]
-        drawing = schematic_of(flagged(sheet, words.flags, wired), engine_of(), words.seed, words.effort, words.free)
+        drawing = schematic_of(flagged(sheet, words.flags, wired), LibraryEngine(), words.seed, words.effort, words.free)
     if ending == ".json":
         with open(words.output, "w", encoding="utf-8") as out:
             out.write(drawing.json() + "\n")

@@ -42,7 +42,8 @@ TESTS = Path(__file__).resolve().parent
 ROOT = TESTS.parents[1]
 EXCUSED = TESTS / "mutants.txt"
 LEFT_OUT = ("test_install",)
-PRELOADED = ("networkx", "unittest.mock", "xml.etree.ElementTree", "subprocess", "ctypes", "decimal", "html")
+PRELOADED = ("networkx", "numpy", "scipy.optimize", "scipy.sparse", "unittest.mock", "xml.etree.ElementTree", "subprocess", "ctypes",
+             "decimal", "html")
 COPIED = {"test_programs.Found": ("programs.py", "library.py")}  # it tries these in a copy, where no calls are noted
 LEAST = 4  # mutants of a module
 MOST_SECONDS = 1200  # of one mutant, of the clock: only those that wait for ever need it

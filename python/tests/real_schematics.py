@@ -2,8 +2,8 @@
 """Draws 13 sheets of KiCad, seven modules of yosys and six SPICE netlists as schematics, and compares figures with limits.
 
 KiCad's sheets are those of its package of demonstrations, yosys makes the modules of Verilog in tests/schematics (Debian:
-kicad-demos, yosys; the first is downloaded with apt-get if it is not installed, and deleted afterwards). Each is drawn by a
-separate process `python3 -m planarbend draw`, and schematic_judge.py judges each drawing by the file.
+kicad-demos, yosys; if it is missing, apt-get downloads the first, which is deleted afterwards, and installs the second). Each
+is drawn by a separate process `python3 -m planarbend draw`, and schematic_judge.py judges each drawing by the file.
 
 Figures: crossings; bends, those of jogs at boxes included; jogs into symbols; parts that are upright, of those that are to be;
 boxes taller or wider than 1.6 times their need, and the worst; pairs of parallel wires nearer than 12 pixels, and of boxes
@@ -13,6 +13,7 @@ from __future__ import annotations
 
 import argparse
 import json
+import shutil
 import statistics
 import subprocess
 import sys
@@ -74,6 +75,8 @@ def source_of(name: str, group: str, folder: Path) -> tuple[Path, str]:
         return package("kicad-demos", folder) / (NINE | LARGE)[name] / f"{name}.kicad_sch", "schematic"
     if group == "spice":
         return TESTS / "schematics" / f"{name}.cir", "spice"
+    if not shutil.which("yosys"):
+        subprocess.run(["apt-get", "-q", "install", "-y", "--no-install-recommends", "yosys"], check=True, stdout=subprocess.DEVNULL)
     file, top, script = MODULES[name]
     made = folder / f"{name}.json"
     steps = f"read_verilog {TESTS}/schematics/{file}.v; hierarchy -top {top}; {script}; write_json {made}"

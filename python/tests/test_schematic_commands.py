@@ -1,9 +1,11 @@
 """`planarbend-draw` of circuits, with a stand-in for what places and wires."""
 from __future__ import annotations
 
+import io
 import json
 import sys
 import tempfile
+import time
 import types
 import unittest
 from pathlib import Path
@@ -13,6 +15,9 @@ from unittest import mock
 import support
 from schematic_judge import judge_alone
 from schematic_rows import rows
+
+from planarbend.command import run
+from planarbend.progress import CLEAR, stage
 
 FILES = support.TESTS / "schematics"
 
@@ -26,7 +31,7 @@ class Commands(unittest.TestCase):
         stand_in = types.ModuleType("planarbend.schematics.schematic")
         stand_in.schematic_of = self.schematic_of  # type: ignore[attr-defined]
         for patched in (mock.patch.dict(sys.modules, {"planarbend.schematics.schematic": stand_in}),
-                        mock.patch("planarbend.command.engine_of"), mock.patch("planarbend.layout.engine.default_engine")):
+                        mock.patch("planarbend.layout.library.LibraryEngine")):
             patched.start()
             self.addCleanup(patched.stop)
 
@@ -93,6 +98,42 @@ class Commands(unittest.TestCase):
         broken = self.folder / "broken.kicad_sch"
         broken.write_text("(kicad_sch (version 20211123)\n(symbol (lib_id x)))")
         self.refused([broken, "-o", "-"], f"{broken}:2: a symbol x that the file does not describe")
+
+    def test_progress_on_a_terminal_only(self) -> None:
+        class Errors(io.StringIO):
+            """Standard error, which may be a terminal."""
+
+            is_terminal = False
+
+            def isatty(self) -> bool:
+                return self.is_terminal
+
+        def slowly(*given: Any) -> Any:
+            stage("component 1 of 1")
+            time.sleep(0.2)
+            return self.schematic_of(*given)
+
+        sys.modules["planarbend.schematics.schematic"].schematic_of = slowly  # type: ignore[attr-defined]
+        for is_terminal in (True, False):
+            errors = Errors()
+            errors.is_terminal = is_terminal
+            words = ["planarbend-draw", str(FILES / "nand.cir"), "-o", str(self.folder / "out.svg")]
+            with (mock.patch("planarbend.progress.AFTER", 0.01), mock.patch.object(sys, "stderr", errors),
+                  mock.patch.object(sys, "argv", words)):
+                self.assertEqual(run(), 0)
+            if is_terminal:
+                self.assertIn("planarbend-draw: 0 s component 1 of 1", errors.getvalue())
+                self.assertTrue(errors.getvalue().endswith(CLEAR))
+            else:
+                self.assertEqual(errors.getvalue(), "")
+
+    def test_without_the_library(self) -> None:
+        out = self.folder / "out.svg"
+        for words in ({}, {"PLANARBEND": "/bin/true"}):
+            ran = support.ran(["draw", str(FILES / "nand.cir"), "-o", str(out)], PLANARBEND_LIBRARY="", **words)
+            self.assertEqual(ran.returncode, 1)
+            self.assertIn(b"libplanarbend.so.2 was not found: run ./planarbend --build", ran.stderr)
+            self.assertFalse(out.exists())
 
     def test_draw(self) -> None:
         from planarbend import schematics

@@ -1,6 +1,7 @@
 """Wirings are those of their sheets, with pins in order and few crossings; directions cost least; the core gets their shape."""
 from __future__ import annotations
 
+import functools
 import importlib.util
 import os
 import random
@@ -30,12 +31,15 @@ if has_scipy:
     from planarbend.schematics.turning import Turning, Wish
     from scipy.optimize import Bounds, LinearConstraint, linprog, milp
 
+COUNT = 12  # parts of a random sheet
 PRINTED = """
 import sys
 sys.path[:0] = sys.argv[1:]
 from sheets import random_sheet
+from planarbend.schematics import wirings
 from planarbend.schematics.wirings import components, part_of_sheet, wirings_of
-sheet = random_sheet(3, 20)
+wirings.WORK = 150_000
+sheet = random_sheet(3, 14)
 for one in wirings_of(part_of_sheet(sheet, components(sheet)[0]), seed=5):
     wiring = one.embedding
     print(wiring.crossings, wiring.origin, wiring.onward, wiring.edge, wiring.dart_of, wiring.is_mirrored, wiring.places)
@@ -66,6 +70,18 @@ def largest(seed: int, count: int) -> Sheet:
     """The largest component of a random sheet."""
     sheet = random_sheet(seed, count)
     return part_of_sheet(sheet, components(sheet)[0])
+
+
+@functools.cache
+def turnings_of(seed: int, count: int) -> tuple[Turning, ...]:
+    """The wirings of the largest component of a random sheet, which tests share."""
+    return tuple(Turning(one.embedding) for one in wirings_of(largest(seed, count)))
+
+
+@functools.cache
+def plane_of(seed: int) -> PlaneGraph:
+    """The plane graph of a random sheet, which tests share."""
+    return plane_graph(directed(turnings_of(seed, COUNT)))
 
 
 def faces_of(wiring: Wiring) -> list[list[int]]:
@@ -172,7 +188,7 @@ class Planarizations(unittest.TestCase):
 
     def test_random_sheets(self) -> None:
         """Random sheets: as they are put in, after each round of moves, and as `wirings_of` finds them."""
-        for seed, count in [*((seed, 14) for seed in range(12)), (12, 40)]:
+        for seed, count in [*((seed, 14) for seed in range(8)), (12, 30)]:
             with self.subTest(seed=seed):
                 sheet = random_sheet(seed, count)
                 search = Routing(Wiring(sheet), random.Random(seed))
@@ -269,8 +285,8 @@ class Crossings(unittest.TestCase):
 
     def test_hanging(self) -> None:
         """Parts that hang on one net are put in last, each after what it hangs on; they add no crossing."""
-        for seed in range(6):
-            sheet = largest(seed, 16)
+        for seed in range(3):
+            sheet = largest(seed, 14)
             order = hanging(Wiring(sheet))
             rest = [part for number, part in enumerate(sheet.parts) if number not in order]
             for place, part in enumerate(order):
@@ -298,10 +314,6 @@ class Crossings(unittest.TestCase):
 @needs_scipy
 class Directions(unittest.TestCase):
     """Directions fit together and cost least."""
-
-    def found(self, seed: int, count: int = 10, **more) -> list[Turning]:
-        """The wirings of a random sheet."""
-        return [Turning(one.embedding, **more) for one in wirings_of(largest(seed, count))]
 
     def check(self, one: Directed) -> None:
         """Check angles, that each face turns by 4 and the outer one by -4, and the directions at the ends of each wire."""
@@ -362,16 +374,16 @@ class Directions(unittest.TestCase):
 
     def test_free(self) -> None:
         """Without wishes: the directions fit and cost least, for each outer face that is tried."""
-        for seed in range(6):
-            for one in freely(self.found(seed)[:2]):
+        for seed in range(4):
+            for one in freely(turnings_of(seed, COUNT)[:2]):
                 self.check(one)
                 self.check_certificate(one.solution)
 
     def test_wished(self) -> None:
         """With wishes: chips and gates are upright, and what is found costs least for the directions that are wanted."""
-        for seed in range(8):
+        for seed in range(6):
             with self.subTest(seed=seed):
-                turnings = self.found(seed, 14)
+                turnings = turnings_of(seed, COUNT)
                 one = directed(turnings)
                 self.check(one)
                 self.check_certificate(one.solution)
@@ -386,7 +398,7 @@ class Directions(unittest.TestCase):
         """After one wanted direction is changed, the rest of the program need not be solved again; the pulls bound what is
         gained."""
         for seed in range(4):
-            one = wished(freely(self.found(seed, 14))[:1])[0]
+            one = wished(freely(turnings_of(seed, COUNT))[:1])[0]
             case, pulls = one.solution.case, one.solution.pulls()
             steps = [(place, step) for place in range(len(case.wanted)) for step in (-4, 4)]
             whole = list(solve(case.with_wanted(*change) for change in steps))
@@ -398,7 +410,8 @@ class Directions(unittest.TestCase):
     def test_any_directions(self) -> None:
         """There is a shape for all directions of all parts."""
         dice = random.Random(2)
-        for turning in self.found(1)[:3]:
+        for wiring in [one.wiring for one in turnings_of(1, COUNT)[:3]]:
+            turning = Turning(wiring, ())
             turning.wishes = [Wish(part, 0, 1, None) for part in range(turning.wiring.vertex_count)]
             program = Program(turning, True)
             for face in range(3):
@@ -409,9 +422,9 @@ class Directions(unittest.TestCase):
 
     def test_least(self) -> None:
         """A mixed-integer program that chooses windings and whole turns too has the same optimum."""
-        for seed in range(12):
+        for seed in range(7):
             with self.subTest(seed=seed):
-                one = directed(self.found(seed, 5)[:2])
+                one = directed(turnings_of(seed, 5)[:2])
                 least = best_of_all(one.turning, one.outer, True)
                 self.assertAlmostEqual(one.solution.cost, least)
                 free = freely([one.turning])[0]
@@ -508,14 +521,10 @@ class Integers:
 class Core(unittest.TestCase):
     """The plane graph and its conditions have the shape as their optimum."""
 
-    def found(self, seed: int, count: int = 14) -> PlaneGraph:
-        """The plane graph of a random sheet."""
-        return plane_graph(directed([Turning(one.embedding) for one in wirings_of(largest(seed, count))]))
-
     def test_plane(self) -> None:
         """The graph is simple, plane and connected, of degree at most 4."""
-        for seed in range(8):
-            lists = self.found(seed).lists
+        for seed in range(6):
+            lists = plane_of(seed).lists
             plane = Plane(lists)
             self.assertEqual(plane.vertices - len(plane.darts) // 2 + plane.faces, 2)
             for vertex, others in enumerate(lists, 1):
@@ -525,9 +534,9 @@ class Core(unittest.TestCase):
     def test_fewest_bends(self) -> None:
         """A linear program of angles and turns with the conditions has as many bends as the directions promise; without the
         turns no more."""
-        for seed in range(10):
+        for seed in range(6):
             with self.subTest(seed=seed):
-                found = self.found(seed)
+                found = plane_of(seed)
                 given = given_of(found)
                 self.assertEqual(least_bends(found.lists, *given), found.directed.solution.bends)
                 self.assertLessEqual(least_bends(found.lists, given[0], given[1], {}), found.directed.solution.bends)
@@ -536,8 +545,8 @@ class Core(unittest.TestCase):
     def test_drawn(self) -> None:
         """The library draws the shape, as a whole turned so that all directions are right."""
         engine = given_engine()
-        for seed in range(10):
-            found = self.found(seed)
+        for seed in range(6):
+            found = plane_of(seed)
             grid = found.laid(engine)
             one = found.directed
             for dart, turns in one.turns().items():
@@ -554,7 +563,7 @@ class Core(unittest.TestCase):
 
     def test_refused(self) -> None:
         """A graph that is too large, and a shape with another number of bends, are refused."""
-        found = self.found(1)
+        found = plane_of(1)
         engine = mock.Mock(most_vertices=len(found.around) - 1)
         with self.assertRaises(TooLarge) as told:
             found.laid(engine)

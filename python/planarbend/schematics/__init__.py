@@ -59,8 +59,10 @@ def draw(file: str, output: str, inner: str | None = None, flags: int = 8, wired
     ------
     ReadError
         The file cannot be read as a circuit.
-    PlanarbendError
-        The library is missing, or a part of the circuit is too large.
+    NoProgram
+        The library is missing.
+    TooLarge
+        A connected part of the circuit is too large for it.
     NoConverter
         rsvg-convert is missing.
 
@@ -71,7 +73,7 @@ def draw(file: str, output: str, inner: str | None = None, flags: int = 8, wired
     (0, 0)
     """
     from planarbend.drawing.picture import check_output, write_picture
-    from planarbend.layout.engine import default_engine
+    from planarbend.layout.library import LibraryEngine
     from planarbend.schematics.flags import split
     from planarbend.schematics.picture import svg
     from planarbend.schematics.readers import read
@@ -80,7 +82,7 @@ def draw(file: str, output: str, inner: str | None = None, flags: int = 8, wired
     check_output(output)
     with open(file, "rb") as source:
         sheet = read(source.read(), file, inner=inner)
-    found = schematic_of(split(sheet, flags, wired), default_engine(), seed, effort, free)
+    found = schematic_of(split(sheet, flags, wired), LibraryEngine(), seed, effort, free)
     if os.path.splitext(output)[1] == ".json":
         with open(output, "w", encoding="utf-8") as out:
             out.write(found.json() + "\n")

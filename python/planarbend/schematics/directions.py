@@ -19,7 +19,8 @@ from planarbend.schematics.turning import Turning
 
 FACES = 12  # outer faces of each wiring that are tried without wishes, the longest first
 TURNED = 16  # wirings with an outer face that are tried with wishes
-CLIMBED = 4  # of these, those in which single wanted directions are changed
+CLIMBED = 8  # of these, those in which single wanted directions are changed
+NEAR = 1.0  # by how much the price of drawings that are compared may be above the lowest one
 RIM = 0.4  # what a part that belongs to the rim costs inside, in bends
 SAME = 1e-6
 
@@ -102,7 +103,12 @@ def nearest(turning: Turning, directions: Numbers, turns: int) -> Numbers:
 
 
 def directed(turnings: Sequence[Turning], free: bool = False) -> Directed:
-    """Return the directions of the wiring in which they cost least.
+    """Return the directions that cost least, of those of `cheapest`."""
+    return cheapest(turnings, free)[0]
+
+
+def cheapest(turnings: Sequence[Turning], free: bool = False) -> list[Directed]:
+    """Return wirings with directions whose prices are near to the lowest one that is found, the cheapest first.
 
     Parameters
     ----------
@@ -112,10 +118,10 @@ def directed(turnings: Sequence[Turning], free: bool = False) -> Directed:
         Whether no wish counts.
     """
     found = freely(turnings, free)
-    if free or not found[0].turning.wishes:
-        return found[0]
-    turned = sorted(wished(found[:TURNED]), key=lambda one: one.price)
-    return min(map(climbed, turned[:CLIMBED]), key=lambda one: one.price)
+    if not free and found[0].turning.wishes:
+        turned = sorted(wished(found[:TURNED]), key=lambda one: one.price)
+        found = sorted(map(climbed, turned[:CLIMBED]), key=lambda one: one.price)
+    return [one for one in found[:CLIMBED] if one.price < found[0].price + NEAR]
 
 
 def freely(turnings: Sequence[Turning], free: bool = False) -> list[Directed]:

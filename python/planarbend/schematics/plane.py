@@ -177,7 +177,9 @@ class PlaneGraph:
 
     def _turned(self, grid: GridWiring) -> GridWiring:
         """Return a drawing after it is turned as a whole, so that darts leave in their directions, from (0, 0) up."""
-        dart = next(iter(grid.lines))
+        turning = self.directed.turning
+        wished = {wish.variable for wish in turning.wishes}  # of the parts whose directions the core has to keep
+        dart = min(grid.lines, key=lambda one: turning.wiring.origin[one] not in wished)
         (x, y), (right, above) = grid.lines[dart][:2]
         heads = ((right > x) - (right < x), (above > y) - (above < y))
         turns = (self.directed.direction(dart) - UNITS.index(heads)) % 4

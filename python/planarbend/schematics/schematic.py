@@ -6,9 +6,11 @@ import math
 from collections.abc import Sequence
 
 from planarbend.layout.engine import Engine
-from planarbend.schematics.directions import directed
+from planarbend.progress import stage
+from planarbend.schematics.directions import Directed, cheapest
 from planarbend.schematics.drawn import Jog, Schematic, Wire
 from planarbend.schematics.figures import figure, figures_of
+from planarbend.schematics.gathering import gather, length_of
 from planarbend.schematics.labelling import label
 from planarbend.schematics.parts import TURNED_OVER, Sheet
 from planarbend.schematics.placing import Placed, lone, placed
@@ -21,6 +23,8 @@ from planarbend.schematics.wirings import components, part_of_sheet, wirings_of
 
 BORDER = 20.0  # pixels around the drawing
 BETWEEN = 30.0  # pixels between components
+AREA = 300.0  # square pixels that cost as much as a pixel of a wire
+JOG, BEND = 40.0, 100.0  # what a jog costs, and a bend or as much of a wish, in pixels of a wire
 ASPECT = 1.4  # of the width of the drawing to its height, if the components allow it
 
 
@@ -40,10 +44,27 @@ def schematic_of(sheet: Sheet, engine: Engine, seed: int = 0, effort: int = 1, f
         How long to search for few crossings.
     free : bool
         Whether parts may have any direction.
+
+    Raises
+    ------
+    TooLarge
+        A component takes more vertices than the engine.
+
+    Examples
+    --------
+    >>> from planarbend.layout.library import LibraryEngine
+    >>> from planarbend.schematics.flags import split
+    >>> from planarbend.schematics.readers import read
+    >>> sheet = split(read(b"A divider\\nR1 in out 10k\\nR2 out 0 22k\\nV1 in 0 5\\n.end\\n", "divider.cir"))
+    >>> drawing = schematic_of(sheet, LibraryEngine())  # doctest: +SKIP
+    >>> drawing.bends, len(drawing.crossings), len(drawing.sheet.parts)  # doctest: +SKIP
+    (2, 0, 5)
     """
     found: list[Placed] = []
     places: list[int] = []
-    for parts in components(sheet):
+    members = components(sheet)
+    for number, parts in enumerate(members, 1):
+        stage(f"component {number} of {len(members)}: {len(parts)} parts and flags")
         places += parts
         found.append(component(part_of_sheet(sheet, parts), engine, seed, effort, free))
     return assembled(sheet, found, places)
@@ -55,10 +76,24 @@ def component(sheet: Sheet, engine: Engine, seed: int, effort: int, free: bool) 
     if not wirings[0].embedding.edge:
         part = sheet.parts[0]
         return lone(figure(part, Pose(0 if free else part.want, False, part.kind in TURNED_OVER), list(range(len(part.pins)))))
-    one = directed([Turning(search.embedding) for search in wirings], free)
+    tried = cheapest([Turning(search.embedding) for search in wirings], free)
+    found = [laid(one, engine) for one in tried]
+    return min(zip(found, tried), key=lambda pair: price_of(pair[0]) + BEND * pair[1].price)[0]
+
+
+def laid(one: Directed, engine: Engine) -> Placed:
+    """Return a wiring with directions in pixels."""
     plane = plane_graph(one)
     skeleton = skeleton_of(plane, plane.laid(engine))
-    return placed(Spacing(skeleton, figures_of(skeleton)))
+    found = placed(Spacing(skeleton, figures_of(skeleton)))
+    gather(found)
+    return found
+
+
+def price_of(one: Placed) -> float:
+    """Return what is to be small in a component: the length of wires, the area, and the number of jogs, in pixels of a wire."""
+    left, top, right, bottom = one.bounds()
+    return sum(length_of(wire.points) for wire in one.wires) + (right - left) * (bottom - top) / AREA + JOG * len(one.jogs)
 
 
 def assembled(sheet: Sheet, found: Sequence[Placed], places: Sequence[int]) -> Schematic:
@@ -79,6 +114,7 @@ def assembled(sheet: Sheet, found: Sequence[Placed], places: Sequence[int]) -> S
     result = Schematic(drawn, [whole.poses[at] for at in order], [whole.shapes[at] for at in order], [[] for _ in order],
                        whole.wires, whole.junctions, whole.crossings, size, whole.jogs)
     label(result)
+    stage("writing")
     return result
 
 

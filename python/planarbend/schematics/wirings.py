@@ -61,7 +61,7 @@ def hanging(wiring: Wiring) -> list[int]:
 
 
 def wirings_of(sheet: Sheet, seed: int = 0, effort: int = 1) -> list[Routing]:
-    """Return wirings of a connected sheet with equally few crossings, at most `MOST_KEPT`, in order of discovery.
+    """Return different wirings of a connected sheet with equally few crossings, at most `MOST_KEPT`, in order of discovery.
 
     The same arguments give the same result.
     """
@@ -80,9 +80,24 @@ def wirings_of(sheet: Sheet, seed: int = 0, effort: int = 1) -> list[Routing]:
         if not kept or search.embedding.crossings == kept[0].embedding.crossings and len(kept) < MOST_KEPT:
             kept.append(search)
         enough = len(kept) >= MOST_KEPT and not kept[0].embedding.crossings
-        if enough or work > WORK * effort and number + 1 >= LEAST_STARTS or not inner:
+        if enough or work > WORK * effort and number + 1 >= LEAST_STARTS:
             break
+    found: dict[object, Routing] = {}
     for search in kept:
         for part in last:
             search.put_part(part)
-    return kept
+        found.setdefault(order_of(search.embedding), search)
+    return list(found.values())
+
+
+def order_of(wiring: Wiring) -> tuple[object, ...]:
+    """Return what two wirings have in common if they are the same but for numbers of pieces: for each pin the next one along
+    its face, and how parts are put."""
+    found = []
+    for dart in wiring.dart_of:
+        if dart != NONE:
+            while wiring.pin_at[dart ^ 1] == NONE:
+                dart = wiring.onward[dart]
+            dart = wiring.pin_at[dart ^ 1]
+        found.append(dart)
+    return tuple(found), tuple(wiring.is_mirrored), tuple(tuple(places) for places in wiring.places)
