@@ -43,8 +43,18 @@ class Whole(unittest.TestCase):
         except (ImportError, NoProgram, PlanarbendError, OSError) as error:
             raise unittest.SkipTest(f"needs numpy, scipy and the library: {error}") from None
 
-    def test_hand_written_files(self) -> None:
-        for name, form in FORMS.items():
+    def test_spice(self) -> None:
+        self.drawn_files("spice")
+
+    def test_kicad(self) -> None:
+        self.drawn_files("schematic", "netlist")
+
+    def test_yosys(self) -> None:
+        self.drawn_files("yosys")
+
+    def drawn_files(self, *forms: str) -> None:
+        """Look that the judge finds no fault in the drawings of the files of some forms."""
+        for name, form in ((name, form) for name, form in FORMS.items() if form in forms):
             with self.subTest(name):
                 file = FILES / name
                 drawing = json.loads(drawn(read(file.read_bytes(), str(file))).json())
