@@ -84,9 +84,9 @@ enum {
     PLANARBEND_MEMORY = 10,
     /* Some list is too short. The counts are written, and give the sizes needed; no list is written. */
     PLANARBEND_ROOM = 11,
-    /* An unknown size, outer face or drawing, a null pointer that is not allowed, or a record in both widths. With
-       conditions that name only edges of the graph also an angle that is not 1 to 4, or more turns of all edges together
-       than PLANARBEND_MAX_BENDS. */
+    /* An unknown size, outer face or drawing, a null pointer that is not allowed, or a record in both widths. For a record
+       that breaks no rule also: a given angle is not 1 to 4, or all edges together are given more than
+       PLANARBEND_MAX_BENDS turns, which comes after PLANARBEND_NO_EDGE and PLANARBEND_CONFLICT. */
     PLANARBEND_ARGUMENT = 12,
     /* 13 to 16 and 18 occur only with conditions. No shape with the chosen outer face has these angles and turns
        (PLANARBEND_OUTER_BEST: with any allowed outer face). The cut is written. */

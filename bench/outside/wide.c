@@ -18,22 +18,16 @@
 
 #include "planarbend.h"
 
-enum {
-    EDGES = 2 * PLANARBEND_WIDE_MAX_VERTICES,
-    DARTS = 2 * EDGES,
-    BENDS = 6 * PLANARBEND_WIDE_MAX_VERTICES + 4,
-    STACK = 1 << 20,
-    FILLED = 0xA5
-};
+enum { STACK = 1 << 20, FILLED = 0xA5 };
 
-static planarbend_turns turns[DARTS];
-static int32_t vertex_prices[PLANARBEND_WIDE_MAX_VERTICES], face_prices[PLANARBEND_WIDE_MAX_VERTICES + 2];
-static uint32_t corner_starts[EDGES + 1];
-static planarbend_point points[PLANARBEND_WIDE_MAX_VERTICES], corners[BENDS];
-static uint8_t angles[DARTS];
-static const planarbend_lists lists = {angles, DARTS, turns, DARTS, vertex_prices, PLANARBEND_WIDE_MAX_VERTICES, face_prices,
-                                       PLANARBEND_WIDE_MAX_VERTICES + 2, points, PLANARBEND_WIDE_MAX_VERTICES, corner_starts,
-                                       EDGES + 1, corners, BENDS};
+static planarbend_turns turns[PLANARBEND_MAX_DARTS];
+static int32_t vertex_prices[PLANARBEND_MAX_VERTICES], face_prices[PLANARBEND_MAX_FACES];
+static uint32_t corner_starts[PLANARBEND_MAX_EDGES + 1];
+static planarbend_point points[PLANARBEND_MAX_VERTICES], corners[PLANARBEND_MAX_BENDS];
+static uint8_t angles[PLANARBEND_MAX_DARTS];
+#define LIST(name) .name = name, .name##_room = sizeof name / sizeof *name
+static const planarbend_lists lists = {.size = sizeof lists, LIST(angles), LIST(turns), LIST(vertex_prices), LIST(face_prices),
+                                       LIST(points), LIST(corner_starts), LIST(corners)};
 static uint16_t record[UINT16_MAX];
 static _Alignas(4096) unsigned char stack[STACK];
 static planarbend *object;
@@ -52,13 +46,13 @@ static size_t allocated(void) {
 
 static void *call(void *request) {
     double start = nanoseconds(), *took = malloc(sizeof *took);
-    if (planarbend_layout_wide(object, request, &counts, &lists, NULL) != PLANARBEND_OK) exit(3);
+    if (planarbend_layout(object, request, &counts, &lists, NULL) != PLANARBEND_OK) exit(3);
     if (took != NULL) *took = nanoseconds() - start;
     return took;
 }
 
 /* Calls on a stack that was filled, and returns how much of it was written. */
-static size_t stack_of(planarbend_wide_request *request) {
+static size_t stack_of(planarbend_request *request) {
     pthread_t thread;
     pthread_attr_t options;
     void *took;
@@ -72,7 +66,7 @@ static size_t stack_of(planarbend_wide_request *request) {
     return STACK - unused;
 }
 
-static double time_of(planarbend_wide_request *request, int rounds) {
+static double time_of(planarbend_request *request, int rounds) {
     double least = 1e18;
     while (rounds-- > 0) {
         double *took = call(request);
@@ -91,7 +85,8 @@ int main(int count, char **words) {
     if (count != 4 || planarbend_new(&object) != PLANARBEND_OK) return 2;
     for (; fread(&entries, sizeof entries, 1, stdin) == 1; graphs++) {
         if (fread(record, sizeof *record, entries, stdin) != entries) return 2;
-        planarbend_wide_request request = {sizeof request, record, entries, atoi(words[1]), atoi(words[2]), NULL};
+        planarbend_request request = {.size = sizeof request, .record16 = record, .record16_count = entries,
+                                      .outer = atoi(words[1]), .drawing = atoi(words[2])};
         size_t used = atoi(words[3]) > 0 ? stack_of(&request) : 0;
         double took = time_of(&request, atoi(words[3]) > 0 ? atoi(words[3]) : 1);
         if (used > most_stack) most_stack = used;

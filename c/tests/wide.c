@@ -8,9 +8,9 @@
 #include "bounds.h"
 #include "memory.h"
 
-enum { MOST = PLANARBEND_MAX_VERTICES, STACK = 256 << 10, ROOM = 5 << 20 };
+enum { MOST = PLANARBEND_MAX_VERTICES, LONGEST = 65535, STACK = 256 << 10, ROOM = 5 << 20 };
 
-static uint16_t record[5 * MOST + 10];
+static uint16_t record[LONGEST + 1];
 static size_t entries;
 static planarbend_counts counts;
 static uint8_t in_vertices[PLANARBEND_MAX_VERTICES], in_faces[PLANARBEND_MAX_FACES];
@@ -89,6 +89,20 @@ static void look_at_results(planarbend *object) {
     LOOK(called(object, 0, 0, NULL) == PLANARBEND_LOOP);
 }
 
+/* A record has at most 65,535 entries. More are not copied: no memory is asked for. */
+static void look_at_longest(planarbend *object) {
+    entries = 0;
+    while (entries < LONGEST - 1) add(1);
+    add(0);
+    LOOK(called(object, 0, 0, NULL) == PLANARBEND_LOOP);
+    record[entries - 1] = 1, add(0);
+    long before = asked;
+    LOOK(called(object, 0, 0, NULL) == PLANARBEND_NOT_A_RECORD);
+    record[0] = MOST + 1;
+    LOOK(called(object, 0, 0, NULL) == PLANARBEND_LARGE);
+    LOOK(asked == before);
+}
+
 /* A triangle far from vertex 1, on a path: its edges cannot all be straight, and the cut names its vertices or faces. */
 static void look_at_conditions(planarbend *object) {
     const unsigned last = MOST - 2;
@@ -147,6 +161,8 @@ static void *look_at_all(void *nothing) {
     look_at_sizes(object);
     look_at_results(object);
     look_at_results(NULL);
+    look_at_longest(object);
+    look_at_longest(NULL);
     look_at_conditions(object);
     look_at_conditions(NULL);
     planarbend_free(object);

@@ -6,12 +6,13 @@ import os
 import re
 import sys
 
-from planarbend.draw import DrawError, Options, draw
+from planarbend.draw import DrawError, draw
 from planarbend.drawing.drawn import Drawing
 from planarbend.layout.engine import Engine, ProcessEngine, default_engine
 from planarbend.graph import Graph, Kind, split
 from planarbend.programs import SCRIPT, PlanarbendError
 from planarbend.drawing.picture import CONVERTED, WRITTEN, NoConverter, check_output, svg, write_picture
+from planarbend.drawing.plans import Options
 from planarbend.drawing.themes import THEMES
 from planarbend.layout.planar_code import HEADER
 from planarbend.progress import Progress

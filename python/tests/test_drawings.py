@@ -166,11 +166,13 @@ class Limits(unittest.TestCase):
 class SameBytes(unittest.TestCase):
     def test_in_two_processes_and_under_two_hash_seeds(self) -> None:
         with tempfile.TemporaryDirectory() as folder:
-            for name, ending in (("petersen.gml", "json"), ("nested.graphml", "svg"), ("amplifier.net", "svg")):
+            for name, ending, form in (("petersen.gml", "json", "gml"), ("nested.graphml", "svg", "graphml"),
+                                       ("amplifier.net", "svg", "netlist")):
                 told = []
                 for number, seed in enumerate(("0", "4711")):
                     out = Path(folder) / f"{number}.{ending}"
-                    ran = support.ran(["draw", str(support.GRAPHS[name]), "-o", str(out), "--seed", "7"], PYTHONHASHSEED=seed)
+                    words = ["draw", str(support.GRAPHS[name]), "-o", str(out), "--seed", "7", "--format", form]
+                    ran = support.ran(words, PYTHONHASHSEED=seed)
                     self.assertEqual(ran.returncode, 0, ran.stderr)
                     told.append(out.read_bytes())
                 self.assertEqual(told[0], told[1], name)

@@ -282,6 +282,14 @@ class Given(unittest.TestCase):
             left = into[0] * out[1] - into[1] * out[0]
             self.assertEqual((left > 0) - (left < 0), 2 - angle)
 
+    def test_the_best_face(self) -> None:
+        """The angle of 270 degrees needs two bends inside, and none outside."""
+        for outer, bends, face in zip(CHOICES, (2, 0), ({("a", "b"), ("b", "c")}, {("a", "d"), ("b", "a")})):
+            layout = planarbend.layout_of(self.SQUARE, outer, angles={("b", "a"): 3})
+            self.assertEqual(layout.bends, bends)
+            around = layout.outer_face
+            self.assertLessEqual(face, set(zip(around, around[1:] + around[:1])))
+
     def test_turns(self) -> None:
         for turns in range(-12, 13):
             layout = planarbend.layout_of(self.SQUARE, inner=self.INSIDE, turns={("b", "a"): -turns})
@@ -296,6 +304,19 @@ class Given(unittest.TestCase):
         self.assertEqual((layout.bends, len(layout.corners["b", "a"])), (992, 500))
         found = list(planarbend.layouts([self.SQUARE] * 3, turns={("a", "b"): 40, ("c", "d"): -40}))
         self.assertEqual([(layout.number, layout.bends) for layout in found], [(1, 80), (2, 80), (3, 80)])
+
+    def test_a_large_graph(self) -> None:
+        """A cycle of 400 vertices, each with two leaves outside, needs 396 bends, which may all be along one edge."""
+        graph = {("side", at): [("side", (at + 1) % 400), ("leaf", at, 0), ("leaf", at, 1), ("side", (at - 1) % 400)]
+                 for at in range(400)}
+        graph |= {("leaf", at, end): [("side", at)] for at in range(400) for end in (0, 1)}
+        edge = ("side", 0), ("side", 1)
+        layout = planarbend.layout_of(graph, inner=[edge], turns={edge: -396})
+        self.assertEqual((len(layout.points), layout.bends, len(layout.corners[edge])), (1200, 396, 396))
+        with self.assertRaises(planarbend.GraphUnkept) as raised:
+            planarbend.layout_of(graph, inner=[edge], straight=[(("side", at), ("side", (at + 1) % 400)) for at in range(400)])
+        self.assertEqual(set(raised.exception.vertices), {("leaf", at, end) for at in range(400) for end in (0, 1)})
+        self.assertEqual(list(map(len, raised.exception.faces)), [2000])
 
     def test_conflicts(self) -> None:
         for turns, straight, said in (

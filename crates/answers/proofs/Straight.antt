@@ -27,9 +27,9 @@ pub drawn_as_asked : (conditions : Conditions) (choice : Choice) (p : PlaneModel
     → IsKept conditions choice p shape prices → Draws p shape points → KeepsAsked conditions p points
 drawn_as_asked conditions choice p shape prices points kept draws = record {
   turns = λ d inside lesser t asked.
-    let turning : IsTurning (path_along p points d) (turns_at shape d) = (each_lesser (λ e. IsTurning (path_along p points e) (turns_at shape e)) p).0 draws.turns.edges d inside lesser in
-    subst (IsTurning (path_along p points d)) (kept.least.keeps.turns d inside t ((kept.asked.given_for.turns d inside t).1 asked)) turning;
+      let turning : IsTurning (path_along p points d) (turns_at shape d) = (each_lesser (λ e. IsTurning (path_along p points e) (turns_at shape e)) p).0 draws.turns.edges d inside lesser in
+      subst (IsTurning (path_along p points d)) (kept.least.keeps.turns d inside t ((kept.asked.given_for.turns d inside t).1 asked)) turning;
   angles = λ d inside k asked.
-    draws.turns.heads d inside
-    ∙ ap (λ n. left_quarters n (leaving p points (next p d))) (kept.least.keeps.angles d inside k ((kept.asked.given_for.angles d inside k).1 asked));
+      draws.turns.heads d inside
+      ∙ ap (λ n. left_quarters n (leaving p points (next p d))) (kept.least.keeps.angles d inside k ((kept.asked.given_for.angles d inside k).1 asked));
 }

@@ -177,7 +177,8 @@ impl RecordScratch {
 
     /// A drawing, of the kind that the plane names, of a shape that keeps conditions.
     ///
-    /// It has the angles and turns that are asked for, and an edge without turns has no corners. Lengths and coordinates are as for [`RecordScratch::points`].
+    /// It has the angles and turns that are asked for, and an edge without turns has no corners. Lengths and coordinates are
+    /// as for [`RecordScratch::points`].
     ///
     /// # Errors
     ///

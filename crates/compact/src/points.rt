@@ -1,6 +1,6 @@
 //! Compaction by longest paths (Lengauer 1990): points for the vertices and the corners of a plane.
 
-ghost use Rattle.std.specs.Prelude.{◌≡◌, length, map, slice_index, IfOk, IfErr};
+ghost use Rattle.std.specs.Prelude.{◌≡◌, ◌≤◌, length, map, slice_index, IfOk, IfErr};
 ghost use Rattle.std.specs.List.{range_with_len};
 ghost use Rattle.ortho_rep.specs.Storage.{slices_at, AreStarts};
 ghost use Rattle.compact.specs.Monotone.{AreLeastPoints, AreCorners, IsCompactFault, point_at};
@@ -24,6 +24,7 @@ fn vertex_points(
     x: &[u16],
     y: &[u16],
 ) -> Result<Vec<Point>, AllocError>
+    requires enough { boxes.now.old ≤ room }
     requires x_in { length x.now ≡ boxes.now.vertices }
     requires y_in { length y.now ≡ boxes.now.vertices }
     ensures { IfOk result (λ points. points.items
@@ -31,7 +32,7 @@ fn vertex_points(
 {
     let mut points = emptied(lent, room)?;
     for vertex in 0..u32::from(boxes.old_vertices()) {
-        points.push(point_of(x, y, vertex))?;
+        points.push_reserved(point_of(x, y, vertex));
     }
     Ok(points)
 }
@@ -57,7 +58,7 @@ fn list_corners(
     starts.push(0)?;
     for edge in 0..boxes.edges() {
         push_corners(&mut corners, boxes, x, y, boxes.path(edge))?;
-        starts.push(corners.len())?;
+        starts.push_reserved(corners.len());
     }
     Ok((corners, starts))
 }

@@ -18,8 +18,8 @@ use crate::lists::Lists;
 use crate::scratch::Scratch;
 use crate::tables::darts_in;
 use crate::writing::{
-    FEW_ENTRIES, FEW_STARTS, RECORD_ENTRIES, RECORD_STARTS, SOME_ENTRIES, WIDE_STARTS, entry_count,
-    find_starts, write_lists,
+    FEW_ENTRIES, FEW_STARTS, RECORD_ENTRIES, RECORD_STARTS, SHORT_ENTRIES, SHORT_STARTS,
+    SOME_ENTRIES, WIDE_STARTS, entry_count, find_starts, write_lists,
 };
 use common::MAX_VERTICES;
 use planar_code::{Record, WideRecord};
@@ -92,7 +92,9 @@ impl Graph {
     {
         let size = entry_count(rec);
         let order = usize::from(rec.order());
-        if size <= FEW_ENTRIES && order < FEW_STARTS {
+        if size <= SHORT_ENTRIES && order < SHORT_STARTS {
+            Graph::read_within::<SHORT_ENTRIES, SHORT_STARTS>(alloc, scratch, rec)
+        } else if size <= FEW_ENTRIES && order < FEW_STARTS {
             Graph::read_within::<FEW_ENTRIES, FEW_STARTS>(alloc, scratch, rec)
         } else if size <= SOME_ENTRIES {
             Graph::read_within::<SOME_ENTRIES, RECORD_STARTS>(alloc, scratch, rec)

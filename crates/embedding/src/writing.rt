@@ -9,6 +9,12 @@ ghost use Rattle.embedding.specs.Split.{AreStarts, HoldsLists};
 use common::MAX_VERTICES;
 use planar_code::Record;
 
+/// Room for the entries of a graph of 12 vertices whose degrees are at most 4, and of smaller ones.
+pub(crate) const SHORT_ENTRIES: usize = 64;
+
+/// Room for where each of 15 lists begins, and where the last one ends.
+pub(crate) const SHORT_STARTS: usize = 16;
+
 /// Room for the entries of a graph of 62 vertices whose degrees are at most 4, and of smaller ones.
 pub(crate) const FEW_ENTRIES: usize = 310;
 

@@ -152,6 +152,28 @@ fn darts_in(
     ensures flow { IfOk result (λ found. HaveShapes (angles_of given.now (amounts solved.now.flow))
         (strings_of plane.now given.now (amounts solved.now.flow)) (darts plane.now) found.items) }
 {
+    if given.is_nothing() {
+        return darts_with(lent, plane, &Given::nothing(), net, solved);
+    }
+    darts_with(lent, plane, given, net, solved)
+}
+
+/// The same. It is inlined, so that no list is read where nothing is given.
+#[inline(always)]
+fn darts_with(
+    lent: Vec<DartShape>,
+    plane: &Plane,
+    given: &Given<'_>,
+    net: &FaceNet,
+    solved: &Solved,
+) -> Result<Vec<DartShape>, AllocError>
+    requires can { CanBeGiven given.now.angles given.now.turns }
+    requires net { IsKeepingNetOf plane.now given.now net.now }
+    requires solves { Solves net.now.network solved.now }
+    ensures repeats { IfOk result (λ found. AreRepeats found.items) }
+    ensures flow { IfOk result (λ found. HaveShapes (angles_of given.now (amounts solved.now.flow))
+        (strings_of plane.now given.now (amounts solved.now.flow)) (darts plane.now) found.items) }
+{
     let darts = plane.graph().darts();
     let mut found = emptied(lent, usize::from(darts))?;
     for dart in 0..darts {

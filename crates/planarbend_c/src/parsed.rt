@@ -1,6 +1,7 @@
 //! Records that are parsed.
 
-ghost use Rattle.std.specs.Prelude.{◌≡◌, IfOk, IfErr};
+ghost use Rattle.std.specs.Prelude.{◌≡◌, ◌<◌, length, IfOk, IfErr};
+ghost use Rattle.planar_code.specs.declared.TheConstants.{MAX_ENTRIES};
 ghost use Rattle.answers.specs.Kept.{IsKeptPlane, IsUnkept};
 ghost use Rattle.answers.specs.Steps.{IsRefused, IsShaped};
 ghost use Rattle.planarbend_c.specs.Sources.{Bytes, Entries, IsOneRecord, input_lists, input_of, parsed_lists};
@@ -9,10 +10,10 @@ ghost use Rattle.planarbend_c.specs.Faults.{IsUnparsed};
 use crate::outcome::Outcome;
 use crate::source::Source;
 use answers::{KeptPlane, RecordScratch, ShapedPlane};
-use common::{Choice, DrawingKind};
+use common::{Choice, DrawingKind, MAX_VERTICES};
 use conditions::{Conditions, KeepFault};
 use embedding::ReadFault;
-use planar_code::{ParseFault, Record, WideFault, WideRecord};
+use planar_code::{MAX_ENTRIES, ParseFault, Record, WideFault, WideRecord};
 use std::alloc::Global;
 
 /// A record in entries of 8 or of 16 bits.
@@ -99,12 +100,15 @@ fn parsed_bytes(alloc: Global, bytes: &[u8]) -> Result<Parsed, Outcome>
     }
 }
 
-/// The wide record that the entries are.
+/// The wide record that the entries are. More than a record can have are not copied.
 fn parsed_entries(alloc: Global, entries: &[u16]) -> Result<Parsed, Outcome>
     ensures lists { IfOk result (λ rec. parsed_lists rec ≡ input_lists (Entries entries.now)) }
     ensures is_record { IfOk result (λ _. IsOneRecord (Entries entries.now)) }
     ensures fault { IfErr result (IsUnparsed (Entries entries.now)) }
 {
+    if entries.len() > MAX_ENTRIES {
+        return Err(fault_of_many(entries));
+    }
     let Ok(copy) = Vec::from_slice(alloc, entries) else {
         return Err(Outcome::Memory);
     };
@@ -112,5 +116,17 @@ fn parsed_entries(alloc: Global, entries: &[u16]) -> Result<Parsed, Outcome>
         Ok(rec) => Ok(Parsed::Entries(rec)),
         Err(WideFault::Large) => Err(Outcome::Large),
         Err(WideFault::Record) => Err(Outcome::NotARecord),
+    }
+}
+
+/// The outcome for more entries than a record can have.
+fn fault_of_many(entries: &[u16]) -> Outcome
+    requires { MAX_ENTRIES < length entries.now }
+    ensures { IsUnparsed (Entries entries.now) result }
+{
+    if usize::from(entries[0]) > MAX_VERTICES {
+        Outcome::Large
+    } else {
+        Outcome::NotARecord
     }
 }

@@ -1,5 +1,5 @@
 -- What a laid answer says, from the words that the contracts have for it.
-use Rattle.std.proofs.Common.{◌≡◌, ◌≢◌, ℕ, ◌∙◌, List, slice_index, arith, subst, sym, ap, refl, inl, inr, eqb}
+use Rattle.std.proofs.Common.{◌≡◌, ◌≢◌, ◌<◌, ℕ, ◌∙◌, List, slice_index, arith, subst, sym, ap, refl, inl, inr, eqb}
 use Rattle.std.specs.Prelude.{Result, Ok, Err, IfOk, IfErr, ℤ, pos, negsuc}
 use Rattle.std.proofs.lemmas.Bool.{cases_eq, eq-eqb, ne_eqb, cond-true, cond-false}
 use Rattle.embedding.specs.declared.rules.Rule.{Rule}

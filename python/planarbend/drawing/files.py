@@ -19,8 +19,9 @@ ARROW_SIZE = 0.8  # the same, in Graphviz's unit
 PLAIN = "DejaVu Sans"
 TAB = 12.0  # pixels, three times the greatest height of the tab of a folder in Graphviz
 PLAIN_LOOK = NodeLook()
-YED = {Outline.ELLIPSE: "ellipse", Outline.CIRCLE: "ellipse", Outline.DOUBLE_CIRCLE: "ellipse", Outline.POINT: "ellipse",
-       Outline.DIAMOND: "diamond", Outline.HEXAGON: "hexagon", Outline.OCTAGON: "octagon"}
+YED: dict[Outline | None, str] = {
+    Outline.ELLIPSE: "ellipse", Outline.CIRCLE: "ellipse", Outline.DOUBLE_CIRCLE: "ellipse", Outline.POINT: "ellipse",
+    Outline.DIAMOND: "diamond", Outline.HEXAGON: "hexagon", Outline.OCTAGON: "octagon"}
 
 Values = Mapping[str, object]
 
@@ -74,8 +75,9 @@ def dot(drawing: Drawing) -> str:
     """Return the drawing as DOT with positions, sizes and splines: `neato -n2` shows it. A pixel is written as a point."""
     graph, names, height = drawing.graph, names_of(drawing.graph), drawing.size[1]
     joint = "->" if is_directed(graph) else "--"
-    whole = {"bb": f"0,0,{drawing.size[0]:g},{height:g}", "label": graph.looks.graph.label or None,
-             "bgcolor": painted(graph.looks.graph.background), **lettered(graph.looks.graph.font, FONT)}
+    whole: dict[str, object] = {
+        "bb": f"0,0,{drawing.size[0]:g},{height:g}", "label": graph.looks.graph.label or None,
+        "bgcolor": painted(graph.looks.graph.background), **lettered(graph.looks.graph.font, FONT)}
     nodes = {"shape": "box", "style": "filled,rounded", "fillcolor": FILL, "color": LINE, "penwidth": STROKE,
              "fontname": PLAIN, "fontsize": FONT, "fontcolor": INK, "fixedsize": "true"}
     edges = {"color": LINE, "penwidth": STROKE, "arrowsize": ARROW_SIZE, "fontname": PLAIN, "fontsize": LABEL_FONT,
@@ -101,10 +103,10 @@ def dot_node(drawing: Drawing, number: int) -> dict[str, object]:
         wide, tall = (2 * DOT, 2 * DOT) if is_point else (wide, tall)
         return place | {"width": wide / INCH, "height": tall / INCH, "label": "", "shape": "point" if is_point else "box",
                         "fillcolor": LINE, "style": "filled"}
-    found = place | {"label": "\n".join(lines_of(vertex.label)),
-                     **shape_of(vertex.kind, look, drawing.boxes[number], vertex.label), "color": painted(look.colour),
-                     "penwidth": look.width, **lettered(look.font, FONT), "URL": address(look.link),
-                     "tooltip": look.tooltip or None}
+    found: dict[str, object] = {
+        **place, "label": "\n".join(lines_of(vertex.label)),
+        **shape_of(vertex.kind, look, drawing.boxes[number], vertex.label), "color": painted(look.colour), "penwidth": look.width,
+        **lettered(look.font, FONT), "URL": address(look.link), "tooltip": look.tooltip or None}
     if found["shape"] == Outline.DOUBLE_CIRCLE.value:  # Graphviz draws the outer circle around this size
         found |= {"width": (right - left - 2 * RING) / INCH, "height": (bottom - top - 2 * RING) / INCH}
     fill = painted(look.fill, None if vertex.kind is Kind.VERTEX else FILLS[vertex.kind][0])
@@ -130,7 +132,8 @@ def shape_of(kind: Kind, look: NodeLook, box: Box, label: str) -> dict[str, obje
     words = [word for word, is_said in (("filled", is_filled), ("rounded", is_round),
                                         (look.dash and look.dash.value, look.dash is not None),
                                         ("invis", not look.is_visible)) if is_said]
-    shape = "box" if outline in (None, Outline.RECORD, Outline.ROUND_RECORD, Outline.SQUARE) else outline.value
+    boxes = (Outline.RECORD, Outline.ROUND_RECORD, Outline.SQUARE)
+    shape = "box" if outline is None or outline in boxes else outline.value
     style = None if words == ["filled", "rounded"] else ",".join(map(str, words))
     return {"shape": None if shape == "box" else shape, "style": style}
 
@@ -150,10 +153,12 @@ def dot_edge(drawing: Drawing, number: int) -> dict[str, object]:
             found |= {key: "\n".join(lines_of(text)),
                       place: f"{(box[0] + box[2]) / 2:g},{drawing.size[1] - (box[1] + box[3]) / 2:g}"}
     style = look.dash.value if look.dash else None
-    return found | {"color": painted(look.colour), "fillcolor": painted(look.fill), "penwidth": look.width,
-                    "style": style if look.is_visible else "invis", "arrowhead": look.head and look.head.value,
-                    "arrowtail": look.tail and look.tail.value, **lettered(look.font, LABEL_FONT), "URL": address(look.link),
-                    "tooltip": look.tooltip or None}
+    looks: dict[str, object] = {
+        "color": painted(look.colour), "fillcolor": painted(look.fill), "penwidth": look.width,
+        "style": style if look.is_visible else "invis", "arrowhead": look.head and look.head.value,
+        "arrowtail": look.tail and look.tail.value, **lettered(look.font, LABEL_FONT), "URL": address(look.link),
+        "tooltip": look.tooltip or None}
+    return found | looks
 
 
 def spline(line: list[Point], arrow: Arrow, height: float) -> str:

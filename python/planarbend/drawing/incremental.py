@@ -13,8 +13,10 @@ from __future__ import annotations
 import random
 from collections.abc import Iterable, Sequence
 
-from planarbend.drawing.planarization import NONE, LinkedEmbedding
-from planarbend.drawing.reinsert import growth, one_of
+from planarbend.drawing.dual import one_of
+from planarbend.drawing.linked import NONE
+from planarbend.drawing.planarization import LinkedEmbedding
+from planarbend.drawing.reinsert import growth
 
 ATTEMPTS = 24  # orders that are tried
 

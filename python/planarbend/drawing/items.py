@@ -176,7 +176,7 @@ class Sheet:
         host = self.graph.edges[number].tail
         box = self.boxes[host]
         along, is_low = min(((along, is_low) for along in (0, 1) for is_low in (True, False)),
-                            key=lambda side: (self.sides[host, *side], side))
+                            key=lambda side: (self.sides[host, side[0], side[1]], side))
         across, count = 1 - along, self.loops[host, along, is_low]
         self.loops[host, along, is_low] += 1
         self.sides[host, along, is_low] += 2
@@ -188,7 +188,7 @@ class Sheet:
         near = box.low[across] if is_low else box.high[across], border + sign
         legs = list(zip(ends, places))
         extent = (far, near) if is_low else (near, far)
-        self.pieces[number] = [item_at(PIECE, along, legs[0], *extent, [host]), item_at(PIECE, across, far, *legs, []),
+        self.pieces[number] = [item_at(PIECE, along, legs[0], *extent, [host]), item_at(PIECE, across, far, legs[0], legs[1], []),
                                item_at(PIECE, along, legs[1], *extent, [host])]
         self.items += self.pieces[number]
         corners = [(ends[0], near[0]), (ends[0], far[0]), (ends[1], far[0]), (ends[1], near[0])]

@@ -46,7 +46,7 @@ def svg(drawing: Drawing, theme: str = "light") -> str:
 
 def captioned(drawing: Drawing) -> tuple[tuple[int, int], list[str]]:
     """Return the size of the picture in pixels, and the label of the graph, which is below everything else."""
-    width, height = map(math.ceil, drawing.size)
+    width, height = math.ceil(drawing.size[0]), math.ceil(drawing.size[1])
     label, font = drawing.graph.looks.graph.label, drawing.graph.looks.graph.font
     if not label.strip():
         return (width, height), []

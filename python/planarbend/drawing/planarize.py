@@ -13,10 +13,11 @@ from collections.abc import Iterable, Sequence
 from typing import Any
 
 from planarbend.drawing.core import Core, core_of
+from planarbend.drawing.dual import FIXED
 from planarbend.drawing.incremental import fold, incremental_embedding
 from planarbend.graph import Partition
 from planarbend.drawing.planarization import LinkedEmbedding, Planarization
-from planarbend.drawing.reinsert import FIXED, Reinsertion
+from planarbend.drawing.reinsert import Reinsertion
 
 Pair = tuple[int, int]
 
@@ -117,7 +118,7 @@ def _certainly_least(vertex_count: int, ends: Sequence[Pair], seed: int) -> Plan
     """Return an embedding with as many crossings as Euler's formula requires, so that no other has fewer, of a graph that is
     not planar; `None` if a short search finds none, or there are parallel edges, or a vertex that would leave others without
     edges, or parts of the graph apart, if it were moved."""
-    if len(set(map(frozenset, ends))) < len(ends):
+    if len({frozenset(pair) for pair in ends}) < len(ends):
         return None
     least = needed_by_cycles(vertex_count, ends)
     if not least or _has_cuts(vertex_count, ends):

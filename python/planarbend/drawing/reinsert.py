@@ -15,7 +15,8 @@ import random
 from collections.abc import Iterator, Sequence
 
 from planarbend.drawing.dual import FAR, FIXED, DualPaths, one_of
-from planarbend.drawing.planarization import NONE, LinkedEmbedding
+from planarbend.drawing.linked import NONE
+from planarbend.drawing.planarization import LinkedEmbedding
 
 
 def growth(embedding: LinkedEmbedding, dice: random.Random) -> Iterator[tuple[int, list[int]]]:

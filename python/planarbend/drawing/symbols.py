@@ -50,8 +50,9 @@ def room(outline: Outline | None, text: Point, box: Point) -> Point:
         return max(WIDER * wide + 6, 0.9 * height), height
     if outline is Outline.POINT:
         return DOT_SIZE, DOT_SIZE
-    more = {Outline.HEXAGON: (2 * SLANT * high, 0.0), Outline.OCTAGON: (8.0, 4.0), Outline.CYLINDER: (0.0, 4 * CAP),
-            Outline.NOTE: (FOLD, 0.0), Outline.FOLDER: (0.0, 2 * TAB[1]), Outline.COMPONENT: (2 * LUG[0], 4.0)}
+    more: dict[Outline | None, Point] = {
+        Outline.HEXAGON: (2 * SLANT * high, 0.0), Outline.OCTAGON: (8.0, 4.0), Outline.CYLINDER: (0.0, 4 * CAP),
+        Outline.NOTE: (FOLD, 0.0), Outline.FOLDER: (0.0, 2 * TAB[1]), Outline.COMPONENT: (2 * LUG[0], 4.0)}
     return width + more.get(outline, (0.0, 0.0))[0], height + more.get(outline, (0.0, 0.0))[1]
 
 

@@ -200,8 +200,9 @@ def default_engine() -> Engine:
 
     If PLANARBEND is set, the program that it names is used.
     """
-    if "PLANARBEND" in os.environ:
-        return ProcessEngine()
-    from planarbend.layout import library  # imported here: it uses this module, and is slow to load
+    if "PLANARBEND" not in os.environ:
+        from planarbend.layout import library  # imported here: it uses this module, and is slow to load
 
-    return library.LibraryEngine() if library.is_wanted() else ProcessEngine()
+        if library.is_wanted():
+            return library.LibraryEngine()
+    return ProcessEngine()

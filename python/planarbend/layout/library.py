@@ -342,7 +342,7 @@ def json_of(answer: Answer, sizes: tuple[int, int, int]) -> dict[str, Any]:
     """Return the JSON line of a layout with its representation, without "file" and "graph"; sizes are n, m and f."""
     found = answer.representation
     assert found is not None, "it was asked for"
-    points = {"corners": [list(map(list, corners)) for corners in answer.corners], "vertices": list(map(list, answer.points))}
+    points = {"corners": [[list(corner) for corner in corners] for corners in answer.corners], "vertices": [list(point) for point in answer.points]}
     return {"angles": found.angles, "bends": answer.bends, "drawn": "yes", "f": sizes[2], "m": sizes[1], "n": sizes[0],
             "points": points,
             "prices": {"faces": found.face_prices, "vertices": found.vertex_prices}, "status": "ok", "turns": found.turns}

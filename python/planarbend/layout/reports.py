@@ -66,7 +66,7 @@ class End(NamedTuple):
     """The last line of a file: its ending, and its number of graphs or records."""
 
     ending: str
-    count: int
+    count: int  # type: ignore[assignment]  # tuples have a method of this name
     of: str = "graphs"
 
     def __str__(self) -> str:

@@ -104,7 +104,7 @@ class Attributes:
         styles = styles_of(values)
         width = number_of(values.get("penwidth", "") or styles.get("setlinewidth", ""), 0.0, WIDEST)
         dash = next((dash for dash in Dash if dash.value in styles), None)
-        link = texts.plain(values.get("URL") or values.get("href", ""), names)
+        link = texts.plain(values.get("URL", "") or values.get("href", ""), names)
         return Look(width=BOLD if width is None and "bold" in styles else width, dash=dash, is_visible="invis" not in styles,
                     font=self.font(values), link=link, tooltip=texts.plain(values.get("tooltip", ""), names))
 

@@ -45,9 +45,9 @@ def read_graphml(data: bytes) -> Graph:
     for edge, number in zip(root.iter(NAMESPACE + "edge"), range(len(directions))):
         edge.attrib.pop("directed", None)
         edge.set("id", str(number))  # networkx returns it as the key, so that no two edges are merged
-    for node in root.iter(NAMESPACE + "node"):
-        if node.find(NAMESPACE + "graph") is not None:
-            node.set("yfiles.foldertype", "group")  # else networkx skips what is inside
+    for element in root.iter(NAMESPACE + "node"):
+        if element.find(NAMESPACE + "graph") is not None:
+            element.set("yfiles.foldertype", "group")  # else networkx skips what is inside
     with warnings.catch_warnings():
         warnings.simplefilter("ignore")
         try:

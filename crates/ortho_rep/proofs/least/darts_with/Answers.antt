@@ -5,7 +5,7 @@ use Rattle.ortho_rep.specs.declared.repeats.DartShape.{DartShape}
 use Rattle.ortho_rep.specs.OfFlow.{angles_of, strings_of}
 use Rattle.ortho_rep.specs.Repeats.{HaveShapes}
 use Rattle.ortho_rep.proofs.OneSided.{shapes-more, repeats-more}
-use Rattle.ortho_rep.proofs.least.darts_in.Goals as goal
+use Rattle.ortho_rep.proofs.least.darts_with.Goals as goal
 
 pub loop-dart-preserved : goal.loop-dart-preserved
 loop-dart-preserved c =

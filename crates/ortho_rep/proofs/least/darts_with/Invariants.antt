@@ -5,7 +5,7 @@ use Rattle.ortho_rep.specs.declared.turn.TheConstants.{MAX_REPEATS}
 use Rattle.ortho_rep.specs.declared.repeats.DartShape.{DartShape}
 use Rattle.ortho_rep.specs.OfFlow.{angles_of, strings_of}
 use Rattle.ortho_rep.specs.Repeats.{HaveShapes}
-use Rattle.ortho_rep.proofs.least.darts_in.Given as goal
+use Rattle.ortho_rep.proofs.least.darts_with.Given as goal
 
 abbrev pub invariant-loop-dart : goal.invariant-loop-dart
 invariant-loop-dart l =
