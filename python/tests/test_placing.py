@@ -164,6 +164,8 @@ class Pieces(unittest.TestCase):
         self.assertEqual(self.gathered(around, [(58, 10), (58, 75)])[1], (90, 88))
         ahead = [(40, 20), (50, 20), (50, 80), (130, 80)]
         self.assertEqual(self.gathered(ahead, [(58, 0), (58, 15)])[0], [*ahead[:-1], (58, 80)])
+        junction = [(100, 100), (111, 100), (111, 160), (180, 160)]  # other wires of the net may begin there too
+        self.assertEqual(self.gathered(junction)[0], [*junction[:-1], (119, 160)])
         back = [(40, 20), (100, 20), (100, 80), (70, 80)]
         self.assertEqual(self.gathered(back)[0], [*back[:-1], (92, 80)])
 
