@@ -10,6 +10,7 @@ from schematic_judge import judge_alone
 from sheets import random_sheet
 from test_wiring import given_engine, has_scipy, needs_scipy, sheet_of
 
+from planarbend.drawing.texts import width_of
 from planarbend.schematics.parts import EAST, NORTH, SOUTH, WEST, Kind, Part, Pin
 
 if has_scipy:
@@ -20,7 +21,7 @@ if has_scipy:
     from planarbend.schematics.placing import Placed, best_level, cleaned
     from planarbend.schematics.schematic import schematic_of, shelves
     from planarbend.schematics.spacing import Demands, Item, Skyline, least_sum
-    from planarbend.schematics.shapes import Shape, shape_of
+    from planarbend.schematics.shapes import Shape, Text, shape_of
     from planarbend.schematics.strokes import Pose
 
 
@@ -28,24 +29,35 @@ if has_scipy:
 class Drawings(unittest.TestCase):
     """Whole drawings."""
 
+    def judged(self, seed: int, free: bool) -> None:
+        """Look that the judge finds no fault in the drawing of a random sheet."""
+        with self.subTest(seed=seed, free=free), mock.patch("planarbend.schematics.wirings.WORK", 60_000):
+            sheet = random_sheet(seed, 6 + 2 * seed)
+            found = schematic_of(sheet, given_engine(), free=free)
+            verdict = judge_alone(json.loads(found.json()))
+            self.assertEqual(verdict.faults, [])
+            self.assertLessEqual(verdict.counts["worst_stretch"], 3.0)
+            if not free:
+                self.assertEqual(verdict.counts["upright"], verdict.counts["cages"])
+            self.assertEqual([part.ref for part in found.sheet.parts], [part.ref for part in sheet.parts])
+
     def test_judged(self) -> None:
-        """The judge finds no fault in drawings of random sheets, with wishes and without."""
-        engine = given_engine()
-        for seed in range(7):
-            for free in (False, True) if seed % 3 == 1 else (False,):
-                with self.subTest(seed=seed, free=free), mock.patch("planarbend.schematics.wirings.WORK", 100_000):
-                    sheet = random_sheet(seed, 6 + 2 * seed)
-                    found = schematic_of(sheet, engine, free=free)
-                    verdict = judge_alone(json.loads(found.json()))
-                    self.assertEqual(verdict.faults, [])
-                    self.assertLessEqual(verdict.counts["worst_stretch"], 3.0)
-                    if not free:
-                        self.assertEqual(verdict.counts["upright"], verdict.counts["cages"])
-                    self.assertEqual([part.ref for part in found.sheet.parts], [part.ref for part in sheet.parts])
+        """Sheets of 6 to 10 parts."""
+        for seed in range(3):
+            self.judged(seed, False)
+
+    def test_larger(self) -> None:
+        """A sheet of 16 parts."""
+        self.judged(5, False)
+
+    def test_free(self) -> None:
+        """Sheets without wishes."""
+        for seed in (1, 3):
+            self.judged(seed, True)
 
     def test_same(self) -> None:
         """The same seed gives the same drawing."""
-        engine, sheet = given_engine(), random_sheet(3, 10)
+        engine, sheet = given_engine(), random_sheet(3, 8)
         self.assertEqual(*(schematic_of(sheet, engine, seed=4).json() for _ in range(2)))
 
     def test_lone(self) -> None:
@@ -97,37 +109,65 @@ class Pieces(unittest.TestCase):
             for other in found[:place]:
                 self.assertTrue(one[2] < other[0] or other[2] < one[0] or one[3] < other[1] or other[3] < one[1])
 
-    def gathered(self, line: list[tuple[float, float]], *others: list[tuple[float, float]], jogs: int = 0,
-                 crossed: str = "") -> tuple[list[tuple[float, float]], tuple[float, float], int]:
-        """A wire from a box to a ground, the ground's pin, and the jogs that are left, beside other wires."""
+    def gathered(self, line: list[tuple[float, float]], *others: list[tuple[float, float]], jogs: int = 0, crossed: str = "",
+                 beside: Part | None = None, kind: Kind = Kind.GROUND,
+                 step: int = 1, texts: tuple[Text, ...] = ()) -> tuple[list[tuple[float, float]], tuple[float, float], int]:
+        """A wire from a box to a ground, the ground's pin, and the jogs that are left, beside other wires and a part."""
         box = Part("U1", "", Kind.BOX, [Pin("1", "", EAST, net="a"), Pin("2", "", SOUTH, net="a")])
-        ground = Part("GND", "GND", Kind.GROUND, [Pin("1", "", NORTH, net="a")])
-        shapes = [Shape((0, 0, 40, 40), [(40, 20), (20, 40)], []), shape_of(ground, Pose(at=line[-1]))]
-        found = Placed([box, ground], [Pose(), Pose(at=line[-1])], shapes, [[], []],
-                       [Wire("a", line), *(Wire("b", other) for other in others)],
-                       crossings=[((0, 0), (crossed, "b"))] if crossed else [], jogs=[Jog(0, 1, "box")] * jogs)
+        flag = Part("GND", "GND", kind, [Pin("1", "", NORTH, net="a")])
+        shapes = [Shape((0, 0, 40, 40), [(40, 20), (20, 40)], [], list(texts)), shape_of(flag, Pose(at=line[-1]))]
+        found = Placed([box, flag], [Pose(), Pose(at=line[-1])], shapes, [[], []],
+                       [*(Wire("b", other) for other in others), Wire("a", line[::step])],
+                       crossings=[((0, 0), (crossed, "b"))] if crossed else [], jogs=[Jog(len(others), 1, "box")] * jogs)
+        if beside is not None:
+            found.add(figure(beside, Pose(at=(70, 70)), [0, 1]), Pose(at=(70, 70)), shape_of(beside, Pose(at=(70, 70))))
         gather(found)
         self.assertEqual(found.poses[1].at, found.shapes[1].pins[0])
-        return found.wires[0].points, found.shapes[1].pins[0], len(found.jogs)
+        return found.wires[-1].points[::step], found.shapes[1].pins[0], len(found.jogs)
 
     def test_flags_come_near(self) -> None:
         """A flag is as near as its distances allow: a ground reaches 9 to both sides of its pin and 15 below it, and keeps 12
         from parts and wires."""
-        self.assertEqual(self.gathered([(20, 40), (20, 300)]), ([(20, 40), (20, 52)], (20, 52), 0))
-        self.assertEqual(self.gathered([(20, 40), (20, 300)], [(40, 45), (40, 70)])[1], (20, 82))  # beyond the wire
-        self.assertEqual(self.gathered([(20, 40), (20, 300)], [(41, 45), (41, 70)])[1], (20, 52))
-        self.assertEqual(self.gathered([(40, 20), (200, 20), (200, 90)]), ([(40, 20), (61, 20), (61, 28)], (61, 28), 0))
-        self.assertEqual(self.gathered([(40, 20), (55, 20), (55, 80), (90, 80), (90, 99)], jogs=1),
-                         ([(40, 20), (61, 20), (61, 28)], (61, 28), 0))
+        straight, near = [(20, 40), (20, 300)], ([(40, 20), (61, 20), (61, 28)], (61, 28), 0)
+        self.assertEqual(self.gathered(straight), ([(20, 40), (20, 52)], (20, 52), 0))
+        self.assertEqual(self.gathered([(20, 40), (20, 62)])[1], (20, 52))
+        self.assertEqual(self.gathered(straight, [(40, 45), (40, 70)])[1], (20, 82))  # beyond the wire
+        self.assertEqual(self.gathered(straight, [(41, 45), (41, 70)])[1], (20, 52))
+        for step in (1, -1):
+            self.assertEqual(self.gathered([(40, 20), (200, 20), (200, 90)], step=step), near)
+        self.assertEqual(self.gathered([(40, 20), (55, 20), (55, 80), (90, 80), (90, 99)], jogs=1), near)
+
+    def test_flags_beside_texts(self) -> None:
+        """The text of a flag keeps 5 from wires; a flag keeps 12 from parts, 6 from texts, and 3 from numbers of pins."""
+        straight, supply = [(20, 40), (20, 300)], {"kind": Kind.SUPPLY}
+        half = width_of("GND", 10) / 2
+        for gap, end in ((5, 52), (4, 112)):  # a wire beside the text, which is 12 to 24 below the pin
+            self.assertEqual(self.gathered(straight, [(20 + half + gap, 76), (20 + half + gap, 100)], **supply)[1], (20, end))
+        for role, left, end in (("ref", 35, 52), ("ref", 34, 70), ("number", 32, 52), ("number", 31, 67)):
+            text = Text("1", (left, 55, 60, 62), 6, role)  # the ground reaches to 29
+            self.assertEqual(self.gathered(straight, texts=(text,))[1], (20, end))
+        resistor = Part("R1", "1k", Kind.RESISTOR, [Pin("1", "", NORTH, net="c"), Pin("2", "", SOUTH, net="d")])
+        line = [(40, 20), (130, 20), (130, 200)]  # the resistor's box is 64 to 76 by 46 to 94
+        self.assertEqual(self.gathered(line, beside=resistor)[1], (97, 28))
+        self.assertEqual(self.gathered(line, [(65, 30), (90, 30)], beside=resistor)[1], (112, 28))
 
     def test_flags_that_stay(self) -> None:
-        """A flag stays if its wire is crossed, or there is no room; a wire with other ends keeps its corners."""
+        """A flag stays if its wire is crossed, or there is no room, or too little would be saved; a wire with other ends, or
+        whose other places are taken, keeps its corners."""
         self.assertEqual(self.gathered([(20, 40), (20, 300)], crossed="a")[1], (20, 300))
-        self.assertEqual(self.gathered([(20, 40), (20, 60)])[1], (20, 60))  # too little would be saved
+        self.assertEqual(self.gathered([(20, 40), (20, 61)])[1], (20, 61))
         self.assertEqual(self.gathered([(20, 40), (20, 300)], [(35, 45), (35, 290)])[1], (20, 300))
         long = [(40, 20), (80, 20), (80, -90), (120, -90), (120, 200)]
         wall = [(60, -70), (60, 10)], [(60, 30), (60, 300)]
-        self.assertEqual(self.gathered(long, *wall), ([*long[:-1], (120, -82)], (120, -82), 0))
+        self.assertEqual(self.gathered(long, *wall, jogs=1), ([*long[:-1], (120, -82)], (120, -82), 1))
+        around = [(40, 20), (55, 20), (55, 80), (90, 80), (90, 99)]
+        self.assertEqual(self.gathered(around, [(58, 10), (58, 75)])[1], (90, 88))
+        ahead = [(40, 20), (50, 20), (50, 80), (130, 80)]
+        self.assertEqual(self.gathered(ahead, [(58, 0), (58, 15)])[0], [*ahead[:-1], (58, 80)])
+        junction = [(100, 100), (111, 100), (111, 160), (180, 160)]  # other wires of the net may begin there too
+        self.assertEqual(self.gathered(junction)[0], [*junction[:-1], (119, 160)])
+        back = [(40, 20), (100, 20), (100, 80), (70, 80)]
+        self.assertEqual(self.gathered(back)[0], [*back[:-1], (92, 80)])
 
     def test_least_sum(self) -> None:
         """Coordinates of least sum, by hand."""

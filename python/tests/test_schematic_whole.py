@@ -8,6 +8,7 @@ import sys
 import tempfile
 import unittest
 from pathlib import Path
+from unittest import mock
 
 import support
 from schematic_judge import judge, judge_alone
@@ -42,9 +43,22 @@ class Whole(unittest.TestCase):
             LibraryEngine()
         except (ImportError, NoProgram, PlanarbendError, OSError) as error:
             raise unittest.SkipTest(f"needs numpy, scipy and the library: {error}") from None
+        shorter = mock.patch("planarbend.schematics.wirings.WORK", 200_000)
+        shorter.start()
+        cls.addClassCleanup(shorter.stop)
 
-    def test_hand_written_files(self) -> None:
-        for name, form in FORMS.items():
+    def test_spice(self) -> None:
+        self.drawn_files("spice")
+
+    def test_kicad(self) -> None:
+        self.drawn_files("schematic", "netlist")
+
+    def test_yosys(self) -> None:
+        self.drawn_files("yosys")
+
+    def drawn_files(self, *forms: str) -> None:
+        """Look that the judge finds no fault in the drawings of the files of some forms."""
+        for name, form in ((name, form) for name, form in FORMS.items() if form in forms):
             with self.subTest(name):
                 file = FILES / name
                 drawing = json.loads(drawn(read(file.read_bytes(), str(file))).json())
@@ -64,7 +78,7 @@ class Whole(unittest.TestCase):
             told = []
             for seed in ("0", "4711"):
                 out = Path(folder) / f"{seed}.svg"
-                words = [sys.executable, "-m", "planarbend", "draw", str(FILES / "nand.cir"), "-o", str(out), "--seed", "3"]
+                words = [sys.executable, "-m", "planarbend", "draw", str(FILES / "nand.cir"), "-o", str(out), "--seed", "3", "--effort", "0"]
                 environment = support.variables(PYTHONHASHSEED=seed, PLANARBEND_LIBRARY=str(path()))
                 environment.pop("PLANARBEND", None)
                 subprocess.run(words, env=environment, check=True, capture_output=True)

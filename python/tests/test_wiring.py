@@ -188,7 +188,7 @@ class Planarizations(unittest.TestCase):
 
     def test_random_sheets(self) -> None:
         """Random sheets: as they are put in, after each round of moves, and as `wirings_of` finds them."""
-        for seed, count in [*((seed, 14) for seed in range(8)), (12, 30)]:
+        for seed, count in [*((seed, 14) for seed in range(7)), (12, 24)]:
             with self.subTest(seed=seed):
                 sheet = random_sheet(seed, count)
                 search = Routing(Wiring(sheet), random.Random(seed))
@@ -381,7 +381,7 @@ class Directions(unittest.TestCase):
 
     def test_wished(self) -> None:
         """With wishes: chips and gates are upright, and what is found costs least for the directions that are wanted."""
-        for seed in range(6):
+        for seed in range(5):
             with self.subTest(seed=seed):
                 turnings = turnings_of(seed, COUNT)
                 one = directed(turnings)
@@ -422,7 +422,7 @@ class Directions(unittest.TestCase):
 
     def test_least(self) -> None:
         """A mixed-integer program that chooses windings and whole turns too has the same optimum."""
-        for seed in range(7):
+        for seed in range(5):
             with self.subTest(seed=seed):
                 one = directed(turnings_of(seed, 5)[:2])
                 least = best_of_all(one.turning, one.outer, True)
@@ -545,7 +545,7 @@ class Core(unittest.TestCase):
     def test_drawn(self) -> None:
         """The library draws the shape, as a whole turned so that all directions are right."""
         engine = given_engine()
-        for seed in range(6):
+        for seed in range(5):
             found = plane_of(seed)
             grid = found.laid(engine)
             one = found.directed

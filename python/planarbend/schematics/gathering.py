@@ -9,15 +9,15 @@ from collections.abc import Iterator, Sequence
 from planarbend.schematics.drawn import STUB
 from planarbend.schematics.placing import Placed
 from planarbend.schematics.shapes import around, step
-from planarbend.schematics.spacing import BOX, FLAG, GAP, LEAST, LINE, STEM, TEXT
+from planarbend.schematics.spacing import BOX, FLAG, GAP, LINE, TEXT
 from planarbend.schematics.strokes import Box, Point
 
 SMALL = 4  # a kind of item beside those of `spacing`: a stub, or the number of a pin
 NARROW = 3.0  # pixels between a small item and others
 CROSS = 2.0  # pixels, half the size of the cross at a stub
 SAVED = 10.0  # pixels by which a wire must become shorter, unless it loses corners
-BEFORE = tuple(range(12, 97, 3))  # pixels from the other end of a wire to its corner, as far as these are tried
-AFTER = (8, 12, 16, 20, 26, 32, 40, 50)  # and from there to the flag
+BEFORE = range(12, 97, 3)  # pixels from the other end of a wire to its corner or to the flag, as far as these are tried
+AFTER = (8, 12, 16, 20, 26, 32, 40, 50)  # and from a corner to the flag
 CELL = 64.0  # pixels, the side of a cell
 SAME = 1e-6
 
@@ -104,7 +104,7 @@ def move(found: Placed, number: int, wire: int, items: Items) -> None:
     is_last = points[-1] == flag.pins[0]
     line = points if is_last else points[::-1]
     start = next((other for other, shape in enumerate(found.shapes) if other != number and line[0] in shape.pins), None)
-    for new in sorted(lines(line, start is None), key=lambda new: (len(new), length_of(new))):
+    for new in sorted(lines(line), key=lambda new: (len(new), length_of(new))):
         if len(new) == len(line) and length_of(new) > length_of(line) - SAVED:
             continue
         by = new[-1][0] - line[-1][0], new[-1][1] - line[-1][1]
@@ -119,15 +119,14 @@ def move(found: Placed, number: int, wire: int, items: Items) -> None:
             return
 
 
-def lines(line: Sequence[Point], is_junction: bool) -> Iterator[list[Point]]:
+def lines(line: Sequence[Point]) -> Iterator[list[Point]]:
     """Yield shorter lines that leave the first point of a line and arrive at the last one in the same directions: with one
     corner or none, or with a shorter last piece."""
     first, last = heads_of(line[0], line[1]), heads_of(line[-2], line[-1])
-    start, least = line[0], int(LEAST if is_junction else STEM)
+    start = line[0]
     if first == last:
-        for length in (*AFTER, *BEFORE):
-            if length >= least:
-                yield [start, step(start, first, length)]
+        for length in BEFORE:
+            yield [start, step(start, first, length)]
     elif (first - last) % 2:
         for before in BEFORE:
             corner = step(start, first, before)
