@@ -6,11 +6,12 @@ import math
 import os
 
 from planarbend.drawing.drawn import Box, Drawing, Point
+from planarbend.drawing.frame_picture import frame_elements
 from planarbend.drawing.ink import Markers, lettered, painted, stroked, wrapped
 from planarbend.drawing.nets import dots_of, ends_of, net_labels, pieces_of
 from planarbend.drawing.items import size_of
 from planarbend.drawing.symbols import ROUND, WHOLE, border, drawn_on, elements
-from planarbend.drawing.texts import FAMILY, FONT, LINE_HEIGHT, LONGEST_LINE, lines_of, svg_text, text_size, xml_text
+from planarbend.drawing.texts import FAMILY, FONT, LINE_HEIGHT, LONGEST_LINE, lines_of, svg_text, text_lines, text_size
 from planarbend.drawing.themes import paper, themed
 from planarbend.graph import Kind, Vertex
 from planarbend.style import EdgeLook, NodeLook, Outline
@@ -39,7 +40,8 @@ def svg(drawing: Drawing, theme: str = "light") -> str:
     cover = behind if background is None or background.text != "none" else paper("light")
     markers = Markers(drawing.graph, LINE, cover)
     (width, height), caption = captioned(drawing)
-    text = svg_text(width, height, [*markers.elements(), *line_elements(drawing, markers), *box_elements(drawing, theme),
+    text = svg_text(width, height, [*markers.elements(), *frame_elements(drawing, LINE, INK, theme),
+                                    *line_elements(drawing, markers), *box_elements(drawing, theme),
                                     *label_elements(drawing, cover), *net_label_elements(drawing), *caption], behind)
     return themed(text, theme)
 
@@ -116,13 +118,6 @@ def outline_elements(vertex: Vertex, look: NodeLook, box: Box) -> list[str]:
         fill = LINE
     paint = f' fill="{fill}"' if look.fill is None else painted("fill", look.fill)
     return elements(outline, box, size_of(vertex.label, vertex.kind, look), corner, paint + stroke)
-
-
-def text_lines(lines: list[str], x: float, y: float, height: float, words: str = "") -> list[str]:
-    """Return the lines of a text around a point, with these attributes."""
-    first = y - (len(lines) - 1) * height / 2
-    return [f'<text x="{x:.1f}" y="{first + place * height:.1f}" dy=".35em"{words}>{xml_text(line)}</text>'
-            for place, line in enumerate(lines) if line]
 
 
 def net_elements(drawing: Drawing) -> list[str]:

@@ -9,7 +9,9 @@ from __future__ import annotations
 import math
 
 from planarbend.drawing.constraints import GAP, apart, lengths_of, reach_of
-from planarbend.drawing.items import BOX, LABEL, Sheet
+from planarbend.drawing.extents import BOX, LABEL
+from planarbend.drawing.frame_items import place_frame_labels
+from planarbend.drawing.items import Sheet
 from planarbend.drawing.solver import Solver
 from planarbend.graph import Kind
 
@@ -140,6 +142,7 @@ def place_labels(sheet: Sheet, axis: int, solver: Solver) -> None:
         for piece in sheet.pieces[number] if number not in sheet.corners else ():
             if piece.owns[1 - axis] and piece.low[1 - axis] == label.low[1 - axis]:
                 solver.move_to(label.low[axis], (solver.value[piece.low[axis]] + solver.value[piece.high[axis]]) / 2)
+    place_frame_labels(sheet, axis, solver)
 
 
 def pull(sheet: Sheet, axis: int, solver: Solver) -> None:

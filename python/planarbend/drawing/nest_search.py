@@ -1,0 +1,265 @@
+"""Few crossings of edges between nested frames: edges and vertices go out of an embedding and back where they cross least.
+
+This is the search of `reinsert` with two more rules. A path of the dual graph leaves and enters only the frames that its edge
+has to cross; then it passes each of them once. A vertex is put only into faces of its own cluster.
+
+Work is counted in darts that a search passes, so the same seed gives the same embedding.
+"""
+from __future__ import annotations
+
+import random
+from collections.abc import Collection, Sequence
+
+from planarbend.drawing.dual import FAR, one_of
+from planarbend.drawing.linked import NONE
+from planarbend.drawing.nested import NestedEmbedding, NestedPlanarization
+from planarbend.drawing.nesting import Nesting
+
+STARTS = 40  # first embeddings, for each unit of effort
+LEAST_STARTS = 6
+PATIENCE = 3  # consecutive rounds without success after which an embedding is left as it is
+WORK = 3_000_000  # darts to pass for each unit of effort (about three seconds), after which no further start is made
+MOST_KEPT = 4
+
+Passing = Collection[int]  # the values of `NestedEmbedding.side` of darts that a path may cross
+
+
+class Apart(Exception):
+    """No path leads from one end of an edge to the other: an edge or vertex that joins them is out."""
+
+
+class NestSearch:
+    """A search for an embedding with few crossings.
+
+    Attributes
+    ----------
+    embedding : NestedEmbedding
+        It is edited.
+    cost : int
+        The number of crossings between edges, without those with frames.
+    work : int
+        The number of darts passed so far.
+    """
+
+    def __init__(self, nesting: Nesting, dice: random.Random) -> None:
+        """Return a search that begins with an embedding of frames alone."""
+        self.embedding, self.dice, self.cost, self.work = NestedEmbedding(nesting), dice, 0, 0
+        self.nesting = nesting
+        self.edges_at: list[list[int]] = [[] for _ in nesting.home]
+        self.passing: list[tuple[Passing, Passing]] = []  # from tail to head, and from head to tail
+        for edge, (tail, head) in enumerate(nesting.ends):
+            left, entered = nesting.crossed(edge)
+            self.passing.append((frozenset([1 + one for one in left] + [-1 - one for one in entered]),
+                                 frozenset([1 + one for one in entered] + [-1 - one for one in left])))
+            if tail != head:
+                self.edges_at[tail].append(edge)
+                self.edges_at[head].append(edge)
+
+    # Distances
+
+    def faces_at(self, vertex: int) -> list[int]:
+        """Return the faces at a vertex."""
+        return sorted({self.embedding.face[dart] for dart in self.embedding.around(vertex)})
+
+    def distances(self, sources: Sequence[int], passing: Passing) -> list[int]:
+        """Return for each face how many darts a shortest path from some faces crosses; `FAR` if there is none."""
+        embedding = self.embedding
+        onward, face, corner, side = embedding.onward, embedding.face, embedding.corner, embedding.side
+        distance, waiting, work = [FAR] * len(corner), list(sources), 0
+        for here in waiting:
+            distance[here] = 0
+        for here in waiting:
+            first = dart = corner[here]
+            step = distance[here] + 1
+            while True:
+                work += 1
+                other = face[dart ^ 1]
+                if distance[other] > step and (not side[dart] or side[dart] in passing):
+                    distance[other] = step
+                    waiting.append(other)
+                dart = onward[dart]
+                if dart == first:
+                    break
+        self.work += work
+        return distance
+
+    def path(self, distance: Sequence[int], goal: int, passing: Passing) -> list[int]:
+        """Return the darts that a shortest path to a face crosses, from its start on, chosen at random."""
+        embedding, crossed = self.embedding, list[int]()
+        face, side = embedding.face, embedding.side
+        while distance[goal]:
+            choices = [dart ^ 1 for dart in embedding.along(embedding.corner[goal])
+                       if distance[face[dart ^ 1]] == distance[goal] - 1
+                       and (not side[dart ^ 1] or side[dart ^ 1] in passing)]
+            crossed.append(one_of(choices, self.dice))
+            goal = face[crossed[-1]]
+        return crossed[::-1]
+
+    def homes(self) -> list[int]:
+        """Return for each face the innermost cluster around it, or `NONE`."""
+        embedding, parent = self.embedding, self.nesting.parent
+        face, side = embedding.face, embedding.side
+        found, waiting = [NONE] * len(embedding.corner), list[int]()
+        is_met = [False] * len(embedding.corner)
+        for dart, number in enumerate(side):
+            if number and face[dart] != NONE and not is_met[face[dart]]:
+                is_met[face[dart]] = True
+                found[face[dart]] = number - 1 if number > 0 else parent[-number - 1]
+                waiting.append(face[dart])
+        for here in waiting:
+            for dart in embedding.along(embedding.corner[here]):
+                other = face[dart ^ 1]
+                if not is_met[other] and not side[dart]:
+                    is_met[other] = True
+                    found[other] = found[here]
+                    waiting.append(other)
+        return found
+
+    # Moves
+
+    def take(self, edge: int) -> None:
+        """Remove an edge."""
+        self.cost -= self.embedding.crossings_of(edge)
+        self.embedding.remove(edge)
+
+    def insert(self, edge: int, tail_corner: int, crossed: Sequence[int], head_corner: int) -> None:
+        """Insert an edge, and count its crossings."""
+        self.embedding.insert(edge, tail_corner, crossed, head_corner)
+        self.cost += self.embedding.crossings_of(edge)
+
+    def corner(self, vertex: int, face: int) -> int:
+        """Return a dart that leaves a vertex with a face on its left, chosen at random."""
+        return one_of(self.embedding.corners(vertex, (face,)), self.dice)
+
+    def put(self, edge: int) -> None:
+        """Insert an edge along a shortest path between its ends, which have other edges; raise `Apart` if there is none."""
+        tail, head = self.embedding.ends[edge]
+        goals, passing = self.faces_at(head), self.passing[edge][0]
+        distance = self.distances(self.faces_at(tail), passing)
+        least = min((distance[goal] for goal in goals), default=FAR)
+        if least == FAR:
+            raise Apart
+        goal = one_of([goal for goal in goals if distance[goal] == least], self.dice)
+        crossed = self.path(distance, goal, passing)
+        start = self.embedding.face[crossed[0]] if crossed else goal
+        self.insert(edge, self.corner(tail, start), crossed, self.corner(head, goal))
+
+    def put_vertex(self, vertex: int, edges: Sequence[int]) -> None:
+        """Insert a vertex with some of its edges where this costs least; raise `Apart` if no face is a place for it."""
+        homes, ends, found = self.homes(), self.embedding.ends, list[list[int]]()
+        home = self.nesting.home[vertex]
+        places = [face for face, dart in enumerate(self.embedding.corner) if dart != NONE and homes[face] == home]
+        for edge in edges:
+            is_head = ends[edge][1] == vertex
+            found.append(self.distances(self.faces_at(ends[edge][not is_head]), self.passing[edge][not is_head]))
+        totals = [sum([distance[face] for distance in found]) for face in places]
+        if min(totals, default=FAR) >= FAR:
+            raise Apart
+        place = one_of([face for face, total in zip(places, totals) if total == min(totals)], self.dice)
+        edge, is_head = edges[0], ends[edges[0]][1] == vertex
+        crossed = self.path(found[0], place, self.passing[edge][not is_head])
+        other = self.corner(ends[edge][not is_head], self.embedding.face[crossed[0]] if crossed else place)
+        if is_head:
+            self.insert(edge, other, crossed, NONE)
+        else:
+            self.insert(edge, NONE, [dart ^ 1 for dart in reversed(crossed)], other)
+        for edge in edges[1:]:
+            self.put(edge)
+
+    def put_all(self) -> None:
+        """Insert all vertices, each time one with the most embedded neighbours, then with the most edges."""
+        embedding, waiting, placed = self.embedding, set(range(len(self.nesting.home))), set[int]()
+        rank = {vertex: [0, len(self.edges_at[vertex])] for vertex in waiting}
+        while waiting:
+            most = max(rank[vertex] for vertex in waiting)
+            vertex = one_of([vertex for vertex in sorted(waiting) if rank[vertex] == most], self.dice)
+            waiting.remove(vertex)
+            edges = []
+            for edge in self.edges_at[vertex]:
+                other = sum(self.nesting.ends[edge]) - vertex
+                rank[other][0] += 1
+                edges += [edge] if other in placed else []
+            placed.add(vertex)
+            if edges and embedding.leaving[sum(self.nesting.ends[edges[0]]) - vertex] == NONE:  # the second vertex without frames
+                embedding.insert(edges[0], NONE, (), NONE)
+                for edge in edges[1:]:
+                    self.put(edge)
+            elif edges:
+                self.put_vertex(vertex, edges)
+            elif embedding.first:
+                home = self.nesting.home[vertex]
+                embedding.insert(embedding.vertex_ties + vertex, embedding.hook_corner(home), (), NONE)
+        embedding.cut_ties()
+        self.count()
+
+    def count(self) -> None:
+        """Count the crossings anew."""
+        embedding = self.embedding
+        self.cost = sum(map(embedding.crossings_of, range(embedding.sides))) // 2
+
+    def moved(self, vertex: int, edges: Sequence[int]) -> None:
+        """Remove a vertex with its edges, or, if it is `NONE`, an edge, and put it back, unless this costs more."""
+        state, before = self.embedding.state(), self.cost
+        try:
+            for edge in edges:
+                self.take(edge)
+            if vertex == NONE:
+                self.put(edges[0])
+            else:
+                self.put_vertex(vertex, edges)
+        except Apart:
+            self.cost = FAR
+        if self.cost > before:
+            self.embedding.restore(state)
+            self.cost = before
+
+    def improve(self, patience: int, most_work: int) -> None:
+        """Move all vertices and edges in random order, until `patience` rounds save nothing, or too much work is done."""
+        vertices, vain = [vertex for vertex, edges in enumerate(self.edges_at) if edges], 0
+        while vain < patience and self.cost and self.work <= most_work:
+            before = self.cost
+            self.dice.shuffle(vertices)
+            for vertex in vertices:
+                self.moved(vertex, self.edges_at[vertex])
+            self.settle(False)
+            vain = vain + 1 if self.cost == before else 0
+
+    def settle(self, is_last: bool = True) -> None:
+        """Move each edge that crosses others: once, or until none saves a crossing."""
+        while True:
+            before = self.cost
+            for edge in range(self.embedding.sides):
+                if self.embedding.crossings_of(edge):
+                    self.moved(NONE, [edge])
+            if self.cost == before or not is_last:
+                return
+
+    def finish(self) -> NestedPlanarization:
+        """Return the embedding after edges that are not drawn went out while the whole stays connected."""
+        self.embedding.cut_needless()
+        self.count()
+        self.settle()
+        return self.embedding.nested()
+
+
+
+def planarized(nesting: Nesting, seed: int = 0, effort: int = 1) -> list[NestedPlanarization]:
+    """Return embeddings of a component with frames, with equally few crossings: at most `MOST_KEPT`.
+
+    The same arguments give the same result.
+    """
+    kept: list[NestedPlanarization] = []
+    work = 0
+    for number in range(STARTS * effort or 1):
+        search = NestSearch(nesting, random.Random(f"{seed} {number}"))
+        search.put_all()
+        search.improve(PATIENCE, WORK * max(1, effort))
+        found = search.finish()
+        work += search.work
+        if kept and found.real_crossings < kept[0].real_crossings:
+            kept = []
+        if not kept or found.real_crossings == kept[0].real_crossings and len(kept) < MOST_KEPT:
+            kept.append(found)
+        if len(kept) >= MOST_KEPT and not kept[0].real_crossings or work > WORK * effort and number + 1 >= LEAST_STARTS:
+            break
+    return kept

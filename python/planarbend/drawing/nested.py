@@ -1,0 +1,190 @@
+"""An embedding in which frames of clusters are cycles that edges cross, as linked lists.
+
+A frame is a cycle of four vertices and four edges, its *sides*, which run counter-clockwise; an edge with one end in the cluster
+crosses it once, any other never. Where the corners of the drawn frame are is not decided here.
+"""
+from __future__ import annotations
+
+from planarbend.drawing.linked import NONE
+from planarbend.drawing.nesting import Nesting
+from planarbend.drawing.planarization import LinkedEmbedding, Planarization
+from planarbend.graph import Partition
+from planarbend.layout.planar_code import Lists
+
+CORNERS = 4
+
+State = tuple[list[list[int]], list[tuple[int, int]]]
+
+
+class NestedEmbedding(LinkedEmbedding):
+    """An embedding of part of a nesting's edges, and of all its frames.
+
+    Vertices are those of the nesting, then four for each framed cluster. Edges are those of the nesting, then the sides, then
+    *ties*: one for each frame, from an outer frame to its first vertex, and one for each vertex, from the frame around it. Ties
+    hold the parts together while edges are missing; the vertex's own edge number is that of `tie`.
+
+    Attributes
+    ----------
+    nesting : Nesting
+    side : list of int
+        For each dart of a side one more than its cluster if that is on its left, this number below 0 if it is on the right;
+        otherwise 0.
+    first : dict from cluster to int
+        The first of the four vertices of each frame.
+    """
+
+    def __init__(self, nesting: Nesting) -> None:
+        """Return an embedding of the frames, joined by ties."""
+        count, framed = len(nesting.home), nesting.framed
+        self.nesting, self.first, self.side = nesting, {}, list[int]()
+        sides: list[tuple[int, int]] = []
+        for place, cluster in enumerate(framed):
+            first = self.first[cluster] = count + CORNERS * place
+            sides += [(first + corner, first + (corner + 1) % CORNERS) for corner in range(CORNERS)]
+        self.sides = len(nesting.ends)
+        self.ties = self.sides + len(sides)
+        ties = [(self.hook(nesting.parent[cluster]), self.first[cluster]) for cluster in framed[1:]]
+        self.vertex_ties = self.ties + len(ties)
+        ties += [(self.hook(home), vertex) for vertex, home in enumerate(nesting.home)] if framed else []
+        super().__init__(count + len(sides), [*nesting.ends, *sides, *ties])
+        for place, cluster in enumerate(framed):
+            self._add_frame(place, cluster)
+
+    def hook(self, home: int) -> int:
+        """Return the vertex of a frame at which ties begin that lead into a cluster, or to what is in none."""
+        return self.first[home] if home != NONE else next(iter(self.first.values()))
+
+    def hook_corner(self, home: int) -> int:
+        """Return the dart at `hook` before which ties begin."""
+        wanted = 1 + home if home != NONE else -1 - next(iter(self.first))
+        return next(dart for dart in self.around(self.hook(home)) if self.side[dart] == wanted)
+
+    def _add_frame(self, place: int, cluster: int) -> None:
+        """Add the frame of a cluster, and its tie."""
+        edge, first = self.sides + CORNERS * place, self.first[cluster]
+        self.insert(edge, NONE, (), NONE)
+        for corner in range(1, CORNERS - 1):
+            self.insert(edge + corner, self.leaving[first + corner], (), NONE)
+        self.insert(edge + CORNERS - 1, self.leaving[first + CORNERS - 1], (), self.leaving[first])
+        for one in range(edge, edge + CORNERS):
+            self.side[self.start[one]], self.side[self.start[one] ^ 1] = 1 + cluster, -1 - cluster
+        if place:
+            outer = next(dart for dart in self.around(first) if self.side[dart] < 0)
+            self.insert(self.ties + place - 1, self.hook_corner(self.nesting.parent[cluster]), (), outer)
+
+    def is_side(self, edge: int) -> bool:
+        """Return whether an edge is a side of a frame."""
+        return self.sides <= edge < self.ties
+
+    def crossings_of(self, edge: int) -> int:
+        """Return how many crossings an edge has with edges, without those with frames."""
+        return sum(not self.is_side(other) for other in self.crossed(edge))
+
+    # Editing
+
+    def _new_piece(self, edge: int, tail: int, head: int) -> int:
+        """Return a new piece, not yet in a face."""
+        piece = super()._new_piece(edge, tail, head)
+        if len(self.side) < len(self.origin):
+            self.side += (0, 0)
+        self.side[2 * piece] = self.side[2 * piece + 1] = 0
+        return piece
+
+    def _split(self, dart: int) -> int:
+        """Return the dart that leaves a new crossing, which cuts a piece in two, onward, with the face of `dart`."""
+        ahead = super()._split(dart)
+        self.side[ahead], self.side[ahead ^ 1] = self.side[dart], self.side[dart ^ 1]
+        return ahead
+
+    def parts(self) -> int:
+        """Return the number of connected parts with an edge."""
+        met, found = set[int](), 0
+        for vertex, leaving in enumerate(self.leaving):
+            if leaving < 0 or vertex in met:
+                continue
+            found += 1
+            waiting = [vertex]
+            met.add(vertex)
+            for one in waiting:
+                for dart in self.around(one):
+                    other = self.origin[dart ^ 1]
+                    if other not in met:
+                        met.add(other)
+                        waiting.append(other)
+        return found
+
+    def cut_ties(self) -> None:
+        """Remove all ties, after all edges are embedded."""
+        for edge in range(self.ties, len(self.ends)):
+            if self.start[edge] != NONE:
+                self.remove(edge)
+
+    def cut_needless(self) -> None:
+        """Remove edges that are not drawn while the whole stays connected."""
+        for edge in range(self.nesting.drawn[1], self.sides):
+            if all(self.face[dart] != self.face[dart ^ 1] for dart in self.chain(edge)):
+                state = self.state()
+                self.remove(edge)
+                if self.parts() > 1 or any(self.leaving[end] < 0 for end in self.ends[edge]):
+                    self.restore(state)
+
+    # Copies
+
+    def state(self) -> State:
+        """Return a copy of all that is embedded, for `restore`."""
+        lists = (self.origin, self.onward, self.back, self.face, self.leaving, self.corner, self.edge, self.free_pieces,
+                 self.free_faces, self.free_crossings, self.start, self.side)
+        return [list(one) for one in lists], list(self.ends)
+
+    def restore(self, state: State) -> None:
+        """Return to a state, which is not used again."""
+        (self.origin, self.onward, self.back, self.face, self.leaving, self.corner, self.edge, self.free_pieces,
+         self.free_faces, self.free_crossings, self.start, self.side), self.ends = state
+
+    def nested(self) -> NestedPlanarization:
+        """Return the embedding, without ties."""
+        found = self.planarization()
+        return NestedPlanarization(found.tail, found.rotation, found.vertex_count, found.chains[:self.ties], self.nesting)
+
+
+class NestedPlanarization(Planarization):
+    """An embedding with frames: after the vertices of the nesting come four for each frame, after its edges four sides."""
+
+    def __init__(self, tail: list[int], rotation: list[list[int]], vertex_count: int, chains: list[list[int]],
+                 nesting: Nesting) -> None:
+        """Return an embedding."""
+        super().__init__(tail, rotation, vertex_count, chains)
+        self.nesting = nesting
+
+    def sides_of(self, place: int) -> range:
+        """Return the edges that are the sides of a frame, given by its place in `framed`."""
+        first = len(self.nesting.ends) + CORNERS * place
+        return range(first, first + CORNERS)
+
+    @property
+    def real_crossings(self) -> int:
+        """The number of crossings between edges that are drawn."""
+        drawn, met = self.nesting.drawn[1], [0] * len(self.rotation)
+        for chain in self.chains[:drawn]:
+            for dart in chain[1:]:
+                met[self.tail[dart]] += 1
+        return met.count(2)
+
+    def bare(self) -> list[Lists]:
+        """Return the neighbour lists of each component with an edge, without frames and what is not drawn. A stub, at which
+        an edge ends at a frame, is a vertex of its own."""
+        nesting = self.nesting
+        linked = LinkedEmbedding.of(self, [*nesting.ends, *([(0, 0)] * (len(self.chains) - len(nesting.ends)))])
+        for edge in range(nesting.drawn[1], len(self.chains)):
+            if linked.start[edge] != NONE:
+                linked.remove(edge)
+        found = linked.planarization()
+        parts = Partition(len(found.rotation))
+        for dart in range(0, len(found.tail), 2):
+            parts.unite(found.tail[dart], found.tail[dart + 1])
+        members: dict[int, list[int]] = {}
+        for vertex, darts in enumerate(found.rotation):
+            if darts:
+                members.setdefault(parts.find(vertex), []).append(vertex)
+        number = {vertex: place for one in members.values() for place, vertex in enumerate(one, 1)}
+        return [[[number[found.tail[dart ^ 1]] for dart in found.rotation[vertex]] for vertex in one] for one in members.values()]
