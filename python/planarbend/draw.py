@@ -7,11 +7,14 @@ import random
 from collections.abc import Sequence
 from dataclasses import dataclass, field
 
+from planarbend.drawing import field_items
 from planarbend.drawing.choose import NoStraightEdges, NoSuchFace, TooLarge, choose
 from planarbend.drawing.drawn import Box, Crossing, Drawing, Point
 from planarbend.drawing.frame_items import NoFrames, bare, drawn_edges
 from planarbend.drawing.frames import Frame
 from planarbend.drawing.items import Sheet
+from planarbend.drawing.linked import NONE
+from planarbend.drawing.nesting import is_port
 from planarbend.drawing.planarization import Planarization
 from planarbend.drawing.planarize import TooManyCrossings, planarize
 from planarbend.drawing.plans import Budget, Options
@@ -129,8 +132,13 @@ def parts_of(graph: Graph, component: Component, options: Options, engine: Engin
         return [part_of(graph, component, options, engine)]
     except NoFrames as fault:
         names = ", ".join(graph.clusters[number].name for number in component.clusters)
-        graph.looks.warnings.append(f"clusters are drawn without frames: {names}: {fault}")
-    return [part_of(graph, one, options, engine) for one in components_of(graph, component.vertices)]
+        graph.looks.warnings += [f"clusters are drawn without frames: {names}: {fault}"] if names else []
+        ends = {key for key, end in graph.ends.items() if key[0] in component.edges and is_port(end)}
+        names = ", ".join(dict.fromkeys(graph.vertices[graph.edges[edge].head if is_head else graph.edges[edge].tail].name
+                                        for edge, is_head in sorted(ends)))
+        graph.looks.warnings += [f"edges end anywhere at these nodes, not at their ports: {names}: {fault}"] if names else []
+    plain = dataclasses.replace(graph, clusters=[], ends={})
+    return [part_of(plain, one, options, engine) for one in components_of(plain, component.vertices)]
 
 
 def inner_graph(graph: Graph, part: Component) -> Graph:
@@ -138,14 +146,15 @@ def inner_graph(graph: Graph, part: Component) -> Graph:
     number = {vertex: place for place, vertex in enumerate(part.vertices)}
     cluster = {one: place for place, one in enumerate(part.clusters)}
     chosen, place_of = [graph.edges[edge] for edge in part.edges], {edge: place for place, edge in enumerate(part.edges)}
-    ends = {(place_of[edge], is_head): End(cluster=cluster[end.cluster]) for (edge, is_head), end in graph.ends.items()
-            if edge in place_of and end.cluster is not None and end.cluster in cluster}
+    ends = {(place_of[edge], is_head): dataclasses.replace(end, cluster=cluster.get(NONE if end.cluster is None else end.cluster))
+            for (edge, is_head), end in graph.ends.items() if edge in place_of}
     clusters = [dataclasses.replace(one, parent=None if one.parent is None else cluster[one.parent],
                                     members=[number[vertex] for vertex in one.members])
                 for one in (graph.clusters[number] for number in part.clusters)]
     return Graph([graph.vertices[vertex] for vertex in part.vertices],
                  [Edge(number[edge.tail], number[edge.head], edge.label, edge.arrow) for edge in chosen], graph.directed,
-                 graph.looks.part(part.vertices, part.edges), {}, ends, clusters)
+                 graph.looks.part(part.vertices, part.edges),
+                 {number[vertex]: one for vertex, one in graph.fields.items() if vertex in number}, ends, clusters)
 
 
 def part_of(graph: Graph, part: Component, options: Options, engine: Engine) -> Part:
@@ -154,7 +163,7 @@ def part_of(graph: Graph, part: Component, options: Options, engine: Engine) -> 
     number = {vertex: place for place, vertex in enumerate(part.vertices)}
     options = dataclasses.replace(options, outer=[number[vertex] for vertex in options.outer if vertex in number],
                                   straight=[place for place, edge in enumerate(part.edges) if edge in options.straight])
-    if inner.clusters:
+    if inner.clusters or any(map(is_port, inner.ends.values())):
         return Part(part.vertices, part.edges, framed_sheet(inner, options, engine), part.clusters)
     if all(edge.tail == edge.head for edge in inner.edges):
         return Part(part.vertices, part.edges, settled(lone(len(part.edges)), inner))
@@ -280,6 +289,8 @@ def side_by_side(graph: Graph, parts: Sequence[Part]) -> Drawing:
     labels: dict[int, Box] = {}
     end_labels: dict[tuple[int, bool], Box] = {}
     frames: dict[int, Frame] = {}
+    field_boxes: dict[int, list[Box]] = {}
+    meets: dict[tuple[int, bool], Point] = {}
     bounds = [part.sheet.bounds() for part in parts]
     places, width, height = packed([(right - left + BETWEEN, bottom - top + BETWEEN) for left, top, right, bottom in bounds])
     for part, box, (x, y) in zip(parts, bounds, places):
@@ -296,13 +307,20 @@ def side_by_side(graph: Graph, parts: Sequence[Part]) -> Drawing:
             label = sheet.frame_labels.get(cluster)
             frames[part.clusters[cluster]] = Frame(box_at(sheet.extent(item), corner, place), None if label is None else box_at(
                 sheet.extent(label), corner, place))
+        for number in sheet.graph.fields:
+            field_boxes[part.vertices[number]] = [box_at(one, corner, place) for one in field_items.field_boxes(sheet, number)]
+        for (number, is_head), end in sheet.graph.ends.items():
+            meets[edges[number], is_head] = point_at(end_of(sheet, number, is_head, end), corner, place)
         crossings += [Crossing(meeting(lines[edges[one]], lines[edges[other]]), (edges[one], edges[other]))
                       for one, other in crossings_of(sheet.shape)]
     size = (math.ceil(width - BETWEEN + 2 * MARGIN), math.ceil(height - BETWEEN + 2 * MARGIN))
     embedding = [lists for part in parts for lists in bare(part.sheet.shape)]
-    meets = {(edge, is_head): lines[edge][-is_head] for (edge, is_head), end in graph.ends.items()
-             if end.cluster in frames}
-    return Drawing(graph, boxes, lines, crossings, size, labels, embedding, end_labels, frames, meets=meets)
+    return Drawing(graph, boxes, lines, crossings, size, labels, embedding, end_labels, frames, field_boxes, meets)
+
+
+def end_of(sheet: Sheet, number: int, is_head: bool, end: End) -> Point:
+    """Return the point at which an edge meets its port, or the frame at which it ends."""
+    return field_items.met(sheet, number, is_head, end) if is_port(end) else sheet.line(number)[-1 if is_head else 0]
 
 
 def point_at(point: Point, corner: Point, place: Point) -> Point:

@@ -74,14 +74,14 @@ class Embedded(unittest.TestCase):
 
     def test_crossings(self) -> None:
         """K(3,3) has one crossing, also with frames around three vertices each."""
-        self.assertEqual({planar.real_crossings for planar in planarized(nesting_of(of(K33)))}, {1})
+        self.assertEqual({planar.real_crossings for _, planar in planarized(nesting_of(of(K33)))}, {1})
 
     def test_turns(self) -> None:
         """Each face turns by 4, each frame too; the bends of two squares joined by four edges are none."""
         from planarbend.drawing.turns import Program, outer_faces  # it needs numpy and scipy
 
         text = "graph { subgraph cluster_a { a--b--c--d--a } subgraph cluster_b { e--f--g--h--e } a--e b--f c--g d--h }"
-        planar = planarized(nesting_of(of(text)))[0]
+        planar = planarized(nesting_of(of(text)))[0][1]
         for face in outer_faces(planar):
             found = Program(planar).solved(face)
             for place, walk in enumerate(planar.walks):

@@ -7,6 +7,7 @@ from planarbend.drawing.frame_items import NoFrames
 from planarbend.drawing.given import given_shape
 from planarbend.drawing.nest_search import planarized
 from planarbend.drawing.nested import NestedPlanarization
+from planarbend.drawing.resite import resited
 from planarbend.drawing.nesting import nesting_of
 from planarbend.drawing.plans import Options
 from planarbend.drawing.shape import Shape
@@ -30,10 +31,12 @@ def framed_shapes(graph: Graph, options: Options, engine: Engine) -> list[Shape]
     """
     if not engine.keeps:
         raise NoFrames("frames need the library libplanarbend of this version")
-    planars = planarized(nesting_of(graph), options.seed, options.effort)
+    searches = planarized(nesting_of(graph), options.seed, options.effort)
+    planars = [resited(search, planar) for search, planar in searches]
     if min(len(planar.rotation) for planar in planars) > engine.most_vertices:
         raise NoFrames(f"they take more than {engine.most_vertices} vertices and crossings")
-    ways = sorted(directed(planars, options), key=lambda one: one.cost)[:MOST_WAYS]
+    ways = [upright(one, options) for one in sorted(directed(planars, options), key=lambda one: one.cost)[:MOST_WAYS]]
+    ways.sort(key=lambda one: one.cost)
     boxed = sorted(filter(None, (again(one, options) for one in ways)), key=lambda one: one.cost)
     found = [*shapes_of(ways[:MOST_SHAPES], engine), *shapes_of(boxed[:MOST_SHAPES], engine)]
     if not found:
@@ -42,21 +45,27 @@ def framed_shapes(graph: Graph, options: Options, engine: Engine) -> list[Shape]
 
 
 def directed(planars: Iterable[NestedPlanarization], options: Options) -> Iterator[Directed]:
-    """Yield embeddings with outer faces that have all of `outer`, and their directions."""
+    """Yield embeddings with outer faces that have all of `outer`, and directions in which vertices with ports may lie on their
+    sides."""
     for planar in planars:
         program = Program(planar, (), options.straight)
         faces = [face for face in outer_faces(planar)
                  if {planar.tail[dart] for dart in planar.walks[face]}.issuperset(options.outer)]
         for face in faces[:max(1, min(MOST_FACES, MOST_WORK // len(planar.tail)))]:
             try:
-                yield program.solved(face)
+                yield program.solved(face, is_free=True)
             except ArithmeticError:  # edges cannot be straight
                 continue
 
 
+def upright(way: Directed, options: Options) -> Directed:
+    """Return the directions of the same embedding and outer face in which vertices with ports are upright."""
+    return way if len(way.upright) < 2 else Program(way.planar, (), options.straight).solved(way.outer)
+
+
 def again(way: Directed, options: Options) -> Directed | None:
     """Return the directions of the same embedding if vertices with few edges may be boxes too; None if none is one."""
-    found = Program(way.planar, range(len(way.planar.nesting.home)), options.straight).solved(way.outer)
+    found = Program(way.planar, range(len(way.planar.nesting.home)), options.straight).solved(way.outer, way.upright)
     return found if found.cost < way.cost else None
 
 

@@ -9,11 +9,11 @@ from collections.abc import Iterator
 from itertools import pairwise
 
 from planarbend.drawing.expand import Expansion
-from planarbend.drawing.numbering import Contraction, Form, form_of
+from planarbend.drawing.numbering import Contraction, Form, form_of, path_of
 from planarbend.drawing.plans import Plan
 from planarbend.drawing.shape import Shape, shape_of
 from planarbend.drawing.turns import Directed
-from planarbend.layout.engine import Conditions, Engine
+from planarbend.layout.engine import Answer, Conditions, Engine, GridPoint
 
 STRAIGHT = 2  # right angles where a line goes on
 
@@ -36,7 +36,8 @@ class GivenExpansion(Expansion):
         self.sides: dict[int, list[int]] = {}
         self.corners: set[int] = set()
         vertices = range(len(planar.nesting.home))
-        boxes = [vertex for vertex in vertices if planar.rotation[vertex] and not directed.is_point(vertex)]
+        boxes = [vertex for vertex in vertices
+                 if planar.rotation[vertex] and (vertex in planar.nesting.ports or not directed.is_point(vertex))]
         self.plan = Plan(frozenset(boxes))
         for vertex in boxes:
             self._make_box(vertex)
@@ -130,6 +131,22 @@ class GivenExpansion(Expansion):
                           {ends(dart): turns for dart, turns in self.turns()})
 
 
+def turned(answer: Answer, form: Form, directed: Directed) -> Answer:
+    """Return an answer after it is turned as a whole, so that darts leave in their directions; y grows to the north."""
+    (x, y), (right, below) = path_of(form.places(answer)[1], 0)[:2]
+    heads = 0 if right > x else 2 if right < x else 1 if below < y else 3
+    turns = (directed.directions[0] - heads) % 4
+
+    def at(point: GridPoint) -> GridPoint:
+        """Return where a point comes to lie."""
+        x, y = point
+        for _ in range(turns):
+            x, y = -y, x
+        return x, y
+
+    return Answer(answer.bends, [at(point) for point in answer.points], [[at(point) for point in line] for line in answer.corners])
+
+
 def given_shape(directed: Directed, engine: Engine) -> Shape | None:
     """Return the shape of directions, or None if it takes more nodes than the engine."""
     expansion = GivenExpansion(directed, engine.most_vertices)
@@ -137,6 +154,7 @@ def given_shape(directed: Directed, engine: Engine) -> Shape | None:
     if len(nodes) > engine.most_vertices:
         return None
     form = form_of(Contraction(expansion), nodes)
-    found = shape_of(form, engine.lay_keeping(form.lists, "first", expansion.conditions(form)))
+    answer = engine.lay_keeping(form.lists, "first", expansion.conditions(form))
+    found = shape_of(form, turned(answer, form, directed) if directed.planar.nesting.ports else answer)
     found.bends = sum(len(line) - 2 for line in found.lines[:directed.planar.nesting.drawn[1]] if line)
     return found

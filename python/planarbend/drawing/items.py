@@ -11,7 +11,7 @@ from collections import Counter
 from collections.abc import Mapping, Sequence
 from types import MappingProxyType
 
-from planarbend.drawing import frame_items
+from planarbend.drawing import field_items, frame_items
 from planarbend.drawing.drawn import Box, Point
 from planarbend.drawing.extents import BOX, LABEL, PIECE, UNIT, Axis, Item, item_at
 from planarbend.drawing.shape import Shape
@@ -22,6 +22,7 @@ from planarbend.style import NodeLook
 
 PAD = (6.0, 4.0)  # pixels between a name and the border of its box
 LEAST_SIDE = 22.0  # pixels, the width of a box
+LEAST_DIVIDED = (22.0, 22.0)  # pixels, of a box with fields
 LEAST_FLAG = 14.0  # pixels, the width of a flag
 LABEL_FONT = 10
 LABEL_HEIGHT = 12.0
@@ -33,6 +34,7 @@ class Sheet:
     """A shape of a component and its items: `boxes` of the vertices, `pieces` of each edge, `labels` by edge."""
 
     frame_at: Mapping[tuple[int, bool], Item] = MappingProxyType({})  # by edge, and whether at its head: where it ends at a frame
+    halves: list[tuple[int, int, int, int, bool]] = []  # axis, low, end, high: ends in the lower half, or in the upper one
 
     def __init__(self, shape: Shape, graph: Graph) -> None:
         """Return the sheet of a shape, whose coordinates are still those of its grid."""
@@ -51,8 +53,12 @@ class Sheet:
         self.frames: dict[int, Item] = {}  # by cluster
         self.frame_pieces: list[Item] = []
         self.frame_labels: dict[int, Item] = {}
+        self.fields: dict[int, list[field_items.Place]] = {}  # of vertices with fields, and of those with ports, the whole
+        self.held = set[int]()  # vertices whose boxes are not fitted to their lines alone
+        self.halves = []
         looks = graph.looks.nodes
-        self.sizes = [size_of(vertex.label, vertex.kind, looks.get(number)) for number, vertex in enumerate(graph.vertices)]
+        self.sizes = [LEAST_DIVIDED if number in graph.fields else size_of(vertex.label, vertex.kind, looks.get(number))
+                      for number, vertex in enumerate(graph.vertices)]
         self.ends = frame_items.ends_of(shape, graph)  # by edge; -1 - cluster for a frame
         self.lines = [frame_items.cut_line(shape, number) for number in range(len(graph.edges))]
         frame_items.add_frames(self)
@@ -60,6 +66,7 @@ class Sheet:
                          for is_head, end in zip((False, True), ends) if end < 0}
         for number, flat in enumerate(self._flat()):
             self._add_box(number, flat)
+        field_items.add_fields(self)
         for number, line in enumerate(self.lines):
             self.pieces.append([])
             if line:
@@ -118,6 +125,8 @@ class Sheet:
         for place, axis in enumerate(across):
             hosts = [end for end, is_there in ((tail, place == 0), (head, place == last)) if is_there and end >= 0]
             coordinates.append(self._coordinate(axis, UNIT * line[place][axis], hosts))
+        for is_head, place in ((False, 0), (True, last)):
+            field_items.hold_end(self, number, is_head, across[place], coordinates[place])
         for place, axis in enumerate(across):
             other = 1 - axis
             forward = line[place][other] < line[place + 1][other]

@@ -8,7 +8,7 @@ Work is counted in darts that a search passes, so the same seed gives the same e
 from __future__ import annotations
 
 import random
-from collections.abc import Collection, Sequence
+from collections.abc import Collection, Iterable, Sequence
 
 from planarbend.drawing.dual import FAR, one_of
 from planarbend.drawing.linked import NONE
@@ -46,6 +46,7 @@ class NestSearch:
         self.embedding, self.dice, self.cost, self.work = NestedEmbedding(nesting), dice, 0, 0
         self.nesting = nesting
         self.edges_at: list[list[int]] = [[] for _ in nesting.home]
+        self.loops_at: dict[int, list[int]] = {}
         self.passing: list[tuple[Passing, Passing]] = []  # from tail to head, and from head to tail
         for edge, (tail, head) in enumerate(nesting.ends):
             left, entered = nesting.crossed(edge)
@@ -54,12 +55,15 @@ class NestSearch:
             if tail != head:
                 self.edges_at[tail].append(edge)
                 self.edges_at[head].append(edge)
+            elif len({*nesting.at_ports.get((edge, False), ()), *nesting.at_ports.get((edge, True), ())}) > 1:
+                self.loops_at.setdefault(tail, []).append(edge)
 
     # Distances
 
-    def faces_at(self, vertex: int) -> list[int]:
-        """Return the faces at a vertex."""
-        return sorted({self.embedding.face[dart] for dart in self.embedding.around(vertex)})
+    def faces_at(self, edge: int, is_head: bool) -> list[int]:
+        """Return the faces at which an end of an edge may be."""
+        corners = self.embedding.free_corners(self.embedding.places_of(edge, is_head))
+        return sorted({self.embedding.face[dart] for dart in corners})
 
     def distances(self, sources: Sequence[int], passing: Passing) -> list[int]:
         """Return for each face how many darts a shortest path from some faces crosses; `FAR` if there is none."""
@@ -102,7 +106,7 @@ class NestSearch:
         found, waiting = [NONE] * len(embedding.corner), list[int]()
         is_met = [False] * len(embedding.corner)
         for dart, number in enumerate(side):
-            if number and face[dart] != NONE and not is_met[face[dart]]:
+            if number and number >= -len(parent) and face[dart] != NONE and not is_met[face[dart]]:
                 is_met[face[dart]] = True
                 found[face[dart]] = number - 1 if number > 0 else parent[-number - 1]
                 waiting.append(face[dart])
@@ -122,47 +126,56 @@ class NestSearch:
         self.cost -= self.embedding.crossings_of(edge)
         self.embedding.remove(edge)
 
-    def insert(self, edge: int, tail_corner: int, crossed: Sequence[int], head_corner: int) -> None:
-        """Insert an edge, and count its crossings."""
-        self.embedding.insert(edge, tail_corner, crossed, head_corner)
+    def insert(self, edge: int, tail: int, crossed: Sequence[int], head: int) -> None:
+        """Insert an edge between corners, or, in place of one, -1 - a vertex without edges, and count its crossings."""
+        corners = [NONE if one < 0 else one for one in (tail, head)]
+        ends = [-1 - one if one < 0 else self.embedding.origin[one] for one in (tail, head)]
+        if ends[0] == ends[1]:
+            raise Apart
+        self.embedding.ends[edge] = (ends[0], ends[1])
+        self.embedding.insert(edge, corners[0], crossed, corners[1])
         self.cost += self.embedding.crossings_of(edge)
 
-    def corner(self, vertex: int, face: int) -> int:
-        """Return a dart that leaves a vertex with a face on its left, chosen at random."""
-        return one_of(self.embedding.corners(vertex, (face,)), self.dice)
+    def corner(self, edge: int, is_head: bool, face: int = NONE, but: int = NONE) -> int:
+        """Return a dart at which an end of an edge may be, with a face on its left, chosen at random, if possible not at a certain
+        site; without a face, any one, or -1 - a vertex without edges."""
+        places = self.embedding.places_of(edge, is_head)
+        found = [dart for dart in self.embedding.free_corners(places) if face in (NONE, self.embedding.face[dart])]
+        others = [dart for dart in found if self.embedding.origin[dart] != but]
+        return one_of(others or found, self.dice) if found else -1 - places[0]
 
     def put(self, edge: int) -> None:
         """Insert an edge along a shortest path between its ends, which have other edges; raise `Apart` if there is none."""
-        tail, head = self.embedding.ends[edge]
-        goals, passing = self.faces_at(head), self.passing[edge][0]
-        distance = self.distances(self.faces_at(tail), passing)
+        goals, passing = self.faces_at(edge, True), self.passing[edge][0]
+        distance = self.distances(self.faces_at(edge, False), passing)
         least = min((distance[goal] for goal in goals), default=FAR)
         if least == FAR:
             raise Apart
         goal = one_of([goal for goal in goals if distance[goal] == least], self.dice)
         crossed = self.path(distance, goal, passing)
-        start = self.embedding.face[crossed[0]] if crossed else goal
-        self.insert(edge, self.corner(tail, start), crossed, self.corner(head, goal))
+        tail = self.corner(edge, False, self.embedding.face[crossed[0]] if crossed else goal)
+        self.insert(edge, tail, crossed, self.corner(edge, True, goal, self.embedding.origin[tail]))
 
     def put_vertex(self, vertex: int, edges: Sequence[int]) -> None:
         """Insert a vertex with some of its edges where this costs least; raise `Apart` if no face is a place for it."""
-        homes, ends, found = self.homes(), self.embedding.ends, list[list[int]]()
+        homes, ends, found = self.homes(), self.nesting.ends, list[list[int]]()
         home = self.nesting.home[vertex]
         places = [face for face, dart in enumerate(self.embedding.corner) if dart != NONE and homes[face] == home]
         for edge in edges:
             is_head = ends[edge][1] == vertex
-            found.append(self.distances(self.faces_at(ends[edge][not is_head]), self.passing[edge][not is_head]))
+            found.append(self.distances(self.faces_at(edge, not is_head), self.passing[edge][not is_head]))
         totals = [sum([distance[face] for distance in found]) for face in places]
         if min(totals, default=FAR) >= FAR:
             raise Apart
         place = one_of([face for face, total in zip(places, totals) if total == min(totals)], self.dice)
         edge, is_head = edges[0], ends[edges[0]][1] == vertex
         crossed = self.path(found[0], place, self.passing[edge][not is_head])
-        other = self.corner(ends[edge][not is_head], self.embedding.face[crossed[0]] if crossed else place)
+        other = self.corner(edge, not is_head, self.embedding.face[crossed[0]] if crossed else place)
+        own = self.corner(edge, is_head)
         if is_head:
-            self.insert(edge, other, crossed, NONE)
+            self.insert(edge, other, crossed, own)
         else:
-            self.insert(edge, NONE, [dart ^ 1 for dart in reversed(crossed)], other)
+            self.insert(edge, own, [dart ^ 1 for dart in reversed(crossed)], other)
         for edge in edges[1:]:
             self.put(edge)
 
@@ -179,18 +192,30 @@ class NestSearch:
                 other = sum(self.nesting.ends[edge]) - vertex
                 rank[other][0] += 1
                 edges += [edge] if other in placed else []
+            is_second = not embedding.first and len(placed) == 1
             placed.add(vertex)
-            if edges and embedding.leaving[sum(self.nesting.ends[edges[0]]) - vertex] == NONE:  # the second vertex without frames
-                embedding.insert(edges[0], NONE, (), NONE)
+            if is_second:
+                self.insert(edges[0], self.corner(edges[0], False), (), self.corner(edges[0], True))
                 for edge in edges[1:]:
                     self.put(edge)
             elif edges:
                 self.put_vertex(vertex, edges)
             elif embedding.first:
-                home = self.nesting.home[vertex]
-                embedding.insert(embedding.vertex_ties + vertex, embedding.hook_corner(home), (), NONE)
+                corners = embedding.free_corners(embedding.places(vertex)[:1])
+                hook = embedding.hook_corner(self.nesting.home[vertex])
+                embedding.insert(embedding.vertex_ties + vertex, hook, (), corners[0] if corners else NONE)
         embedding.cut_ties()
+        self.put_loops(self.loops_at)
         self.count()
+
+    def put_loops(self, vertices: Iterable[int]) -> None:
+        """Insert the loops of vertices with ports, but for those for which there are no two sites."""
+        for vertex in vertices:
+            for edge in self.loops_at.get(vertex, ()):
+                try:
+                    self.put(edge)
+                except Apart:
+                    continue
 
     def count(self) -> None:
         """Count the crossings anew."""
@@ -201,12 +226,14 @@ class NestSearch:
         """Remove a vertex with its edges, or, if it is `NONE`, an edge, and put it back, unless this costs more."""
         state, before = self.embedding.state(), self.cost
         try:
-            for edge in edges:
-                self.take(edge)
+            for edge in [*edges, *self.loops_at.get(vertex, ())]:
+                if self.embedding.start[edge] != NONE:
+                    self.take(edge)
             if vertex == NONE:
                 self.put(edges[0])
             else:
                 self.put_vertex(vertex, edges)
+                self.put_loops([vertex])
         except Apart:
             self.cost = FAR
         if self.cost > before:
@@ -243,12 +270,12 @@ class NestSearch:
 
 
 
-def planarized(nesting: Nesting, seed: int = 0, effort: int = 1) -> list[NestedPlanarization]:
-    """Return embeddings of a component with frames, with equally few crossings: at most `MOST_KEPT`.
+def planarized(nesting: Nesting, seed: int = 0, effort: int = 1) -> list[tuple[NestSearch, NestedPlanarization]]:
+    """Return searches that found embeddings of a component with equally few crossings, and these: at most `MOST_KEPT`.
 
     The same arguments give the same result.
     """
-    kept: list[NestedPlanarization] = []
+    kept: list[tuple[NestSearch, NestedPlanarization]] = []
     work = 0
     for number in range(STARTS * effort or 1):
         search = NestSearch(nesting, random.Random(f"{seed} {number}"))
@@ -256,10 +283,10 @@ def planarized(nesting: Nesting, seed: int = 0, effort: int = 1) -> list[NestedP
         search.improve(PATIENCE, WORK * max(1, effort))
         found = search.finish()
         work += search.work
-        if kept and found.real_crossings < kept[0].real_crossings:
+        if kept and found.real_crossings < kept[0][1].real_crossings:
             kept = []
-        if not kept or found.real_crossings == kept[0].real_crossings and len(kept) < MOST_KEPT:
-            kept.append(found)
-        if len(kept) >= MOST_KEPT and not kept[0].real_crossings or work > WORK * effort and number + 1 >= LEAST_STARTS:
+        if not kept or found.real_crossings == kept[0][1].real_crossings and len(kept) < MOST_KEPT:
+            kept.append((search, found))
+        if len(kept) >= MOST_KEPT and not kept[0][1].real_crossings or work > WORK * effort and number + 1 >= LEAST_STARTS:
             break
     return kept

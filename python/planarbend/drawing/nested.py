@@ -5,6 +5,8 @@ crosses it once, any other never. Where the corners of the drawn frame are is no
 """
 from __future__ import annotations
 
+from collections.abc import Iterable, Sequence
+
 from planarbend.drawing.linked import NONE
 from planarbend.drawing.nesting import Nesting
 from planarbend.drawing.planarization import LinkedEmbedding, Planarization
@@ -19,8 +21,8 @@ State = tuple[list[list[int]], list[tuple[int, int]]]
 class NestedEmbedding(LinkedEmbedding):
     """An embedding of part of a nesting's edges, and of all its frames.
 
-    Vertices are those of the nesting, then four for each framed cluster. Edges are those of the nesting, then the sides, then
-    *ties*: one for each frame, from an outer frame to its first vertex, and one for each vertex, from the frame around it. Ties
+    Vertices are those of the nesting, then four for each framed cluster, then the sites of vertices with ports, each of which is a
+    cycle that nothing crosses. Edges are those of the nesting, then the sides of all cycles, then *ties*: one for each frame, from an outer frame to its first vertex, and one for each vertex, from the frame around it. Ties
     hold the parts together while edges are missing; the vertex's own edge number is that of `tie`.
 
     Attributes
@@ -28,9 +30,11 @@ class NestedEmbedding(LinkedEmbedding):
     nesting : Nesting
     side : list of int
         For each dart of a side one more than its cluster if that is on its left, this number below 0 if it is on the right;
-        otherwise 0.
+        otherwise 0. Vertices with ports have the numbers after those of clusters.
     first : dict from cluster to int
         The first of the four vertices of each frame.
+    rings : dict from vertex to range
+        The sites of each vertex with ports, counter-clockwise.
     """
 
     def __init__(self, nesting: Nesting) -> None:
@@ -40,15 +44,43 @@ class NestedEmbedding(LinkedEmbedding):
         sides: list[tuple[int, int]] = []
         for place, cluster in enumerate(framed):
             first = self.first[cluster] = count + CORNERS * place
-            sides += [(first + corner, first + (corner + 1) % CORNERS) for corner in range(CORNERS)]
+            sides += cycle(range(first, first + CORNERS))
+        count += len(sides)
+        self.rings: dict[int, range] = {}
+        for vertex, one in nesting.ports.items():
+            self.rings[vertex] = range(count, count + len(one.sites))
+            sides += cycle(self.rings[vertex])
+            count += len(one.sites)
         self.sides = len(nesting.ends)
         self.ties = self.sides + len(sides)
         ties = [(self.hook(nesting.parent[cluster]), self.first[cluster]) for cluster in framed[1:]]
         self.vertex_ties = self.ties + len(ties)
-        ties += [(self.hook(home), vertex) for vertex, home in enumerate(nesting.home)] if framed else []
-        super().__init__(count + len(sides), [*nesting.ends, *sides, *ties])
+        ties += [(self.hook(home), self.places(vertex)[0]) for vertex, home in enumerate(nesting.home)] if framed else []
+        super().__init__(count, [*nesting.ends, *sides, *ties])
+        edge = self.sides
         for place, cluster in enumerate(framed):
-            self._add_frame(place, cluster)
+            self._add_cycle(edge, range(self.first[cluster], self.first[cluster] + CORNERS), 1 + cluster)
+            if place:
+                outer = next(dart for dart in self.around(self.first[cluster]) if self.side[dart] < 0)
+                self.insert(self.ties + place - 1, self.hook_corner(self.nesting.parent[cluster]), (), outer)
+            edge += CORNERS
+        for place, ring in enumerate(self.rings.values(), 1 + len(nesting.parent)):
+            self._add_cycle(edge, ring, place)
+            edge += len(ring)
+
+    def places(self, vertex: int) -> Sequence[int]:
+        """Return the vertices of the embedding that stand for a vertex: itself, or its sites."""
+        return self.rings.get(vertex, (vertex,))
+
+    def places_of(self, edge: int, is_head: bool) -> Sequence[int]:
+        """Return the vertices of the embedding at which an end of an edge may be."""
+        allowed, places = self.nesting.at_ports.get((edge, is_head)), self.places(self.nesting.ends[edge][is_head])
+        return places if allowed is None else [places[place] for place in allowed]
+
+    def free_corners(self, places: Iterable[int]) -> list[int]:
+        """Return the darts that leave vertices of the embedding with a face on their left that is not within a vertex."""
+        inside, side = len(self.nesting.parent), self.side
+        return [dart for vertex in places for dart in self.around(vertex) if side[dart] <= inside]
 
     def hook(self, home: int) -> int:
         """Return the vertex of a frame at which ties begin that lead into a cluster, or to what is in none."""
@@ -59,18 +91,14 @@ class NestedEmbedding(LinkedEmbedding):
         wanted = 1 + home if home != NONE else -1 - next(iter(self.first))
         return next(dart for dart in self.around(self.hook(home)) if self.side[dart] == wanted)
 
-    def _add_frame(self, place: int, cluster: int) -> None:
-        """Add the frame of a cluster, and its tie."""
-        edge, first = self.sides + CORNERS * place, self.first[cluster]
+    def _add_cycle(self, edge: int, vertices: Sequence[int], number: int) -> None:
+        """Add a cycle of sides, the first of which is given, around what has a number in `side`."""
         self.insert(edge, NONE, (), NONE)
-        for corner in range(1, CORNERS - 1):
-            self.insert(edge + corner, self.leaving[first + corner], (), NONE)
-        self.insert(edge + CORNERS - 1, self.leaving[first + CORNERS - 1], (), self.leaving[first])
-        for one in range(edge, edge + CORNERS):
-            self.side[self.start[one]], self.side[self.start[one] ^ 1] = 1 + cluster, -1 - cluster
-        if place:
-            outer = next(dart for dart in self.around(first) if self.side[dart] < 0)
-            self.insert(self.ties + place - 1, self.hook_corner(self.nesting.parent[cluster]), (), outer)
+        for place in range(1, len(vertices) - 1):
+            self.insert(edge + place, self.leaving[vertices[place]], (), NONE)
+        self.insert(edge + len(vertices) - 1, self.leaving[vertices[-1]], (), self.leaving[vertices[0]])
+        for one in range(edge, edge + len(vertices)):
+            self.side[self.start[one]], self.side[self.start[one] ^ 1] = number, -number
 
     def is_side(self, edge: int) -> bool:
         """Return whether an edge is a side of a frame."""
@@ -142,19 +170,41 @@ class NestedEmbedding(LinkedEmbedding):
          self.free_faces, self.free_crossings, self.start, self.side), self.ends = state
 
     def nested(self) -> NestedPlanarization:
-        """Return the embedding, without ties."""
+        """Return the embedding without ties, and with one vertex in place of the sites of each."""
         found = self.planarization()
-        return NestedPlanarization(found.tail, found.rotation, found.vertex_count, found.chains[:self.ties], self.nesting)
+        last = self.sides + CORNERS * len(self.first)  # the first edge of a ring
+        first = len(self.nesting.home) + CORNERS * len(self.first)  # its first vertex
+        count, more = found.vertex_count, found.vertex_count - first
+        darts = 2 * sum(map(len, found.chains[:last]))
+        owner = {site: vertex for vertex, ring in self.rings.items() for site in ring}
+        tail = [owner.get(vertex, vertex - more * (vertex >= count)) for vertex in found.tail[:darts]]
+        rotation = found.rotation[:first] + found.rotation[count:]
+        facing: dict[int, int] = {}
+        for vertex, ring in self.rings.items():
+            rotation[vertex] = []
+            for place, site in reversed(list(enumerate(ring))):
+                around = found.rotation[site]
+                forward = found.chains[last + site - first][0]
+                turned = around[around.index(forward) + 1:] + around[:around.index(forward)]
+                out = [dart for dart in turned if dart < darts]
+                rotation[vertex] += out
+                facing |= {dart: self.nesting.ports[vertex].sites[place].side for dart in out}
+        return NestedPlanarization(tail, rotation, found.chains[:last], self.nesting, facing)
+
+
+def cycle(vertices: Sequence[int]) -> list[tuple[int, int]]:
+    """Return the pairs of neighbours in a cycle."""
+    return list(zip(vertices, [*vertices[1:], vertices[0]]))
 
 
 class NestedPlanarization(Planarization):
     """An embedding with frames: after the vertices of the nesting come four for each frame, after its edges four sides."""
 
-    def __init__(self, tail: list[int], rotation: list[list[int]], vertex_count: int, chains: list[list[int]],
-                 nesting: Nesting) -> None:
-        """Return an embedding."""
-        super().__init__(tail, rotation, vertex_count, chains)
-        self.nesting = nesting
+    def __init__(self, tail: list[int], rotation: list[list[int]], chains: list[list[int]], nesting: Nesting,
+                 facing: dict[int, int]) -> None:
+        """Return an embedding; `facing` are the directions in which darts leave vertices with ports."""
+        super().__init__(tail, rotation, len(nesting.home) + CORNERS * len(nesting.framed), chains)
+        self.nesting, self.facing = nesting, facing
 
     def sides_of(self, place: int) -> range:
         """Return the edges that are the sides of a frame, given by its place in `framed`."""

@@ -10,7 +10,9 @@ from dataclasses import dataclass, field
 
 from planarbend.clusters import Cluster, around, clusters_of
 from planarbend.drawing.linked import NONE
+from planarbend.drawing.sites import Sites
 from planarbend.graph import Graph, Partition
+from planarbend.ports import End, Field
 
 MANY = 4  # edges at a vertex from which a further one would make it a box
 
@@ -33,6 +35,10 @@ class Nesting:
         The boxes of clusters in which there is nothing.
     at_frames : dict from (edge, whether at the head) to cluster
         The ends of edges that are drawn up to a frame; they lead to a stub just within it.
+    ports : dict from vertex to Sites
+        The sites of each vertex at which an edge ends at a port.
+    at_ports : dict from (edge, whether at the head) to list of int
+        For each end at such a vertex the places of the sites at which it may be.
     """
 
     ends: list[tuple[int, int]]
@@ -41,6 +47,8 @@ class Nesting:
     drawn: tuple[int, int]
     empty: dict[int, int] = field(default_factory=dict)
     at_frames: dict[tuple[int, bool], int] = field(default_factory=dict)
+    ports: dict[int, Sites] = field(default_factory=dict)
+    at_ports: dict[tuple[int, bool], list[int]] = field(default_factory=dict)
 
     @property
     def framed(self) -> list[int]:
@@ -81,7 +89,29 @@ def nesting_of(graph: Graph) -> Nesting:
             found.ends[edge] = (tail, stub) if is_head else (stub, head)
             found.at_frames[edge, is_head] = end.cluster
     _join(found)
+    _add_ports(found, graph)
     return found
+
+
+def is_port(end: End) -> bool:
+    """Return whether an end is to be at a field or a compass point."""
+    return end.cluster is None and end != End()
+
+
+def _add_ports(found: Nesting, graph: Graph) -> None:
+    """Add the sites of vertices with ports."""
+    ports: dict[int, list[End]] = {}
+    for (edge, is_head), end in graph.ends.items():
+        if is_port(end):
+            ports.setdefault(found.ends[edge][is_head], []).append(end)
+    loops = {tail for tail, head in found.ends if tail == head}
+    for vertex, ends in ports.items():
+        found.ports[vertex] = Sites(graph.fields.get(vertex, Field()), ends, vertex in loops)
+    for edge, ends in enumerate(found.ends):
+        for is_head in (False, True):
+            if ends[is_head] in found.ports:
+                end = graph.ends.get((edge, is_head))
+                found.at_ports[edge, is_head] = found.ports[ends[is_head]].allowed(end if end is not None and is_port(end) else None)
 
 
 def _add_empty(found: Nesting, clusters: Sequence[Cluster], inhabited: set[int]) -> None:

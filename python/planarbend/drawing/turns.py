@@ -14,7 +14,8 @@ from dataclasses import dataclass
 from typing import Any
 
 import numpy
-from scipy.sparse import csr_matrix
+from scipy.optimize import Bounds, LinearConstraint, milp
+from scipy.sparse import csr_matrix, hstack, vstack
 
 from planarbend.drawing.expand import MOST_CONNECTIONS
 from planarbend.drawing.linked import NONE
@@ -23,6 +24,7 @@ from planarbend.schematics.highs import solved
 
 SHARED = 0.45  # bends that two lines on one side of a vertex with few edges cost
 UNDRAWN = 0.3  # the cost of a bend of an edge that is not drawn
+MOST_NODES = 100  # of the search for directions of vertices with ports
 
 
 @dataclass(frozen=True, slots=True)
@@ -39,6 +41,8 @@ class Directed:
         Of each dart.
     wraps : list of int
         1 for the last dart of each vertex, counter-clockwise; otherwise 0.
+    upright : list of int
+        For each vertex with ports how much it is turned: a multiple of 4, unless they may lie on their sides.
     """
 
     planar: NestedPlanarization
@@ -47,6 +51,7 @@ class Directed:
     directions: list[int]
     windings: list[int]
     wraps: list[int]
+    upright: list[int]
 
     def turns(self, dart: int) -> int:
         """Return how much a dart turns to the left."""
@@ -76,6 +81,7 @@ class Program:
         self.variable, self.offset, self.wraps = [NONE] * count, [0] * count, [0] * count
         self.rows: list[tuple[int, int, float, int]] = []  # high, low, least difference, and a column that may make it less
         self.prices: list[float] = []  # of these columns
+        self.upright: list[int] = []  # the variables of vertices with ports
         self.count = 0
         first, last = len(planar.nesting.home), planar.vertex_count
         for vertex, darts in enumerate(planar.rotation):
@@ -92,7 +98,12 @@ class Program:
     def _add_vertex(self, vertex: int, darts: Sequence[int], is_frame: bool) -> None:
         """Number the variables of a vertex whose darts are given counter-clockwise."""
         planar = self.planar
-        if is_frame or vertex >= planar.vertex_count:
+        if vertex in planar.nesting.ports:
+            for dart in darts:
+                self.variable[dart], self.offset[dart] = self.count, planar.facing[dart]
+            self.upright.append(self.count)
+            self.count += 1
+        elif is_frame or vertex >= planar.vertex_count:
             for place, dart in enumerate(darts):
                 self.variable[dart], self.offset[dart] = self.count, place * (4 // len(darts))
             self.count += 1
@@ -129,13 +140,23 @@ class Program:
             csr_matrix(([value for _, _, value in one], ([row for row, _, _ in one], [column for _, column, _ in one])), (rows, columns))
             for one, rows in ((equal, len(pieces)), (most, len(self.forward) + len(self.rows))))
         self.cost = numpy.array([0.0] * self.count + [max(price, 0.0) for _, price in pieces for _ in (0, 1)] + self.prices)
-        self.bounds = [(0.0, 0.0), *[(None, None)] * (self.count - 1), *((0.0, 0.0 if price < 0 else None)
-                       for _, price in pieces for _ in (0, 1)), *[(0.0, None)] * len(self.prices)]
+        root = self.upright[0] if self.upright else 0
+        self.bounds = [*((0.0, 0.0) if column == root else (None, None) for column in range(self.count)),
+                       *((0.0, 0.0 if price < 0 else None) for _, price in pieces for _ in (0, 1)),
+                       *[(0.0, None)] * len(self.prices)]
         self.base = [(dart, 2 + offset[dart ^ 1] - offset[dart]) for dart, _ in pieces]
         self.side_base = [(dart, 2 + offset[dart ^ 1] - offset[dart]) for dart in self.forward]
 
-    def solved(self, outer: int) -> Directed:
+    def solved(self, outer: int, upright: Sequence[int] | None = None, is_free: bool = False) -> Directed:
         """Return the directions with the fewest bends for an outer face, given by its place in the walks of the embedding.
+
+        Parameters
+        ----------
+        outer : int
+        upright : list of int, optional
+            How much each vertex with ports is turned, in the order of `upright`; by default this is sought.
+        is_free : bool
+            Whether vertices with ports may lie on their sides.
 
         Raises
         ------
@@ -145,10 +166,36 @@ class Program:
         windings = windings_of(self.planar, self.wraps, outer)
         equal = [-base - 4 * windings[dart] for dart, base in self.base]
         most = [base + 4 * windings[dart] for dart, base in self.side_base] + [-least for _, _, least, _ in self.rows]
-        found = solved(self.cost, "directions of edges", A_eq=self.equal, b_eq=equal, A_ub=self.most, b_ub=most, bounds=self.bounds)
+        bounds = list(self.bounds)
+        if upright is None and len(self.upright) > 1 and not is_free:
+            upright = self.turned_upright(equal, most)
+        for column, number in zip(self.upright, upright or ()):
+            bounds[column] = (float(number), float(number))
+        found = solved(self.cost, "directions of edges", A_eq=self.equal, b_eq=equal, A_ub=self.most, b_ub=most, bounds=bounds)
         values = numpy.rint(found.x).astype(int).tolist()
         directions = [0 if number == NONE else values[number] + offset for number, offset in zip(self.variable, self.offset)]
-        return Directed(self.planar, outer, float(found.fun), directions, windings, self.wraps)
+        return Directed(self.planar, outer, float(found.fun), directions, windings, self.wraps, [values[one] for one in self.upright])
+
+
+    def turned_upright(self, equal: Sequence[int], most: Sequence[int]) -> list[int]:
+        """Return how much each vertex with ports is turned, a multiple of 4, by an integer program that ends after `MOST_NODES`
+        nodes."""
+        count, upright = self.equal.shape[1], self.upright
+        whole = csr_matrix(([1.0] * len(upright) + [-4.0] * len(upright),
+                            ([*range(len(upright))] * 2, [*upright, *range(count, count + len(upright))])),
+                           (len(upright), count + len(upright)))
+        rows = vstack([hstack([self.equal, csr_matrix((len(equal), len(upright)))]),
+                       hstack([self.most, csr_matrix((len(most), len(upright)))]), whole])
+        high = numpy.array([*equal, *most, *[0.0] * len(upright)])
+        low = numpy.array([*equal, *[-numpy.inf] * len(most), *[0.0] * len(upright)])
+        bounds = [*self.bounds, *[(None, None)] * len(upright)]
+        least, greatest = ([edge if one is None else one for one in some]
+                           for edge, some in zip((-numpy.inf, numpy.inf), zip(*bounds)))
+        found = milp(numpy.append(self.cost, [0.0] * len(upright)), constraints=LinearConstraint(rows.tocsr(), low, high),
+                     integrality=[0] * count + [1] * len(upright), bounds=Bounds(least, greatest), options={"node_limit": MOST_NODES})
+        if found.x is None:
+            raise ArithmeticError("no directions of edges were found with which all records are upright")
+        return [4 * round(value) for value in found.x[count:]]
 
 
 def windings_of(planar: NestedPlanarization, wraps: Sequence[int], outer: int) -> list[int]:
