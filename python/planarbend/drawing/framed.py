@@ -32,7 +32,10 @@ def framed_shapes(graph: Graph, options: Options, engine: Engine) -> list[Shape]
     if not engine.keeps:
         raise NoFrames("frames need the library libplanarbend of this version")
     searches = planarized(nesting_of(graph), options.seed, options.effort)
-    planars = [resited(search, planar) for search, planar in searches]
+    if searches[0][0].nesting.ports:
+        planars = resited(searches)
+    else:
+        planars = [planar for _, planar in searches]
     if min(len(planar.rotation) for planar in planars) > engine.most_vertices:
         raise NoFrames(f"they take more than {engine.most_vertices} vertices and crossings")
     ways = [upright(one, options) for one in sorted(directed(planars, options), key=lambda one: one.cost)[:MOST_WAYS]]

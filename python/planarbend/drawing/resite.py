@@ -2,12 +2,13 @@
 from __future__ import annotations
 
 import itertools
-from collections.abc import Iterator
+from collections.abc import Iterable, Iterator
 
 from planarbend.drawing.nest_search import Apart, NestSearch
 from planarbend.drawing.nested import NestedPlanarization
 from planarbend.drawing.turns import Program, outer_faces
 
+MOST_RESITED = 2  # embeddings
 MOST_TRIES = 60  # other sides that are tried for each embedding
 MOST_WORK = 24_000  # tries times darts
 SAVED = 1e-6
@@ -34,12 +35,18 @@ def choices(search: NestSearch, edge: int) -> Iterator[dict[tuple[int, bool], li
     yield from (one | other for one, other in itertools.product(*ways))
 
 
-def resited(search: NestSearch, planar: NestedPlanarization) -> NestedPlanarization:
-    """Return an embedding of a search after ends of edges went to sides with which fewer bends are needed."""
+def resited(searches: Iterable[tuple[NestSearch, NestedPlanarization]]) -> list[NestedPlanarization]:
+    """Return the embeddings of the best searches after ends of edges went to sides with which fewer bends are needed."""
+    ranked = sorted(((price_of(planar), place, search, planar) for place, (search, planar) in enumerate(searches)),
+                    key=lambda one: one[:2])
+    return [improved(search, planar, price) for price, _, search, planar in ranked[:MOST_RESITED]]
+
+
+def improved(search: NestSearch, planar: NestedPlanarization, price: float) -> NestedPlanarization:
+    """Return an embedding of a search, whose directions have this cost, after ends of edges went to better sides."""
     nesting, best = search.nesting, planar
     edges = [edge for edge in range(nesting.drawn[1]) if (edge, False) in nesting.at_ports or (edge, True) in nesting.at_ports]
     left = min(MOST_TRIES, MOST_WORK // max(1, len(planar.tail)))
-    price = price_of(planar) if edges else 0.0
     for edge in edges:
         for sites in list(choices(search, edge)):
             if left <= 0 or price < SAVED or search.embedding.start[edge] < 0:
