@@ -144,7 +144,8 @@ def turned(answer: Answer, form: Form, directed: Directed) -> Answer:
             x, y = -y, x
         return x, y
 
-    return Answer(answer.bends, [at(point) for point in answer.points], [[at(point) for point in line] for line in answer.corners])
+    corners = [[at(point) for point in line] for line in answer.corners]
+    return Answer(answer.bends, [at(point) for point in answer.points], corners)
 
 
 def given_shape(directed: Directed, engine: Engine) -> Shape | None:

@@ -59,6 +59,12 @@ class Sheet:
         looks = graph.looks.nodes
         self.sizes = [LEAST_DIVIDED if number in graph.fields else size_of(vertex.label, vertex.kind, looks.get(number))
                       for number, vertex in enumerate(graph.vertices)]
+        self._add_all()
+        self._unite()
+
+    def _add_all(self) -> None:
+        """Add all items."""
+        shape, graph = self.shape, self.graph
         self.ends = frame_items.ends_of(shape, graph)  # by edge; -1 - cluster for a frame
         self.lines = [frame_items.cut_line(shape, number) for number in range(len(graph.edges))]
         frame_items.add_frames(self)
@@ -81,7 +87,6 @@ class Sheet:
             for is_head, text in ((False, look.tail_label), (True, look.head_label)):
                 if text.strip():
                     self._add_end_label(number, is_head, text)
-        self._unite()
 
     def _flat(self) -> list[list[int | None]]:
         """Return for each vertex and axis its grid coordinate if it has no extent along that axis, as a net at one point, or a

@@ -137,8 +137,8 @@ class NestSearch:
         self.cost += self.embedding.crossings_of(edge)
 
     def corner(self, edge: int, is_head: bool, face: int = NONE, but: int = NONE) -> int:
-        """Return a dart at which an end of an edge may be, with a face on its left, chosen at random, if possible not at a certain
-        site; without a face, any one, or -1 - a vertex without edges."""
+        """Return a dart at which an end of an edge may be, with a face on its left, chosen at random, not at a certain site if
+        possible; without a face, any one, or -1 - a vertex without edges."""
         places = self.embedding.places_of(edge, is_head)
         found = [dart for dart in self.embedding.free_corners(places) if face in (NONE, self.embedding.face[dart])]
         others = [dart for dart in found if self.embedding.origin[dart] != but]

@@ -21,9 +21,10 @@ State = tuple[list[list[int]], list[tuple[int, int]]]
 class NestedEmbedding(LinkedEmbedding):
     """An embedding of part of a nesting's edges, and of all its frames.
 
-    Vertices are those of the nesting, then four for each framed cluster, then the sites of vertices with ports, each of which is a
-    cycle that nothing crosses. Edges are those of the nesting, then the sides of all cycles, then *ties*: one for each frame, from an outer frame to its first vertex, and one for each vertex, from the frame around it. Ties
-    hold the parts together while edges are missing; the vertex's own edge number is that of `tie`.
+    Vertices are those of the nesting, then four for each framed cluster, then the sites of vertices with ports, each of which
+    is a cycle that nothing crosses. Edges are those of the nesting, then the sides of all cycles, then *ties*: one for each
+    frame but the first, from the frame around it or the first, and one for each vertex, from the frame around it or the first.
+    Ties hold the parts together while edges are missing.
 
     Attributes
     ----------
@@ -237,4 +238,5 @@ class NestedPlanarization(Planarization):
             if darts:
                 members.setdefault(parts.find(vertex), []).append(vertex)
         number = {vertex: place for one in members.values() for place, vertex in enumerate(one, 1)}
-        return [[[number[found.tail[dart ^ 1]] for dart in found.rotation[vertex]] for vertex in one] for one in members.values()]
+        return [[[number[found.tail[dart ^ 1]] for dart in found.rotation[vertex]] for vertex in one]
+                for one in members.values()]

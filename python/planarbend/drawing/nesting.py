@@ -110,8 +110,8 @@ def _add_ports(found: Nesting, graph: Graph) -> None:
     for edge, ends in enumerate(found.ends):
         for is_head in (False, True):
             if ends[is_head] in found.ports:
-                end = graph.ends.get((edge, is_head))
-                found.at_ports[edge, is_head] = found.ports[ends[is_head]].allowed(end if end is not None and is_port(end) else None)
+                end = graph.ends.get((edge, is_head), End())
+                found.at_ports[edge, is_head] = found.ports[ends[is_head]].allowed(end if is_port(end) else None)
 
 
 def _add_empty(found: Nesting, clusters: Sequence[Cluster], inhabited: set[int]) -> None:
@@ -148,8 +148,8 @@ def _join(found: Nesting) -> None:
 
     for cluster in [*reversed(range(len(found.parent))), NONE]:
         for group in groups(members[cluster], parts)[1:]:
-            join(min(group, key=rank), min((one for one in members[cluster] if parts.find(one) == parts.find(members[cluster][0])),
-                                           key=rank))
+            first = parts.find(members[cluster][0])
+            join(min(group, key=rank), min((one for one in members[cluster] if parts.find(one) == first), key=rank))
     if any(len(members[cluster]) == len(found.home) for cluster in found.framed) or len(found.home) == 1:
         inner = min(range(len(found.home)), key=rank)
         found.ends.append((inner, found.add(NONE)))

@@ -1,7 +1,7 @@
 """Directions of all darts of an embedding with frames, with the fewest bends: a linear program of differences.
 
-A direction is counted in quarter turns, counter-clockwise from east, and is *lifted*: it is not reduced modulo 4. Along a dart the
-edge turns to the left by ``direction[dart ^ 1] + 2 - direction[dart] + 4 * winding[dart]``. The windings are integers that make
+A direction is counted in quarter turns, counter-clockwise from east, and is *lifted*: it is not reduced modulo 4. Along a dart
+the edge turns to the left by ``direction[dart ^ 1] + 2 - direction[dart] + 4 * winding[dart]``. The windings are integers that make
 each inner face turn by 4 and the outer one by -4; they follow from the choice of the outer face.
 
 A frame runs straight through its vertices and turns to the left only, by 4 in all: where it turns is a result. The lines at a
@@ -123,7 +123,7 @@ class Program:
         self.wraps[darts[-1]] = 1
 
     def _build(self) -> None:
-        """Make the matrices. Columns are directions, turns to the left and right of each piece, and what makes differences less."""
+        """Make the matrices. Columns are directions, turns of each piece to either side, and what makes differences less."""
         variable, offset, pieces = self.variable, self.offset, self.pieces
         turned, shared = self.count, self.count + 2 * len(pieces)
         columns = shared + len(self.prices)
@@ -137,7 +137,7 @@ class Program:
         for row, (high, low, _, column) in enumerate(self.rows, len(self.forward)):
             most += [(row, low, 1.0), (row, high, -1.0)] + ([(row, shared + column, -1.0)] if column != NONE else [])
         self.equal, self.most = (
-            csr_matrix(([value for _, _, value in one], ([row for row, _, _ in one], [column for _, column, _ in one])), (rows, columns))
+            csr_matrix(([entry[2] for entry in one], ([entry[0] for entry in one], [entry[1] for entry in one])), (rows, columns))
             for one, rows in ((equal, len(pieces)), (most, len(self.forward) + len(self.rows))))
         self.cost = numpy.array([0.0] * self.count + [max(price, 0.0) for _, price in pieces for _ in (0, 1)] + self.prices)
         root = self.upright[0] if self.upright else 0
@@ -174,7 +174,8 @@ class Program:
         found = solved(self.cost, "directions of edges", A_eq=self.equal, b_eq=equal, A_ub=self.most, b_ub=most, bounds=bounds)
         values = numpy.rint(found.x).astype(int).tolist()
         directions = [0 if number == NONE else values[number] + offset for number, offset in zip(self.variable, self.offset)]
-        return Directed(self.planar, outer, float(found.fun), directions, windings, self.wraps, [values[one] for one in self.upright])
+        turned = [values[one] for one in self.upright]
+        return Directed(self.planar, outer, float(found.fun), directions, windings, self.wraps, turned)
 
 
     def turned_upright(self, equal: Sequence[int], most: Sequence[int]) -> list[int]:
@@ -192,7 +193,8 @@ class Program:
         least, greatest = ([edge if one is None else one for one in some]
                            for edge, some in zip((-numpy.inf, numpy.inf), zip(*bounds)))
         found = milp(numpy.append(self.cost, [0.0] * len(upright)), constraints=LinearConstraint(rows.tocsr(), low, high),
-                     integrality=[0] * count + [1] * len(upright), bounds=Bounds(least, greatest), options={"node_limit": MOST_NODES})
+                     integrality=[0] * count + [1] * len(upright), bounds=Bounds(least, greatest),
+                     options={"node_limit": MOST_NODES})
         if found.x is None:
             raise ArithmeticError("no directions of edges were found with which all records are upright")
         return [4 * round(value) for value in found.x[count:]]
