@@ -15,7 +15,7 @@ from planarbend.drawing.linked import NONE
 from planarbend.drawing.nested import NestedEmbedding, NestedPlanarization
 from planarbend.drawing.nesting import Nesting
 
-STARTS = 40  # first embeddings, for each unit of effort
+STARTS = 24  # first embeddings, for each unit of effort
 LEAST_STARTS = 6
 PATIENCE = 3  # consecutive rounds without success after which an embedding is left as it is
 WORK = 3_000_000  # darts to pass for each unit of effort (about three seconds), after which no further start is made
@@ -65,27 +65,33 @@ class NestSearch:
         corners = self.embedding.free_corners(self.embedding.places_of(edge, is_head))
         return sorted({self.embedding.face[dart] for dart in corners})
 
-    def distances(self, sources: Sequence[int], passing: Passing) -> list[int]:
-        """Return for each face how many darts a shortest path from some faces crosses; `FAR` if there is none."""
-        embedding = self.embedding
+    def distances(self, edge: int, is_back: bool = False) -> tuple[list[int], list[int]]:
+        """Return for each face how many darts a shortest path of an edge from its tail, or back from its head, crosses; `FAR` if
+        there is none; and for each face that is reached the innermost cluster around it."""
+        embedding, parent, passing = self.embedding, self.nesting.parent, self.passing[edge][is_back]
         onward, face, corner, side = embedding.onward, embedding.face, embedding.corner, embedding.side
-        distance, waiting, work = [FAR] * len(corner), list(sources), 0
+        distance, homes, waiting, work = [FAR] * len(corner), [NONE] * len(corner), self.faces_at(edge, is_back), 0
         for here in waiting:
-            distance[here] = 0
+            distance[here], homes[here] = 0, self.nesting.home[self.nesting.ends[edge][is_back]]
         for here in waiting:
             first = dart = corner[here]
             step = distance[here] + 1
             while True:
                 work += 1
                 other = face[dart ^ 1]
-                if distance[other] > step and (not side[dart] or side[dart] in passing):
-                    distance[other] = step
-                    waiting.append(other)
+                if distance[other] > step:
+                    number = side[dart]
+                    if not number:
+                        distance[other], homes[other] = step, homes[here]
+                        waiting.append(other)
+                    elif number in passing:
+                        distance[other], homes[other] = step, parent[number - 1] if number > 0 else -number - 1
+                        waiting.append(other)
                 dart = onward[dart]
                 if dart == first:
                     break
         self.work += work
-        return distance
+        return distance, homes
 
     def path(self, distance: Sequence[int], goal: int, passing: Passing) -> list[int]:
         """Return the darts that a shortest path to a face crosses, from its start on, chosen at random."""
@@ -98,26 +104,6 @@ class NestSearch:
             crossed.append(one_of(choices, self.dice))
             goal = face[crossed[-1]]
         return crossed[::-1]
-
-    def homes(self) -> list[int]:
-        """Return for each face the innermost cluster around it, or `NONE`."""
-        embedding, parent = self.embedding, self.nesting.parent
-        face, side = embedding.face, embedding.side
-        found, waiting = [NONE] * len(embedding.corner), list[int]()
-        is_met = [False] * len(embedding.corner)
-        for dart, number in enumerate(side):
-            if number and number >= -len(parent) and face[dart] != NONE and not is_met[face[dart]]:
-                is_met[face[dart]] = True
-                found[face[dart]] = number - 1 if number > 0 else parent[-number - 1]
-                waiting.append(face[dart])
-        for here in waiting:
-            for dart in embedding.along(embedding.corner[here]):
-                other = face[dart ^ 1]
-                if not is_met[other] and not side[dart]:
-                    is_met[other] = True
-                    found[other] = found[here]
-                    waiting.append(other)
-        return found
 
     # Moves
 
@@ -147,7 +133,7 @@ class NestSearch:
     def put(self, edge: int) -> None:
         """Insert an edge along a shortest path between its ends, which have other edges; raise `Apart` if there is none."""
         goals, passing = self.faces_at(edge, True), self.passing[edge][0]
-        distance = self.distances(self.faces_at(edge, False), passing)
+        distance, _ = self.distances(edge)
         least = min((distance[goal] for goal in goals), default=FAR)
         if least == FAR:
             raise Apart
@@ -158,12 +144,10 @@ class NestSearch:
 
     def put_vertex(self, vertex: int, edges: Sequence[int]) -> None:
         """Insert a vertex with some of its edges where this costs least; raise `Apart` if no face is a place for it."""
-        homes, ends, found = self.homes(), self.nesting.ends, list[list[int]]()
-        home = self.nesting.home[vertex]
-        places = [face for face, dart in enumerate(self.embedding.corner) if dart != NONE and homes[face] == home]
-        for edge in edges:
-            is_head = ends[edge][1] == vertex
-            found.append(self.distances(self.faces_at(edge, not is_head), self.passing[edge][not is_head]))
+        ends, home = self.nesting.ends, self.nesting.home[vertex]
+        distance, homes = self.distances(edges[0], ends[edges[0]][1] != vertex)
+        places = [face for face, one in enumerate(distance) if one < FAR and homes[face] == home]
+        found = [distance, *(self.distances(edge, ends[edge][1] != vertex)[0] for edge in edges[1:])]
         totals = [sum([distance[face] for distance in found]) for face in places]
         if min(totals, default=FAR) >= FAR:
             raise Apart
