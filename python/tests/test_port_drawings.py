@@ -104,6 +104,11 @@ class Drawn(unittest.TestCase):
     def test_with_clusters(self) -> None:
         self.judged(BOTH)
 
+    def test_a_frame_that_one_edge_crosses(self) -> None:
+        """While this edge is out, nothing joins the frame to what lies in it."""
+        edges = "; ".join(f"v{one} -- v{other}" for other in range(5) for one in range(other))
+        self.assertEqual(len(self.judged(f"graph {{ subgraph cluster_a {{ {edges} }} w:e -- v0 }}").crossings), 1)
+
     def test_random(self) -> None:
         for seed in (2, 3, 4, 6, 7, 26):
             self.judged(PortGrammar(seed).file())
