@@ -15,6 +15,7 @@ from planarbend.layout.library import LibraryEngine
 from planarbend.ports import Compass, End, Field, Side, Span
 from planarbend.programs import PlanarbendError
 from planarbend.readers import read
+from port_files import FILES
 from port_judge import Judge
 
 ROW = Field(fields=(Field("a", "p"), Field("b", "q", Span(column=1)), Field("c", "r", Span(column=2))))
@@ -103,6 +104,16 @@ class Drawn(unittest.TestCase):
 
     def test_with_clusters(self) -> None:
         self.judged(BOTH)
+
+    def test_a_frame_that_one_edge_crosses(self) -> None:
+        """While this edge is out, nothing joins the frame to what lies in it."""
+        edges = "; ".join(f"v{one} -- v{other}" for other in range(5) for one in range(other))
+        self.assertEqual(len(self.judged(f"graph {{ subgraph cluster_a {{ {edges} }} w:e -- v0 }}").crossings), 1)
+
+    def test_files(self) -> None:
+        """Clusters and records as people draw them: no edge of these crosses another."""
+        for name in ("machine", "gates", "empties", "hash_5", "search_2"):
+            self.assertEqual(self.judged(FILES[name]).crossings, [], name)
 
     def test_random(self) -> None:
         for seed in (2, 3, 4, 6, 7, 26):
