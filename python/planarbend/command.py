@@ -5,6 +5,7 @@ import argparse
 import os
 import re
 import sys
+from collections.abc import Sequence
 
 from planarbend.draw import DrawError, draw
 from planarbend.drawing.drawn import Drawing
@@ -194,6 +195,12 @@ def draw_embedded(data: bytes, words: argparse.Namespace) -> int:
     return 0 if end == "complete" else INCOMPLETE
 
 
+def warn(words: argparse.Namespace, warnings: Sequence[str]) -> None:
+    """Say on standard error what is not drawn as the file says."""
+    for warning in warnings:
+        print(f"planarbend-draw: {words.graph}: {warning}", file=sys.stderr)
+
+
 def draw_graph(data: bytes, words: argparse.Namespace) -> int:
     """Return the exit status after drawing a graph."""
     if words.graphs or words.output.endswith(".html"):
@@ -203,10 +210,11 @@ def draw_graph(data: bytes, words: argparse.Namespace) -> int:
         graph = split(graph, to_split(graph, words.split))
     outer = named(graph, words.outer) if words.outer else ()
     straight = [edge for names in words.straight for edge in between(graph, names)]
-    for warning in graph.looks.warnings:
-        print(f"planarbend-draw: {words.graph}: {warning}", file=sys.stderr)
+    warn(words, graph.looks.warnings)
+    known = len(graph.looks.warnings)
     with Progress("planarbend-draw"):
         drawing = draw(graph, Options(outer, words.compact, words.effort, words.seed, straight), engine_of())
+    warn(words, graph.looks.warnings[known:])
     write(drawing, words.output, words.scale, words.theme)
     return 0
 

@@ -5,11 +5,16 @@ import dataclasses
 import math
 import random
 from collections.abc import Sequence
-from dataclasses import dataclass
+from dataclasses import dataclass, field
 
+from planarbend.drawing import field_items
 from planarbend.drawing.choose import NoStraightEdges, NoSuchFace, TooLarge, choose
 from planarbend.drawing.drawn import Box, Crossing, Drawing, Point
+from planarbend.drawing.frame_items import NoFrames, bare, drawn_edges
+from planarbend.drawing.frames import Frame
 from planarbend.drawing.items import Sheet
+from planarbend.drawing.linked import NONE
+from planarbend.drawing.nesting import is_port
 from planarbend.drawing.planarization import Planarization
 from planarbend.drawing.planarize import TooManyCrossings, planarize
 from planarbend.drawing.plans import Budget, Options
@@ -17,6 +22,7 @@ from planarbend.drawing.shape import Shape, lone
 from planarbend.drawing.spread import spread
 from planarbend.graph import Edge, Graph, Partition
 from planarbend.layout.engine import Engine, default_engine
+from planarbend.ports import End
 from planarbend.programs import PlanarbendError
 from planarbend.progress import stage
 
@@ -41,11 +47,12 @@ class NotStraight(DrawError):
 
 @dataclass(frozen=True, slots=True)
 class Part:
-    """A component of a graph in pixels, with the graph's numbers of its vertices and edges."""
+    """A component of a graph in pixels, with the graph's numbers of its vertices, edges and clusters."""
 
     vertices: list[int]
     edges: list[int]
     sheet: Sheet
+    clusters: list[int] = field(default_factory=list)
 
 
 def draw(graph: Graph, options: Options = Options(), engine: Engine | None = None) -> Drawing:
@@ -69,10 +76,10 @@ def draw(graph: Graph, options: Options = Options(), engine: Engine | None = Non
     """
     engine = engine or default_engine()
     check_straight(graph, options, engine)
-    components, parts = components_of(graph), []
-    for place, (vertices, edges) in enumerate(components, 1):
-        stage(f"component {place} of {len(components)}: {len(vertices)} vertices, {len(edges)} edges")
-        parts.append(part_of(graph, vertices, edges, options, engine))
+    components, parts = components_of(graph), list[Part]()
+    for place, one in enumerate(components, 1):
+        stage(f"component {place} of {len(components)}: {len(one.vertices)} vertices, {len(one.edges)} edges")
+        parts += parts_of(graph, one, options, engine)
     stage("writing")
     return side_by_side(graph, parts)
 
@@ -88,36 +95,96 @@ def check_straight(graph: Graph, options: Options, engine: Engine) -> None:
             raise DrawError(f"a loop cannot be straight: {graph.vertices[edge.tail].name}")
 
 
-def components_of(graph: Graph) -> list[tuple[list[int], list[int]]]:
-    """Return the vertices and the edges of each component, in the graph's order."""
-    parts = Partition(len(graph.vertices))
+@dataclass(frozen=True, slots=True)
+class Component:
+    """The vertices, edges and clusters of a component, in the graph's order."""
+
+    vertices: list[int]
+    edges: list[int]
+    clusters: list[int]
+
+
+def components_of(graph: Graph, chosen: Sequence[int] | None = None) -> list[Component]:
+    """Return the components of a graph, of which what lies in one cluster is never in two; or, if some vertices are chosen, those
+    of their components without clusters."""
+    count, is_whole = len(graph.vertices), chosen is None
+    clusters = graph.clusters if is_whole else []
+    parts = Partition(count + len(clusters))
     for edge in graph.edges:
         parts.unite(edge.tail, edge.head)
-    found: dict[int, tuple[list[int], list[int]]] = {}
-    for vertex in range(len(graph.vertices)):
-        found.setdefault(parts.find(vertex), ([], []))[0].append(vertex)
+    for number, one in enumerate(clusters):
+        for other in one.members + ([] if one.parent is None else [count + one.parent]):
+            parts.unite(other, count + number)
+    found: dict[int, Component] = {}
+    for vertex in range(count) if chosen is None else chosen:
+        found.setdefault(parts.find(vertex), Component([], [], [])).vertices.append(vertex)
     for number, edge in enumerate(graph.edges):
-        found[parts.find(edge.tail)][1].append(number)
+        if is_whole or parts.find(edge.tail) in found:
+            found[parts.find(edge.tail)].edges.append(number)
+    for number in range(len(clusters)):
+        found.setdefault(parts.find(count + number), Component([], [], [])).clusters.append(number)
     return list(found.values())
 
 
-def part_of(graph: Graph, vertices: list[int], edges: list[int], options: Options, engine: Engine) -> Part:
-    """Return one component, drawn. Inside, its vertices and edges have their places in these lists as numbers."""
-    number = {vertex: place for place, vertex in enumerate(vertices)}
-    chosen = [graph.edges[edge] for edge in edges]
-    inner = Graph([graph.vertices[vertex] for vertex in vertices],
-                  [Edge(number[edge.tail], number[edge.head], edge.label, edge.arrow) for edge in chosen], graph.directed,
-                  graph.looks.part(vertices, edges))
+def parts_of(graph: Graph, component: Component, options: Options, engine: Engine) -> list[Part]:
+    """Return a component, drawn; if its clusters cannot be drawn, its parts without them, and a warning."""
+    try:
+        return [part_of(graph, component, options, engine)]
+    except NoFrames as fault:
+        names = ", ".join(graph.clusters[number].name for number in component.clusters)
+        graph.looks.warnings += [f"clusters are drawn without frames: {names}: {fault}"] if names else []
+        ends = {key for key, end in graph.ends.items() if key[0] in component.edges and is_port(end)}
+        names = ", ".join(dict.fromkeys(graph.vertices[graph.edges[edge].head if is_head else graph.edges[edge].tail].name
+                                        for edge, is_head in sorted(ends)))
+        graph.looks.warnings += [f"edges end anywhere at these nodes, not at their ports: {names}: {fault}"] if names else []
+    plain = dataclasses.replace(graph, clusters=[], ends={})
+    return [part_of(plain, one, options, engine) for one in components_of(plain, component.vertices)]
+
+
+def inner_graph(graph: Graph, part: Component) -> Graph:
+    """Return the graph of a component, whose vertices, edges and clusters have their places in its lists as numbers."""
+    number = {vertex: place for place, vertex in enumerate(part.vertices)}
+    cluster = {one: place for place, one in enumerate(part.clusters)}
+    chosen, place_of = [graph.edges[edge] for edge in part.edges], {edge: place for place, edge in enumerate(part.edges)}
+    ends = {(place_of[edge], is_head): dataclasses.replace(end, cluster=cluster.get(NONE if end.cluster is None else end.cluster))
+            for (edge, is_head), end in graph.ends.items() if edge in place_of}
+    clusters = [dataclasses.replace(one, parent=None if one.parent is None else cluster[one.parent],
+                                    members=[number[vertex] for vertex in one.members])
+                for one in (graph.clusters[number] for number in part.clusters)]
+    return Graph([graph.vertices[vertex] for vertex in part.vertices],
+                 [Edge(number[edge.tail], number[edge.head], edge.label, edge.arrow) for edge in chosen], graph.directed,
+                 graph.looks.part(part.vertices, part.edges),
+                 {number[vertex]: one for vertex, one in graph.fields.items() if vertex in number}, ends, clusters)
+
+
+def part_of(graph: Graph, part: Component, options: Options, engine: Engine) -> Part:
+    """Return one component, drawn. Inside, its vertices, edges and clusters have their places in its lists as numbers."""
+    inner = inner_graph(graph, part)
+    number = {vertex: place for place, vertex in enumerate(part.vertices)}
     options = dataclasses.replace(options, outer=[number[vertex] for vertex in options.outer if vertex in number],
-                                  straight=[place for place, edge in enumerate(edges) if edge in options.straight])
-    if all(edge.tail == edge.head for edge in chosen):
-        return Part(vertices, edges, settled(lone(len(edges)), inner))
+                                  straight=[place for place, edge in enumerate(part.edges) if edge in options.straight])
+    if inner.clusters or any(map(is_port, inner.ends.values())):
+        return Part(part.vertices, part.edges, framed_sheet(inner, options, engine), part.clusters)
+    if all(edge.tail == edge.head for edge in inner.edges):
+        return Part(part.vertices, part.edges, settled(lone(len(part.edges)), inner))
     sheet = best_sheet(inner, options, engine)
     if sheet.shape.broken:
         names = ", ".join(inner.vertices[vertex].name for vertex in sheet.shape.broken)
         raise DrawError(f"no drawing was found in which these boxes are rectangles: {names} ({'' if engine.keeps else LIBRARY}try"
                         " another --seed, or --split with the nets that join most)")
-    return Part(vertices, edges, sheet)
+    return Part(part.vertices, part.edges, sheet)
+
+
+def framed_sheet(graph: Graph, options: Options, engine: Engine) -> Sheet:
+    """Return the best drawing of a component with clusters; raise `NoFrames` if it is not drawn with their frames."""
+    try:
+        from planarbend.drawing.framed import framed_shapes  # slow to load, and often not needed
+    except ModuleNotFoundError as error:
+        raise NoFrames(f"frames need the Python library {error.name} (Debian: python3-{error.name})") from None
+    stage(f"{len(graph.vertices)} vertices, {len(graph.edges)} edges, {len(graph.clusters)} clusters: searching")
+    weight = COMPACT_WEIGHT if options.compact else BEND_WEIGHT
+    sheets = [settled(shape, graph) for shape in framed_shapes(graph, options, engine)]
+    return min(sheets, key=lambda sheet: price_of(sheet, len(graph.edges) or 1, weight))
 
 
 def best_sheet(graph: Graph, options: Options, engine: Engine) -> Sheet:
@@ -193,13 +260,14 @@ def price_of(sheet: Sheet, edges: int, weight: float) -> float:
 
 
 def crossings_of(shape: Shape) -> list[tuple[int, int]]:
-    """Return for each crossing the two edges that cross there, the lesser first."""
-    planar = shape.expansion.planar
+    """Return for each crossing the two edges that cross there, the lesser first; nothing for crossings with what is not drawn, or
+    with a frame."""
+    planar, drawn = shape.expansion.planar, drawn_edges(shape)
     met: list[list[int]] = [[] for _ in planar.rotation]
-    for edge, chain in enumerate(planar.chains):
+    for edge, chain in enumerate(planar.chains[:drawn]):
         for dart in chain[1:]:
             met[planar.tail[dart]].append(edge)
-    return [(min(pair), max(pair)) for pair in met[planar.vertex_count:]]
+    return [(min(pair), max(pair)) for pair in met[planar.vertex_count:] if len(pair) == 2]
 
 
 def meeting(one: list[Point], other: list[Point]) -> Point:
@@ -220,6 +288,9 @@ def side_by_side(graph: Graph, parts: Sequence[Part]) -> Drawing:
     crossings: list[Crossing] = []
     labels: dict[int, Box] = {}
     end_labels: dict[tuple[int, bool], Box] = {}
+    frames: dict[int, Frame] = {}
+    field_boxes: dict[int, list[Box]] = {}
+    meets: dict[tuple[int, bool], Point] = {}
     bounds = [part.sheet.bounds() for part in parts]
     places, width, height = packed([(right - left + BETWEEN, bottom - top + BETWEEN) for left, top, right, bottom in bounds])
     for part, box, (x, y) in zip(parts, bounds, places):
@@ -232,12 +303,24 @@ def side_by_side(graph: Graph, parts: Sequence[Part]) -> Drawing:
             labels[edges[number]] = box_at(sheet.extent(item), corner, place)
         for (number, is_head), item in sheet.end_labels.items():
             end_labels[edges[number], is_head] = box_at(sheet.extent(item), corner, place)
+        for cluster, item in sheet.frames.items():
+            label = sheet.frame_labels.get(cluster)
+            frames[part.clusters[cluster]] = Frame(box_at(sheet.extent(item), corner, place), None if label is None else box_at(
+                sheet.extent(label), corner, place))
+        for number in sheet.graph.fields:
+            field_boxes[part.vertices[number]] = [box_at(one, corner, place) for one in field_items.field_boxes(sheet, number)]
+        for (number, is_head), end in sheet.graph.ends.items():
+            meets[edges[number], is_head] = point_at(end_of(sheet, number, is_head, end), corner, place)
         crossings += [Crossing(meeting(lines[edges[one]], lines[edges[other]]), (edges[one], edges[other]))
                       for one, other in crossings_of(sheet.shape)]
     size = (math.ceil(width - BETWEEN + 2 * MARGIN), math.ceil(height - BETWEEN + 2 * MARGIN))
-    planars = (part.sheet.shape.expansion.planar for part in parts)
-    return Drawing(graph, boxes, lines, crossings, size, labels, [planar.lists for planar in planars if planar.tail],
-                   end_labels)
+    embedding = [lists for part in parts for lists in bare(part.sheet.shape)]
+    return Drawing(graph, boxes, lines, crossings, size, labels, embedding, end_labels, frames, field_boxes, meets)
+
+
+def end_of(sheet: Sheet, number: int, is_head: bool, end: End) -> Point:
+    """Return the point at which an edge meets its port, or the frame at which it ends."""
+    return field_items.met(sheet, number, is_head, end) if is_port(end) else sheet.line(number)[-1 if is_head else 0]
 
 
 def point_at(point: Point, corner: Point, place: Point) -> Point:

@@ -345,7 +345,9 @@ class Judge:
             self.verdict.faults.append(f"node {name}: no outline")
             return
         if shape:
-            self.verdict.note("node", "shape", name, self.is_shape(shape, outline), shape, [one.kind for one in outline])
+            is_divided = any(one["name"] == name and "fields" in one for one in self.drawing["vertices"])
+            whole = outline[:1] + [one for one in outline[1:] if not (is_divided and one.own.get("fill") == "none")]
+            self.verdict.note("node", "shape", name, self.is_shape(shape, whole), shape, [one.kind for one in whole])
         self.fill(said, outline, shape, styles)
         if "rounded" in styles and (shape in ("diamond", "hexagon", "octagon", "record") or shape in PLAIN_BOXES[:4]):
             rounded = len(outline[0].points) > ROUNDED or float(outline[0].own.get("rx", 0)) > 0

@@ -106,6 +106,8 @@ class Drawn(unittest.TestCase):
         for one in self.elements:
             if one.kind in ("polyline", "marker") or one.kind == "path" and one.own.get("d", "").startswith("M0 "):
                 continue
+            if one.kind == "path" and said.get("shape") in ("record", "Mrecord"):  # the lines between its fields
+                continue
             places = [tuple(map(float, pair)) for pair in corners_of(one)]
             if places and all(left - .2 <= x <= right + .2 and top - .2 <= y <= bottom + .2 for x, y in places):
                 found[one.kind == "text"].append(one)

@@ -163,11 +163,15 @@ class Pieces(unittest.TestCase):
         around = [(40, 20), (55, 20), (55, 80), (90, 80), (90, 99)]
         self.assertEqual(self.gathered(around, [(58, 10), (58, 75)])[1], (90, 88))
         ahead = [(40, 20), (50, 20), (50, 80), (130, 80)]
-        self.assertEqual(self.gathered(ahead, [(58, 0), (58, 15)])[0], [*ahead[:-1], (58, 80)])
+        self.assertEqual(self.gathered(ahead, [(58, 0), (58, 15)])[0], [*ahead[:-1], (66, 80)])
         junction = [(100, 100), (111, 100), (111, 160), (180, 160)]  # other wires of the net may begin there too
-        self.assertEqual(self.gathered(junction)[0], [*junction[:-1], (119, 160)])
-        back = [(40, 20), (100, 20), (100, 80), (70, 80)]
-        self.assertEqual(self.gathered(back)[0], [*back[:-1], (92, 80)])
+        self.assertEqual(self.gathered(junction)[0], [*junction[:-1], (127, 160)])
+
+    def test_flags_beyond_a_part(self) -> None:
+        """A wire that goes up and down again, 6 beside the ground at its end."""
+        line = [(100, 100), (100, 40), (160, 40), (160, 150)]
+        self.assertEqual(self.gathered(line)[0], [(100, 100), (100, 88), (85, 88), (85, 96)])
+        self.assertEqual(self.gathered(line, [(80, 60), (80, 120)])[0], [(100, 100), (100, 88), (115, 88), (115, 96)])
 
     def test_least_sum(self) -> None:
         """Coordinates of least sum, by hand."""

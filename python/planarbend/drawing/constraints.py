@@ -6,7 +6,9 @@ from __future__ import annotations
 
 import bisect
 
-from planarbend.drawing.items import BOX, LABEL, PIECE, Sheet
+from planarbend.drawing.extents import BOX, LABEL, PIECE
+from planarbend.drawing.frame_items import frame_lengths
+from planarbend.drawing.items import Sheet
 
 BOX_WEIGHT = 4.0  # of the size of a box, to that of a line's length
 LABEL_WEIGHT = 0.25  # of the distance of a label from an end of a line
@@ -43,7 +45,7 @@ def apart(sheet: Sheet, axis: int, step: int) -> list[tuple[int, int, float]]:
 
 def lengths_of(sheet: Sheet, axis: int) -> list[tuple[int, int, float, float]]:
     """Return what should be short along an axis: pieces of edges, boxes, and the way from an end of an edge to its label."""
-    found = []
+    found = frame_lengths(sheet, axis)
     for pieces in sheet.pieces:
         found += [(piece.low[axis], piece.high[axis], 0.0, 1.0) for piece in pieces if piece.owns[1 - axis]]
     for number, box in enumerate(sheet.boxes):

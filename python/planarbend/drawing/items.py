@@ -8,19 +8,21 @@ from __future__ import annotations
 import itertools
 import math
 from collections import Counter
-from collections.abc import Sequence
-from dataclasses import dataclass, field
+from collections.abc import Mapping, Sequence
+from types import MappingProxyType
 
+from planarbend.drawing import field_items, frame_items
 from planarbend.drawing.drawn import Box, Point
+from planarbend.drawing.extents import BOX, LABEL, PIECE, UNIT, Axis, Item, item_at
 from planarbend.drawing.shape import Shape
 from planarbend.drawing.symbols import INSET, inset_of, room
 from planarbend.drawing.texts import FONT, LINE_HEIGHT, lines_of, text_size, width_of
-from planarbend.graph import Graph, Kind, Partition
+from planarbend.graph import Graph, Kind
 from planarbend.style import NodeLook
 
-UNIT = 4096  # of the fine grid, to one of the shape's
 PAD = (6.0, 4.0)  # pixels between a name and the border of its box
 LEAST_SIDE = 22.0  # pixels, the width of a box
+LEAST_DIVIDED = (22.0, 22.0)  # pixels, of a box with fields
 LEAST_FLAG = 14.0  # pixels, the width of a flag
 LABEL_FONT = 10
 LABEL_HEIGHT = 12.0
@@ -28,53 +30,11 @@ LOOPS = 1024  # units of the fine grid that a box takes beyond its last line, fo
 LOOP = 32  # units of the fine grid, from there to the far side of a loop
 NEAR_END = 1536  # units of the fine grid, from a box to a label at an end: beyond its loops, before the middle of a line
 
-BOX, LABEL, PIECE = range(3)  # the kinds of items
-
-
-@dataclass(slots=True)
-class Axis:
-    """The coordinates along one axis."""
-
-    value: list[float] = field(default_factory=list)  # on the fine grid at first, in pixels later
-    rank: list[float] = field(default_factory=list)  # the order of coordinates with the same value on the grid
-    same: Partition = field(default_factory=Partition)  # numbers of the same coordinate
-
-    def add(self, value: float, rank: float = 0.0) -> int:
-        """Return the number of a new coordinate."""
-        self.value.append(value)
-        self.rank.append(rank)
-        return self.same.add()
-
-
-@dataclass(slots=True)
-class Item:
-    """A thing with an extent: along axis a from coordinate `low[a]` plus `before[a]` to `high[a]` plus `after[a]`."""
-
-    kind: int  # `BOX`, `LABEL` or `PIECE`
-    low: list[int]
-    high: list[int]
-    grid: list[tuple[float, float]]  # its extents on the fine grid
-    owns: tuple[bool, bool] = (True, True)  # along which axes it is kept apart from others
-    before: list[float] = field(default_factory=lambda: [0.0, 0.0])  # pixels
-    after: list[float] = field(default_factory=lambda: [0.0, 0.0])
-    host: tuple[int, ...] = ()  # the boxes at the ends of a piece; for a label its edge as -1 - number
-
-    @property
-    def across(self) -> int:
-        """The axis along which a piece has no extent."""
-        return 0 if self.owns[0] else 1
-
-
-def item_at(kind: int, axis: int, at: tuple[int, float], low: tuple[int, float], high: tuple[int, float],
-            host: Sequence[int]) -> Item:
-    """Return an item at one coordinate along an axis, and between two along the other, each with its place on the fine grid."""
-    extents = [(at, at), (low, high)] if axis == 0 else [(low, high), (at, at)]
-    return Item(kind, [first[0] for first, _ in extents], [last[0] for _, last in extents],
-                [(first[1], last[1]) for first, last in extents], (axis == 0, axis == 1), host=tuple(host))
-
-
 class Sheet:
     """A shape of a component and its items: `boxes` of the vertices, `pieces` of each edge, `labels` by edge."""
+
+    frame_at: Mapping[tuple[int, bool], Item] = MappingProxyType({})  # by edge, and whether at its head: where it ends at a frame
+    halves: list[tuple[int, int, int, int, bool]] = []  # axis, low, end, high: ends in the lower half, or in the upper one
 
     def __init__(self, shape: Shape, graph: Graph) -> None:
         """Return the sheet of a shape, whose coordinates are still those of its grid."""
@@ -90,15 +50,34 @@ class Sheet:
         self.corners: dict[int, list[tuple[int, int]]] = {}  # of loops
         self.within: tuple[list[tuple[int, int, float]], ...] = ([], [])  # distances within boxes: from, to, at least
         self.at_box: tuple[dict[int, list[int]], ...] = ({}, {})  # for each box the coordinates of the pieces at its sides
+        self.frames: dict[int, Item] = {}  # by cluster
+        self.frame_pieces: list[Item] = []
+        self.frame_labels: dict[int, Item] = {}
+        self.fields: dict[int, list[field_items.Place]] = {}  # of vertices with fields, and of those with ports, the whole
+        self.held = set[int]()  # vertices whose boxes are not fitted to their lines alone
+        self.halves = []
         looks = graph.looks.nodes
-        self.sizes = [size_of(vertex.label, vertex.kind, looks.get(number)) for number, vertex in enumerate(graph.vertices)]
+        self.sizes = [LEAST_DIVIDED if number in graph.fields else size_of(vertex.label, vertex.kind, looks.get(number))
+                      for number, vertex in enumerate(graph.vertices)]
+        self._add_all()
+        self._unite()
+
+    def _add_all(self) -> None:
+        """Add all items."""
+        shape, graph = self.shape, self.graph
+        self.ends = frame_items.ends_of(shape, graph)  # by edge; -1 - cluster for a frame
+        self.lines = [frame_items.cut_line(shape, number) for number in range(len(graph.edges))]
+        frame_items.add_frames(self)
+        self.frame_at = {(number, is_head): self.frames[-1 - end] for number, ends in enumerate(self.ends)
+                         for is_head, end in zip((False, True), ends) if end < 0}
         for number, flat in enumerate(self._flat()):
             self._add_box(number, flat)
-        for number, line in enumerate(shape.lines):
+        field_items.add_fields(self)
+        for number, line in enumerate(self.lines):
             self.pieces.append([])
             if line:
                 self._add_line(number)
-        for number, line in enumerate(shape.lines):
+        for number, line in enumerate(self.lines):
             if not line:
                 self._add_loop(number)
         for number, edge in enumerate(graph.edges):
@@ -108,14 +87,13 @@ class Sheet:
             for is_head, text in ((False, look.tail_label), (True, look.head_label)):
                 if text.strip():
                     self._add_end_label(number, is_head, text)
-        self._unite()
 
     def _flat(self) -> list[list[int | None]]:
         """Return for each vertex and axis its grid coordinate if it has no extent along that axis, as a net at one point, or a
         net whose lines across the axis are all on one line."""
         ends: list[tuple[set[int], set[int]]] = [(set(), set()) for _ in self.graph.vertices]
         has_loop = set()
-        for edge, line in zip(self.graph.edges, self.shape.lines):
+        for edge, line in zip(self.graph.edges, self.lines):
             if not line:
                 has_loop.add(edge.tail)
                 continue
@@ -145,22 +123,26 @@ class Sheet:
 
     def _add_line(self, number: int) -> None:
         """Add the pieces of an edge."""
-        line, edge = self.shape.lines[number], self.graph.edges[number]
+        line, (tail, head) = self.lines[number], self.ends[number]
         across = [0 if before[0] == after[0] else 1 for before, after in itertools.pairwise(line)]
         last = len(across) - 1
         coordinates = []
         for place, axis in enumerate(across):
-            hosts = [edge.tail] * (place == 0) + [edge.head] * (place == last)
+            hosts = [end for end, is_there in ((tail, place == 0), (head, place == last)) if is_there and end >= 0]
             coordinates.append(self._coordinate(axis, UNIT * line[place][axis], hosts))
+        for is_head, place in ((False, 0), (True, last)):
+            field_items.hold_end(self, number, is_head, across[place], coordinates[place])
         for place, axis in enumerate(across):
             other = 1 - axis
             forward = line[place][other] < line[place + 1][other]
             ends, hosts = [], []
-            for at, neighbour, host in ((0, place - 1, edge.tail), (1, place + 1, edge.head)):
+            for at, neighbour, host in ((0, place - 1, tail), (1, place + 1, head)):
                 is_low = (at == 0) == forward
                 on_grid = UNIT * line[place + at][other]
                 if 0 <= neighbour <= last:
                     ends.append((coordinates[neighbour], on_grid))
+                elif host < 0:
+                    ends.append((frame_items.side_at(self.frames[-1 - host], other, on_grid), on_grid))
                 else:
                     hosts.append(host)
                     self.sides[host, axis, not is_low] += 1
@@ -258,7 +240,8 @@ class Sheet:
     def piece_at(self, number: int, is_head: bool) -> tuple[Item, bool]:
         """Return the piece of an edge at its head or its tail, and whether this end has the greater coordinate."""
         edge, piece = self.graph.edges[number], self.pieces[number][-1 if is_head else 0]
-        box, running = self.boxes[edge.head if is_head else edge.tail], 1 - piece.across
+        box = self.frame_at.get((number, is_head)) or self.boxes[edge.head if is_head else edge.tail]
+        running = 1 - piece.across
         return piece, piece.high[running] in (box.low[running], box.high[running])
 
     def _label_size(self, number: int, text: str) -> tuple[float, float]:
@@ -272,7 +255,7 @@ class Sheet:
     def _unite(self) -> None:
         """Replace each coordinate by its representative number."""
         finds = [axis.same.find for axis in self.axes]
-        for item in self.items:
+        for item in [*self.items, *self.frames.values()]:
             item.low = [find(number) for find, number in zip(finds, item.low)]
             item.high = [find(number) for find, number in zip(finds, item.high)]
         for number, corners in self.corners.items():
@@ -304,7 +287,7 @@ class Sheet:
         x, y = self.axes[0].value, self.axes[1].value
         if number in self.corners:
             return [(x[across], y[upright]) for across, upright in self.corners[number]]
-        shape, pieces = self.shape.lines[number], self.pieces[number]
+        shape, pieces = self.lines[number], self.pieces[number]
         found = []
         for place, (before, after) in enumerate(itertools.pairwise(shape)):
             piece = pieces[place]

@@ -6,11 +6,13 @@ import math
 import os
 
 from planarbend.drawing.drawn import Box, Drawing, Point
+from planarbend.drawing.field_picture import field_lines, field_texts
+from planarbend.drawing.frame_picture import frame_elements
 from planarbend.drawing.ink import Markers, lettered, painted, stroked, wrapped
 from planarbend.drawing.nets import dots_of, ends_of, net_labels, pieces_of
 from planarbend.drawing.items import size_of
 from planarbend.drawing.symbols import ROUND, WHOLE, border, drawn_on, elements
-from planarbend.drawing.texts import FAMILY, FONT, LINE_HEIGHT, LONGEST_LINE, lines_of, svg_text, text_size, xml_text
+from planarbend.drawing.texts import FAMILY, FONT, LINE_HEIGHT, LONGEST_LINE, lines_of, svg_text, text_lines, text_size
 from planarbend.drawing.themes import paper, themed
 from planarbend.graph import Kind, Vertex
 from planarbend.style import EdgeLook, NodeLook, Outline
@@ -39,7 +41,8 @@ def svg(drawing: Drawing, theme: str = "light") -> str:
     cover = behind if background is None or background.text != "none" else paper("light")
     markers = Markers(drawing.graph, LINE, cover)
     (width, height), caption = captioned(drawing)
-    text = svg_text(width, height, [*markers.elements(), *line_elements(drawing, markers), *box_elements(drawing, theme),
+    text = svg_text(width, height, [*markers.elements(), *frame_elements(drawing, LINE, INK, theme),
+                                    *line_elements(drawing, markers), *box_elements(drawing, theme),
                                     *label_elements(drawing, cover), *net_label_elements(drawing), *caption], behind)
     return themed(text, theme)
 
@@ -71,6 +74,8 @@ def line_of(drawing: Drawing, number: int) -> list[Point]:
             least = size_of(vertex.label, vertex.kind, look)
             corners = border(look.outline, drawing.boxes[end], least, ROUND * look.is_rounded)
             ends.append(drawn_on(corners, at, before))
+    meets = [drawing.meets.get((number, is_head)) for is_head in (False, True)]
+    ends = [end if met is None else met for end, met in zip(ends, meets)]
     return [ends[0], *line[1:-1], ends[1]]
 
 
@@ -93,11 +98,12 @@ def box_elements(drawing: Drawing, theme: str) -> list[str]:
         box, look = drawing.boxes[number], drawing.graph.looks.nodes.get(number, NodeLook())
         if vertex.kind is Kind.NET or not look.is_visible:
             continue
-        found += wrapped(look, outline_elements(vertex, look, box))
+        found += wrapped(look, outline_elements(vertex, look, box) + field_lines(drawing, number, look))
         height = LINE_HEIGHT * (look.font.size or FONT) / FONT
         is_own = look.fill is not None and look.fill.text != "none" and look.font.colour is None and theme != "light"
         words = lettered(look.font) + (' fill="black"' if is_own else "")  # which the file expects on its own colours
-        texts += wrapped(look, text_lines(lines_of(vertex.label), (box[0] + box[2]) / 2, (box[1] + box[3]) / 2, height, words))
+        texts += wrapped(look, [line for text, at in field_texts(drawing, number) for line in text_lines(
+            lines_of(text), (at[0] + at[2]) / 2, (at[1] + at[3]) / 2, height, words)])
     return found + ["</g>", *net_elements(drawing), *texts, "</g>"]
 
 
@@ -116,13 +122,6 @@ def outline_elements(vertex: Vertex, look: NodeLook, box: Box) -> list[str]:
         fill = LINE
     paint = f' fill="{fill}"' if look.fill is None else painted("fill", look.fill)
     return elements(outline, box, size_of(vertex.label, vertex.kind, look), corner, paint + stroke)
-
-
-def text_lines(lines: list[str], x: float, y: float, height: float, words: str = "") -> list[str]:
-    """Return the lines of a text around a point, with these attributes."""
-    first = y - (len(lines) - 1) * height / 2
-    return [f'<text x="{x:.1f}" y="{first + place * height:.1f}" dy=".35em"{words}>{xml_text(line)}</text>'
-            for place, line in enumerate(lines) if line]
 
 
 def net_elements(drawing: Drawing) -> list[str]:

@@ -9,7 +9,10 @@ from __future__ import annotations
 import math
 
 from planarbend.drawing.constraints import GAP, apart, lengths_of, reach_of
-from planarbend.drawing.items import BOX, LABEL, Sheet
+from planarbend.drawing.extents import BOX, LABEL
+from planarbend.drawing.field_items import hold_halves, in_order
+from planarbend.drawing.frame_items import place_frame_labels
+from planarbend.drawing.items import Sheet
 from planarbend.drawing.solver import Solver
 from planarbend.graph import Kind
 
@@ -24,8 +27,8 @@ def spread(sheet: Sheet) -> None:
     """Settle all coordinates."""
     for step in range(PASSES):
         settle_both(sheet, step)
-    for _ in range(MOST_HELD):
-        if not hold_labels(sheet):
+    for _ in range(MOST_HELD + MOST_HELD * bool(sheet.halves)):
+        if not hold_halves(sheet) and not hold_labels(sheet):
             return
         settle_both(sheet, PASSES - 1)
 
@@ -90,6 +93,8 @@ def settle(sheet: Sheet, axis: int, step: int) -> None:
     constraints = list(sheet.within[axis]) + apart(sheet, axis, step)
     along = sheet.axes[axis]
     order = sorted(range(len(along.value)), key=lambda number: (along.value[number], along.rank[number]))
+    if sheet.fields:
+        order = in_order(order, constraints)
     solver = Solver(len(order), order, constraints)
     if step == PASSES - 1:
         solver.shorten(lengths_of(sheet, axis), reach_of(sheet, axis))
@@ -123,6 +128,8 @@ def centre(sheet: Sheet, axis: int, solver: Solver) -> None:
                           for number in numbers]
                 solver.move_to(line, sum(wanted) / len(wanted))
         for number, lines in sheet.at_box[axis].items():
+            if number in sheet.held:
+                continue
             box = sheet.boxes[number]
             solver.fit(box.low[axis], box.high[axis], lines, sheet.sizes[number][axis], sheet.inset(number, axis))
         place_labels(sheet, axis, solver)
@@ -140,6 +147,7 @@ def place_labels(sheet: Sheet, axis: int, solver: Solver) -> None:
         for piece in sheet.pieces[number] if number not in sheet.corners else ():
             if piece.owns[1 - axis] and piece.low[1 - axis] == label.low[1 - axis]:
                 solver.move_to(label.low[axis], (solver.value[piece.low[axis]] + solver.value[piece.high[axis]]) / 2)
+    place_frame_labels(sheet, axis, solver)
 
 
 def pull(sheet: Sheet, axis: int, solver: Solver) -> None:
@@ -154,7 +162,8 @@ def pull(sheet: Sheet, axis: int, solver: Solver) -> None:
     sides = {side for box in sheet.boxes for side in (box.low[axis], box.high[axis]) if box.low[axis] != box.high[axis]}
     movable = [number for number in ends if number not in sides]
     fits = [(box.low[axis], box.high[axis], sheet.at_box[axis].get(number, []), sheet.sizes[number][axis],
-             sheet.inset(number, axis)) for number, box in enumerate(sheet.boxes) if box.low[axis] != box.high[axis]]
+             sheet.inset(number, axis)) for number, box in enumerate(sheet.boxes)
+            if box.low[axis] != box.high[axis] and number not in sheet.held]
     for _ in range(6):
         before = solver.value[:]
         for fit in fits:

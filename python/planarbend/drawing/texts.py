@@ -73,6 +73,13 @@ def xml_text(text: str) -> str:
     return allowed(text).replace("&", "&amp;").replace("<", "&lt;").replace(">", "&gt;")
 
 
+def text_lines(lines: list[str], x: float, y: float, height: float, words: str = "") -> list[str]:
+    """Return the lines of a text around a point, with these attributes."""
+    first = y - (len(lines) - 1) * height / 2
+    return [f'<text x="{x:.1f}" y="{first + place * height:.1f}" dy=".35em"{words}>{xml_text(line)}</text>'
+            for place, line in enumerate(lines) if line]
+
+
 def svg_text(width: int, height: int, elements: Iterable[str], paper: str = ' fill="white"') -> str:
     """Return the text of an SVG picture on a background with these attributes."""
     head = f'<svg xmlns="http://www.w3.org/2000/svg" width="{width}" height="{height}" viewBox="0 0 {width} {height}">'

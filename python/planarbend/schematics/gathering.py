@@ -2,19 +2,21 @@
 from __future__ import annotations
 
 import dataclasses
+import itertools
 import math
 from collections import defaultdict
 from collections.abc import Iterator, Sequence
 
 from planarbend.schematics.drawn import STUB
 from planarbend.schematics.placing import Placed
-from planarbend.schematics.shapes import around, step
+from planarbend.schematics.shapes import Shape, around, step
 from planarbend.schematics.spacing import BOX, FLAG, GAP, LINE, TEXT
 from planarbend.schematics.strokes import Box, Point
 
 SMALL = 4  # a kind of item beside those of `spacing`: a stub, or the number of a pin
 NARROW = 3.0  # pixels between a small item and others
 CROSS = 2.0  # pixels, half the size of the cross at a stub
+OWN = 6.0  # pixels between a flag and its own wire, but for the last piece of that
 SAVED = 10.0  # pixels by which a wire must become shorter, unless it loses corners
 BEFORE = range(12, 97, 3)  # pixels from the other end of a wire to its corner or to the flag, as far as these are tried
 AFTER = (8, 12, 16, 20, 26, 32, 40, 50)  # and from a corner to the flag
@@ -109,7 +111,7 @@ def move(found: Placed, number: int, wire: int, items: Items) -> None:
             continue
         by = new[-1][0] - line[-1][0], new[-1][1] - line[-1][1]
         shape = flag.moved(by)
-        if is_open(new, line, items, start) and items.is_free(shape.box, FLAG) and \
+        if is_open(new, line, items, start) and is_clear(new, shape) and items.is_free(shape.box, FLAG) and \
                 all(items.is_free(text.box, TEXT) for text in shape.texts):
             found.shapes[number] = shape
             found.poses[number] = dataclasses.replace(found.poses[number], at=shape.pins[0])
@@ -120,8 +122,8 @@ def move(found: Placed, number: int, wire: int, items: Items) -> None:
 
 
 def lines(line: Sequence[Point]) -> Iterator[list[Point]]:
-    """Yield shorter lines that leave the first point of a line and arrive at the last one in the same directions: with one
-    corner or none, or with a shorter last piece."""
+    """Yield shorter lines that leave the first point of a line and arrive at the last one in the same directions: with as few
+    corners as these need, or with a shorter last piece."""
     first, last = heads_of(line[0], line[1]), heads_of(line[-2], line[-1])
     start = line[0]
     if first == last:
@@ -132,6 +134,11 @@ def lines(line: Sequence[Point]) -> Iterator[list[Point]]:
             corner = step(start, first, before)
             for after in AFTER:
                 yield [start, corner, step(corner, last, after)]
+    else:
+        for before, across, turn in itertools.product(BEFORE, BEFORE, (1, -1)):
+            corner = step(start, first, before)
+            other = step(corner, (first + turn) % 4, across)
+            yield [start, corner, other, step(other, last, AFTER[0])]
     if len(line) > 2:
         for after in AFTER:
             if after < length_of(line[-2:]):
@@ -147,6 +154,13 @@ def is_open(new: Sequence[Point], line: Sequence[Point], items: Items, start: in
         if not is_inside and (place == 0 and start is None or not items.is_free(box, LINE, None if place else start)):
             return False
     return True
+
+
+def is_clear(new: Sequence[Point], flag: Shape) -> bool:
+    """Return whether all pieces of a flag's line but the last are apart from the flag."""
+    boxes = [grown(box, OWN) for box in (flag.box, *(text.box for text in flag.texts))]
+    return not any(box[0] < other[2] and other[0] < box[2] and box[1] < other[3] and other[1] < box[3]
+                   for other in map(around, zip(new, new[1:-1])) for box in boxes)
 
 
 def heads_of(one: Point, other: Point) -> int:

@@ -1,0 +1,85 @@
+"""Good shapes of a component with clusters: embeddings with few crossings, directions with few bends, and the core's drawings."""
+from __future__ import annotations
+
+from collections.abc import Iterable, Iterator
+
+from planarbend.drawing.frame_items import NoFrames
+from planarbend.drawing.given import given_shape
+from planarbend.drawing.nest_search import planarized
+from planarbend.drawing.nested import NestedPlanarization
+from planarbend.drawing.resite import resited
+from planarbend.drawing.nesting import nesting_of
+from planarbend.drawing.plans import Options
+from planarbend.drawing.shape import Shape
+from planarbend.drawing.turns import Directed, Program, outer_faces
+from planarbend.graph import Graph
+from planarbend.layout.engine import Engine, NotKept
+
+MOST_FACES = 4  # outer faces of each embedding that are tried
+MOST_WORK = 8_000  # outer faces times darts
+MOST_WAYS = 4  # of these, those in which vertices with few edges may be boxes too
+MOST_SHAPES = 3  # that are drawn, without and with such boxes each
+
+
+def framed_shapes(graph: Graph, options: Options, engine: Engine) -> list[Shape]:
+    """Return good shapes of a component with the frames of its clusters.
+
+    Raises
+    ------
+    NoFrames
+        There is no library, the component takes too many vertices, or edges cannot be straight.
+    """
+    if not engine.keeps:
+        raise NoFrames("frames need the library libplanarbend of this version")
+    searches = planarized(nesting_of(graph), options.seed, options.effort)
+    if searches[0][0].nesting.ports:
+        planars = resited(searches)
+    else:
+        planars = [planar for _, planar in searches]
+    if min(len(planar.rotation) for planar in planars) > engine.most_vertices:
+        raise NoFrames(f"they take more than {engine.most_vertices} vertices and crossings")
+    ways = [upright(one, options) for one in sorted(directed(planars, options), key=lambda one: one.cost)[:MOST_WAYS]]
+    ways.sort(key=lambda one: one.cost)
+    boxed = sorted(filter(None, (again(one, options) for one in ways)), key=lambda one: one.cost)
+    found = [*shapes_of(ways[:MOST_SHAPES], engine), *shapes_of(boxed[:MOST_SHAPES], engine)]
+    if not found:
+        raise NoFrames(f"no drawing was found with at most {engine.most_vertices} vertices of degree 4 and all conditions")
+    return found
+
+
+def directed(planars: Iterable[NestedPlanarization], options: Options) -> Iterator[Directed]:
+    """Yield embeddings with outer faces that have all of `outer`, and directions in which vertices with ports may lie on their
+    sides."""
+    for planar in planars:
+        program = Program(planar, (), options.straight)
+        faces = [face for face in outer_faces(planar)
+                 if {planar.tail[dart] for dart in planar.walks[face]}.issuperset(options.outer)]
+        for face in faces[:max(1, min(MOST_FACES, MOST_WORK // len(planar.tail)))]:
+            try:
+                yield program.solved(face, is_free=True)
+            except ArithmeticError:  # edges cannot be straight
+                continue
+
+
+def upright(way: Directed, options: Options) -> Directed:
+    """Return the directions of the same embedding and outer face in which vertices with ports are upright."""
+    return way if len(way.upright) < 2 else Program(way.planar, (), options.straight).solved(way.outer)
+
+
+def again(way: Directed, options: Options) -> Directed | None:
+    """Return the directions of the same embedding if vertices with few edges may be boxes too; None if none is one."""
+    found = Program(way.planar, range(len(way.planar.nesting.home)), options.straight).solved(way.outer, way.upright)
+    return found if found.cost < way.cost else None
+
+
+def shapes_of(ways: Iterable[Directed], engine: Engine) -> Iterator[Shape]:
+    """Yield the shapes of directions that fit the engine."""
+    for way in ways:
+        try:
+            shape = given_shape(way, engine)
+        except NotKept as fault:
+            if fault.word != "wide":
+                raise
+            continue
+        if shape is not None:
+            yield shape

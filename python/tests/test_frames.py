@@ -1,0 +1,155 @@
+"""Frames of clusters: what is laid out, the embedding, and whole drawings, which the judge looks at."""
+from __future__ import annotations
+
+import json
+import random
+import unittest
+
+import support
+from dot_grammar import PortGrammar
+from planarbend.draw import draw
+from planarbend.drawing.drawn import Drawing
+from planarbend.drawing.nest_search import NestSearch, planarized
+from planarbend.drawing.nesting import nesting_of
+from planarbend.graph import Graph
+from planarbend.layout.library import LibraryEngine
+from planarbend.programs import PlanarbendError
+from planarbend.readers import read
+from port_judge import Judge
+
+NESTED = """digraph { compound=true; subgraph cluster_a { label="outer A"; a; subgraph cluster_b { style=filled; b; c; b -> c } subgraph cluster_e {
+  label=empty } } subgraph cluster_d { label=D; labelloc=b; d; e } a -> b; c -> d; e -> a; a -> e [lhead=cluster_d, ltail=cluster_a]; f -> c; d -> d }"""
+LONELY = """graph { subgraph cluster_a { label=one; a } subgraph cluster_b { label=two; subgraph cluster_c { b; c } d } subgraph cluster_f {
+  label="nothing in it" } e }"""
+K33 = "graph { subgraph cluster_a { a; b; x } subgraph cluster_b { c; y; z } a -- x; a -- y; a -- z; b -- x; b -- y; b -- z; c -- x; c -- y; c -- z }"
+
+
+def of(text: str) -> Graph:
+    """The graph of a text."""
+    return read(text.encode(), "it.gv", "dot")
+
+
+class Plain(PortGrammar):
+    """A file with clusters, and without ports."""
+
+    def node(self, name: str) -> str:
+        self.ports[name] = []
+        return self.some(["", " [shape=box]", " [shape=circle]"])
+
+    def end(self, name: str) -> str:
+        return name
+
+
+@support.needs_graphviz
+class Embedded(unittest.TestCase):
+    def test_what_is_laid_out(self) -> None:
+        """Six vertices, a stub at each end at a frame, and the box of the empty cluster; all is connected, and each frame is left."""
+        graph = of(NESTED)
+        nesting = nesting_of(graph)
+        self.assertEqual(nesting.drawn, (6, 7))
+        self.assertEqual(len(nesting.home), 9)
+        self.assertEqual([graph.clusters[one].name for one in nesting.empty], ["cluster_e"])
+        self.assertEqual({graph.clusters[one].name for one in nesting.framed}, {"cluster_a", "cluster_b", "cluster_d"})
+        for cluster in nesting.framed:
+            self.assertTrue(any(cluster in set.union(*nesting.crossed(edge)) for edge in range(len(nesting.ends))))
+
+    def test_frames_are_crossed_once(self) -> None:
+        """Of random files: an edge crosses the frames of the clusters in which one of its ends lies, each once, and no other."""
+        for seed in range(40):
+            graph = of(Plain(seed).file())
+            nesting = nesting_of(graph)
+            if not nesting.framed:
+                continue
+            search = NestSearch(nesting, random.Random(seed))
+            search.put_all()
+            search.improve(2, 200_000)
+            planar = search.finish()
+            self.assertEqual(len(list(filter(None, planar.rotation))) - len(planar.tail) // 2 + len(planar.walks), 2)
+            cluster_of = {dart >> 1: cluster for place, cluster in enumerate(nesting.framed) for side in planar.sides_of(place)
+                          for dart in planar.chains[side]}
+            for edge, chain in enumerate(planar.chains[:len(nesting.ends)]):
+                met = [cluster_of[other >> 1] for dart in chain[1:] for other in planar.rotation[planar.tail[dart]][:2] if other >> 1 in cluster_of]
+                if chain:
+                    self.assertEqual(sorted(met), sorted(set.union(*nesting.crossed(edge))))
+
+    def test_crossings(self) -> None:
+        """K(3,3) has one crossing, also with frames around three vertices each."""
+        self.assertEqual({planar.real_crossings for _, planar in planarized(nesting_of(of(K33)))}, {1})
+
+    def test_turns(self) -> None:
+        """Each face turns by 4, each frame too; the bends of two squares joined by four edges are none."""
+        from planarbend.drawing.turns import Program, outer_faces  # it needs numpy and scipy
+
+        text = "graph { subgraph cluster_a { a--b--c--d--a } subgraph cluster_b { e--f--g--h--e } a--e b--f c--g d--h }"
+        planar = planarized(nesting_of(of(text)))[0][1]
+        for face in outer_faces(planar):
+            found = Program(planar).solved(face)
+            for place, walk in enumerate(planar.walks):
+                self.assertEqual(sum(found.turns(dart) + 2 - found.angle(dart) for dart in walk), -4 if place == face else 4)
+            for place in (0, 1):
+                turns = [found.turns(dart) for side in planar.sides_of(place) for dart in planar.chains[side]]
+                self.assertEqual((sum(turns), min(turns)), (4, 0))
+
+
+@support.needs_graphviz
+class Drawn(unittest.TestCase):
+    """Whole drawings, by the library."""
+
+    engine: LibraryEngine
+
+    @classmethod
+    def setUpClass(cls) -> None:
+        try:
+            import scipy  # noqa: F401
+
+            cls.engine = LibraryEngine()
+        except (ImportError, PlanarbendError, OSError) as fault:
+            raise unittest.SkipTest(f"needs scipy and the library: {fault}") from None
+
+    def judged(self, text: str) -> Drawing:
+        """The drawing of a text, in which the judge sees no fault, and all frames."""
+        graph = of(text)
+        made = draw(graph, engine=self.engine)
+        judge = Judge(text.encode(), made.text("svg"), json.loads(made.text("json")), "\n".join(graph.looks.warnings))
+        self.assertEqual(judge.judged(), [], text)
+        self.assertEqual(len(made.frames), len(graph.clusters))
+        return made
+
+    def test_nested(self) -> None:
+        """Nested and empty clusters, labels above and below, a loop, and an edge that begins and ends at frames."""
+        made = self.judged(NESTED)
+        self.assertEqual(made.crossings, [])
+        places = {made.graph.clusters[number].name: frame for number, frame in made.frames.items()}
+        for name, is_below in (("cluster_a", False), ("cluster_d", True)):
+            box, label = places[name].box, places[name].label_box
+            assert label is not None
+            self.assertEqual(label[1] - box[1] > box[3] - label[3], is_below)
+        self.assertEqual({key for key in made.meets}, {(3, False), (3, True)})
+        self.assertEqual(sorted(map(len, made.embedding)), [2, 6])  # the edge between frames has two ends of its own
+
+    def test_nothing_joins(self) -> None:
+        """Clusters that no edge leaves, with several parts or nothing in them; a cluster that only holds another."""
+        made = self.judged(LONELY)
+        self.assertEqual((made.bends, made.embedding), (0, []))
+        self.judged("graph { subgraph cluster_a { subgraph cluster_b { subgraph cluster_c { a -- b } } } }")
+
+    def test_random(self) -> None:
+        for seed in range(6):
+            self.judged(Plain(seed).file())
+
+    def test_no_library(self) -> None:
+        """The program takes no conditions: clusters are left out with a warning that names them."""
+
+        class Without(LibraryEngine):
+            keeps = False
+
+        graph = of("graph { subgraph cluster_a { a -- b } subgraph cluster_b { c } }")
+        made = draw(graph, engine=Without())
+        self.assertEqual(made.frames, {})
+        self.assertEqual(len(made.boxes), 3)
+        self.assertEqual([warning.partition(":")[0] for warning in graph.looks.warnings], ["clusters are drawn without frames"] * 2)
+        self.assertNotIn("frames", json.loads(made.text("json")))
+
+
+if __name__ == "__main__":
+    unittest.main()

@@ -1,0 +1,137 @@
+"""Ports: the sites of vertices, and whole drawings of records, tables and compass points, which the judge looks at."""
+from __future__ import annotations
+
+import json
+import unittest
+from fractions import Fraction
+
+import support
+from dot_grammar import PortGrammar
+from planarbend.draw import draw
+from planarbend.drawing.drawn import Drawing
+from planarbend.drawing.field_items import in_order
+from planarbend.drawing.sites import Sites, rectangles
+from planarbend.layout.library import LibraryEngine
+from planarbend.ports import Compass, End, Field, Side, Span
+from planarbend.programs import PlanarbendError
+from planarbend.readers import read
+from port_files import FILES
+from port_judge import Judge
+
+ROW = Field(fields=(Field("a", "p"), Field("b", "q", Span(column=1)), Field("c", "r", Span(column=2))))
+STRUCTS = """digraph { node [shape=record]; s1 [label="<f0> left|<f1> middle|<f2> right"]; s2 [label="<f0> one|<f1> two"];
+  s3 [label="hello\\nworld|{b|{c|<here> d|e}|f}|g|h"]; s1:f1 -> s2:f0; s1:f2 -> s3:here }"""
+COMPASS = "digraph { a:n -> b:s; b:e -> c:w; c:ne -> a:sw; a -> c; b:n -> b:w; d [shape=circle]; d:se -> c:n; d -> a:w }"
+TABLE = """graph { t [shape=none, label=<<table><tr><td port="a">x</td><td port="b">y</td><td port="c">z</td></tr><tr><td port="d">1</td>
+  <td port="m">2</td><td port="e">3</td></tr><tr><td port="f" colspan="3">long</td></tr></table>>]; u -- t:m; v -- t:m:n; w -- t:f; u -- v; w -- t:d:e }"""
+BOTH = """digraph { compound=true; node [shape=record]; subgraph cluster_a { label=A; r [label="{<p> x|<q> y}"]; s } subgraph cluster_b { label=B;
+  t [label="<u> 1|<v> 2|<w> 3"] } r:p:e -> t:u; r:q -> t:w; t:v:n -> s; s -> r:p; s -> t [lhead=cluster_b]; t:u -> t:w }"""
+
+
+class Places(unittest.TestCase):
+    def test_rectangles(self) -> None:
+        """Three fields of a row take a third each; two rows within the last one half of its height."""
+        third = Fraction(1, 3)
+        self.assertEqual([across for across, _ in rectangles(ROW)], [(0, 1), (0, third), (third, 2 * third), (2 * third, 1)])
+        nested = Field(fields=(Field("a"), Field("", "", Span(column=1), (Field("b"), Field("c", "", Span(row=1))))))
+        half = Fraction(1, 2)
+        self.assertEqual(list(rectangles(nested))[3:], [((half, 1), (0, half)), ((half, 1), (half, 1))])
+
+    def test_sites(self) -> None:
+        """The middle field of a row is reached from above and below, or, where its east side is asked for, from the east; the first
+        one from the west too, and in its right half at the south-east."""
+        def at(end: End | None, *ends: End) -> list[tuple[Side, Fraction]]:
+            found = Sites(ROW, [*ends, *([end] if end else [])])
+            return [((Side.EAST, Side.NORTH, Side.WEST, Side.SOUTH)[site.side], site.low)
+                    for place, site in enumerate(found.sites) if place in found.allowed(end)]
+
+        third = Fraction(1, 3)
+        self.assertEqual(at(End(2)), [(Side.NORTH, third), (Side.SOUTH, third)])
+        self.assertEqual(at(End(2, Compass.EAST)), [(Side.EAST, 0)])
+        self.assertEqual(at(End(1)), [(Side.NORTH, 0), (Side.WEST, 0), (Side.SOUTH, 0)])
+        self.assertEqual(at(End(1, Compass.SOUTH_EAST)), [(Side.EAST, Fraction(1, 2)), (Side.SOUTH, Fraction(1, 6))])
+        self.assertEqual(len(at(None)), 4)
+        self.assertEqual(len(at(None, End(2))), 8)
+
+    def test_order(self) -> None:
+        """Coordinates keep their order as far as constraints allow; a cycle does not stop this."""
+        self.assertEqual(in_order([0, 1, 2, 3], [(3, 1, 1.0), (1, 0, 1.0)]), [2, 3, 1, 0])
+        self.assertEqual(sorted(in_order([0, 1, 2], [(0, 1, 1.0), (1, 0, 1.0)])), [0, 1, 2])
+
+
+@support.needs_graphviz
+class Drawn(unittest.TestCase):
+    """Whole drawings, by the library."""
+
+    engine: LibraryEngine
+
+    @classmethod
+    def setUpClass(cls) -> None:
+        try:
+            import scipy  # noqa: F401
+
+            cls.engine = LibraryEngine()
+        except (ImportError, PlanarbendError, OSError) as fault:
+            raise unittest.SkipTest(f"needs scipy and the library: {fault}") from None
+
+    def judged(self, text: str) -> Drawing:
+        """The drawing of a text, in which the judge sees no fault."""
+        graph = read(text.encode(), "it.gv", "dot")
+        made = draw(graph, engine=self.engine)
+        judge = Judge(text.encode(), made.text("svg"), json.loads(made.text("json")), "\n".join(graph.looks.warnings))
+        self.assertEqual(judge.judged(), [], text)
+        return made
+
+    def test_structs(self) -> None:
+        """One edge needs no bend: the middle of the first record is above the first field of the second."""
+        made = self.judged(STRUCTS)
+        self.assertEqual(made.crossings, [])
+        self.assertLessEqual(made.bends, 2)
+        self.assertEqual(set(made.meets), {(0, False), (0, True), (1, False), (1, True)})
+        self.assertEqual([len(made.field_boxes[number]) for number in range(3)], [4, 3, 11])
+
+    def test_compass_points(self) -> None:
+        """Also of a loop, and of a vertex that is no record."""
+        self.judged(COMPASS)
+
+    def test_tables(self) -> None:
+        """The line to the field in the middle passes over one of those around it, and goes straight on from the border."""
+        made = self.judged(TABLE)
+        left, top, right, bottom = made.boxes[0]
+        x, y = made.lines[0][-1]
+        self.assertTrue(x in (left, right) or y in (top, bottom))
+        self.assertNotEqual(made.meets[0, True], (x, y))
+
+    def test_with_clusters(self) -> None:
+        self.judged(BOTH)
+
+    def test_a_frame_that_one_edge_crosses(self) -> None:
+        """While this edge is out, nothing joins the frame to what lies in it."""
+        edges = "; ".join(f"v{one} -- v{other}" for other in range(5) for one in range(other))
+        self.assertEqual(len(self.judged(f"graph {{ subgraph cluster_a {{ {edges} }} w:e -- v0 }}").crossings), 1)
+
+    def test_files(self) -> None:
+        """Clusters and records as people draw them: no edge of these crosses another."""
+        for name in ("machine", "gates", "empties", "hash_5", "search_2"):
+            self.assertEqual(self.judged(FILES[name]).crossings, [], name)
+
+    def test_random(self) -> None:
+        for seed in (2, 3, 4, 6, 7, 26):
+            self.judged(PortGrammar(seed).file())
+
+    def test_no_library(self) -> None:
+        """The program takes no conditions: edges end anywhere, with a warning that names the nodes; fields are drawn."""
+
+        class Without(LibraryEngine):
+            keeps = False
+
+        graph = read(STRUCTS.encode(), "it.gv", "dot")
+        made = draw(graph, engine=Without())
+        self.assertEqual(made.meets, {})
+        self.assertEqual(len(made.field_boxes), 3)
+        self.assertEqual([warning.split(": ")[:2] for warning in graph.looks.warnings], [
+            ["edges end anywhere at these nodes, not at their ports", "s1, s2, s3"]])
+
+
+if __name__ == "__main__":
+    unittest.main()
