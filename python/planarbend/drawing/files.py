@@ -39,10 +39,11 @@ def dot(drawing: Drawing) -> str:
     drawing = without_colons(drawing)
     graph, names = drawing.graph, names_of(drawing.graph)
     joint, clusters = "->" if is_directed(graph) else "--", cluster_names(graph, beginning=BEGINNING)
+    is_column = has_columns(graph)
     whole: dict[str, object] = {
         "bb": f"0,0,{drawing.size[0]:g},{drawing.size[1]:g}", "label": graph.looks.graph.label or None,
         "bgcolor": painted(graph.looks.graph.background), **lettered(graph.looks.graph.font, FONT),
-        "rankdir": "LR" if has_columns(graph) else None,
+        "rankdir": "LR" if is_column else None,
         "compound": "true" if any(end.cluster is not None for end in graph.ends.values()) else None}
     nodes = {"shape": "box", "style": "filled,rounded", "fillcolor": FILL, "color": LINE, "penwidth": STROKE,
              "fontname": PLAIN, "fontsize": FONT, "fontcolor": INK, "fixedsize": "true"}
@@ -51,7 +52,7 @@ def dot(drawing: Drawing) -> str:
     found = [f"{'digraph' if is_directed(graph) else 'graph'} {{", f"  graph{listed(whole)};", f"  node{listed(nodes)};",
              f"  edge{listed(edges)};"]
     for number, name in enumerate(names):
-        found.append(f"  {identifier(name)}{listed(dot_node(drawing, number))};")
+        found.append(f"  {identifier(name)}{listed(dot_node(drawing, number) | field_values(drawing, number, is_column))};")
     found += dot_clusters(drawing, names, clusters)
     for number, edge in enumerate(graph.edges):
         values = dot_edge(drawing, number) | port_values(graph, number, clusters)
@@ -74,8 +75,7 @@ def dot_node(drawing: Drawing, number: int) -> dict[str, object]:
     found: dict[str, object] = {
         **place, "label": "\n".join(lines_of(vertex.label)),
         **shape_of(vertex.kind, look, drawing.boxes[number], vertex.label), "color": painted(look.colour), "penwidth": look.width,
-        **lettered(look.font, FONT), "URL": address(look.link), "tooltip": look.tooltip or None,
-        **field_values(drawing, number)}
+        **lettered(look.font, FONT), "URL": address(look.link), "tooltip": look.tooltip or None}
     if found["shape"] == Outline.DOUBLE_CIRCLE.value:  # Graphviz draws the outer circle around this size
         found |= {"width": (right - left - 2 * RING) / INCH, "height": (bottom - top - 2 * RING) / INCH}
     fill = painted(look.fill, None if vertex.kind is Kind.VERTEX else FILLS[vertex.kind][0])

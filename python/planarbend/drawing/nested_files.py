@@ -125,13 +125,14 @@ def port_word(port: str) -> str:
     return f" port={attribute(port)}" if port else ""
 
 
-def field_values(drawing: Drawing, number: int) -> dict[str, object]:
-    """Return the attributes in DOT of a vertex with fields: a record as a record, another one as a table."""
+def field_values(drawing: Drawing, number: int, is_column: bool) -> dict[str, object]:
+    """Return the attributes in DOT of a vertex with fields: a record as a record, another one as a table; `is_column` is what
+    `has_columns` returns."""
     graph = drawing.graph
     if number not in graph.fields:
         return {}
     whole, outline = graph.fields[number], graph.looks.nodes.get(number, NodeLook()).outline
-    if outline in RECORDS and outline is not None and is_record(whole, has_columns(graph)):
+    if outline in RECORDS and outline is not None and is_record(whole, is_column):
         return {"shape": outline.value, "label": Source(identifier(record_text(whole))), "margin": MARGIN}
     return {"label": Source(f"<{table_text(whole, drawing.field_boxes.get(number, ()))}>"), "margin": "0"}
 
