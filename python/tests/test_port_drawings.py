@@ -11,8 +11,8 @@ from dot_grammar import PortGrammar
 from planarbend.draw import draw
 from planarbend.drawing.drawn import Drawing
 from planarbend.drawing.field_items import in_order
-from planarbend.drawing.picture import line_of
 from planarbend.drawing.sites import Sites, rectangles
+from planarbend.drawing.picture import line_of
 from planarbend.layout.library import LibraryEngine
 from planarbend.ports import Compass, End, Field, Side, Span
 from planarbend.programs import PlanarbendError
