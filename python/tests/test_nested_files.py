@@ -198,7 +198,8 @@ class ByGraphviz(unittest.TestCase):
             engine = LibraryEngine()
         except (ImportError, PlanarbendError, OSError) as fault:
             raise unittest.SkipTest(f"needs scipy and the library: {fault}") from None
-        names = ("structs", "tables", "clusters", "compound", "nested", "both", "table", "columns", "looks", "machine", "empties")
+        names = ("structs", "tables", "clusters", "compound", "nested", "both", "table", "columns", "looks", "machine", "empties",
+                 "gates", "list_7", "hash_5", "search_3")
         cls.made = {name: draw(of(TEXTS[name]), Options(effort=0), engine) for name in names}
 
     def test_all_is_taken(self) -> None:
@@ -250,6 +251,30 @@ class ByGraphviz(unittest.TestCase):
             given, written = (Counter(subprocess.run(["gvpr", program], input=text.encode(), capture_output=True, check=True).stdout.splitlines())
                               for text in (TEXTS[name].replace("HERE", "here"), self.made[name].text("dot")))
             self.assertEqual(written, given, name)
+
+    def test_fields_of_records(self) -> None:
+        """Graphviz places the fields of a record itself: lines end at them there too."""
+        count = 0
+        for made in self.made.values():
+            told = json.loads(subprocess.run(["dot", "-Tjson0", "-Kneato", "-n2"], input=made.text("dot").encode(), capture_output=True,
+                                             check=True).stdout)
+            nodes = {one["name"]: one for one in told.get("objects", ()) if "rects" in one}
+            ends = {(edge["tail"], edge["head"], edge["pos"]): edge for edge in told.get("edges", ())}
+            number_of = {vertex.name: number for number, vertex in enumerate(made.graph.vertices)}
+            for edge in ends.values():
+                for port, vertex, is_head in (("tailport", edge["tail"], False), ("headport", edge["head"], True)):
+                    node = nodes.get(told["objects"][vertex]["name"])
+                    if node is None or port not in edge or edge[port].split(":")[0] in ("n", "e", "s", "w"):
+                        continue
+                    leaves = [one.port for one, _ in made.graph.fields[number_of[node["name"]]].walk() if not one.fields]
+                    rects = [tuple(map(float, rect.split(","))) for rect in node["rects"].split()]
+                    self.assertEqual(len(rects), len(leaves))
+                    left, low, right, high = rects[leaves.index(edge[port].split(":")[0])]
+                    points = [tuple(map(float, point.split(","))) for point in re.sub(r"\b[es],\S+ ?", "", edge["pos"]).split()]
+                    (x, y), (u, v) = points[-1:-3:-1] if is_head else points[:2]
+                    count += 1
+                    self.assertTrue(low - 1 < y < high + 1 if y == v else left - 1 < x < right + 1, (node["name"], edge))
+        self.assertGreater(count, 20)
 
     def test_lines_end_at_fields_in_the_middle(self) -> None:
         made = self.made["structs"]

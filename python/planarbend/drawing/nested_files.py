@@ -10,14 +10,16 @@ from planarbend.drawing.drawn import Box, Drawing, Point
 from planarbend.drawing.file_text import PLAIN, Source, Values, address, attribute, identifier, lettered, listed, painted
 from planarbend.drawing.frame_picture import STROKE
 from planarbend.drawing.picture import INK, LINE
-from planarbend.drawing.texts import FONT, allowed, lines_of
+from planarbend.drawing.texts import FONT, allowed, lines_of, text_size
 from planarbend.graph import Graph
 from planarbend.ports import End, Field, Span
 from planarbend.readers.port_data import PORTS
-from planarbend.style import Across, NodeLook, Outline
+from planarbend.style import Across, Font, NodeLook, Outline
 
 RECORDS = (Outline.RECORD, Outline.ROUND_RECORD)
-MARGIN = "0.03,0.02"  # inches around the texts of a record, less than in pictures, so that all have room
+MARGIN, MARGINS = "0.055,0.03", (4.0, 2.0)  # inches and pixels around the texts of a record, less than in pictures
+FONT_HEIGHT = 1.2 * FONT  # pixels, of a line in Graphviz
+NEAR = 0.01  # pixels
 SIGNS = str.maketrans({sign: "\\" + sign for sign in "\\{}|<>"} | {"\n": "\\n"})  # of records
 TABLE = ' border="0" cellborder="1" cellspacing="0" cellpadding="0"'
 
@@ -74,6 +76,43 @@ def is_divided(graph: Graph, number: int) -> bool:
     return number in graph.fields and graph.looks.nodes.get(number, NodeLook()).outline in RECORDS
 
 
+def record_size(one: Field, font: Font, axis: int) -> tuple[float, float]:
+    """Return the least size that Graphviz gives a field of a record; those within it follow each other along an axis."""
+    if not one.fields:
+        wide, high = text_size(lines_of(one.text), font, FONT, FONT_HEIGHT)
+        return wide + 2 * MARGINS[0], high + 2 * MARGINS[1]
+    sizes = [record_size(inner, font, 1 - axis) for inner in one.fields]
+    along, across = [size[axis] for size in sizes], [size[1 - axis] for size in sizes]
+    return (sum(along), max(across)) if axis == 0 else (max(across), sum(along))
+
+
+def record_boxes(whole: Field, font: Font, axis: int, box: Box) -> Iterator[Box]:
+    """Yield the boxes that Graphviz gives the fields of a record with a box, in the order of `Field.walk`."""
+    yield box
+    sizes = [record_size(one, font, 1 - axis)[axis] for one in whole.fields]
+    low, more = box[axis], (box[axis + 2] - box[axis] - sum(sizes)) / max(1, len(sizes))
+    for one, size in zip(whole.fields, sizes):
+        high = low + size + more
+        yield from record_boxes(one, font, 1 - axis, (low, box[1], high, box[3]) if axis == 0 else (box[0], low, box[2], high))
+        low = high
+
+
+def has_ends(drawing: Drawing, number: int, is_column: bool) -> bool:
+    """Return whether all edges at a record end at their fields too if Graphviz places these."""
+    graph, boxes = drawing.graph, drawing.field_boxes.get(number)
+    if boxes is None:
+        return True
+    font = graph.looks.nodes.get(number, NodeLook()).font
+    others = list(record_boxes(graph.fields[number], font, int(is_column), drawing.boxes[number]))
+    for (edge, is_head), at in drawing.meets.items():
+        place = graph.ends[edge, is_head].field
+        if place is not None and number == (graph.edges[edge].head if is_head else graph.edges[edge].tail):
+            along = 1 if min(abs(at[0] - boxes[place][side]) for side in (0, 2)) < NEAR else 0  # the axis of the side
+            if not others[place][along] + 1 < at[along] < others[place][along + 2] - 1:
+                return False
+    return True
+
+
 def without_colons(drawing: Drawing) -> Drawing:
     """Return a drawing with other names of ports in place of those with colons, which end names in DOT."""
     def of(one: Field) -> Field:
@@ -107,7 +146,9 @@ def table_text(whole: Field, boxes: Sequence[Box] = ()) -> str:
             words += ' border="0"'
         elif boxes:
             (left, top, right, bottom), (x, y) = box_of[id(one)], boxes[0][:2]
-            words += f' width="{int(right - x) - int(left - x)}" height="{int(bottom - y) - int(top - y)}"'
+            sizes = int(right - x) - int(left - x), int(bottom - y) - int(top - y)
+            wide, high = (size // count * count for size, count in zip(sizes, (one.at.columns, one.at.rows)))  # not rounded up
+            words += f' width="{wide}" height="{high}"'
         text = escape(allowed(one.text), quote=False).replace("\n", "<br/>")
         return f"<td{port_word(one.port)}{words}>{table(one) if one.fields else text}</td>"
 
@@ -126,13 +167,13 @@ def port_word(port: str) -> str:
 
 
 def field_values(drawing: Drawing, number: int, is_column: bool) -> dict[str, object]:
-    """Return the attributes in DOT of a vertex with fields: a record as a record, another one as a table; `is_column` is what
-    `has_columns` returns."""
+    """Return the attributes in DOT of a vertex with fields: a record as a record if edges end at its fields there too, another one as
+    a table, whose cells have sizes; `is_column` is what `has_columns` returns."""
     graph = drawing.graph
     if number not in graph.fields:
         return {}
     whole, outline = graph.fields[number], graph.looks.nodes.get(number, NodeLook()).outline
-    if outline in RECORDS and outline is not None and is_record(whole, is_column):
+    if outline in RECORDS and outline is not None and is_record(whole, is_column) and has_ends(drawing, number, is_column):
         return {"shape": outline.value, "label": Source(identifier(record_text(whole))), "margin": MARGIN}
     return {"label": Source(f"<{table_text(whole, drawing.field_boxes.get(number, ()))}>"), "margin": "0"}
 
