@@ -40,6 +40,12 @@ def around(clusters: Sequence[Cluster], number: int | None) -> list[int]:
     return found
 
 
+def first_around(clusters: Sequence[Cluster], name: str, inside: int | None, outside: int | None) -> int | None:
+    """Return the first cluster with a name if `inside` is this cluster or lies in it, and `outside` does not; otherwise None."""
+    number = next((number for number, one in enumerate(clusters) if one.name == name), None)
+    return number if number in around(clusters, inside) and number not in around(clusters, outside) else None
+
+
 def clusters_of(clusters: Sequence[Cluster]) -> dict[int, int]:
     """Return for each vertex that lies in a cluster the innermost one."""
     return {vertex: number for number, one in enumerate(clusters) for vertex in one.members}

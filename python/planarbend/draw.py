@@ -127,12 +127,18 @@ def components_of(graph: Graph, chosen: Sequence[int] | None = None) -> list[Com
 
 
 def parts_of(graph: Graph, component: Component, options: Options, engine: Engine) -> list[Part]:
-    """Return a component, drawn; if its clusters cannot be drawn, its parts without them, and a warning."""
+    """Return a component, drawn; if its clusters cannot be drawn, its parts without them, and if their ports cannot either, without
+    these, and warnings."""
     try:
         return [part_of(graph, component, options, engine)]
     except NoFrames as fault:
         names = ", ".join(graph.clusters[number].name for number in component.clusters)
-        graph.looks.warnings += [f"clusters are drawn without frames: {names}: {fault}"] if names else []
+        if names:
+            graph.looks.warnings.append(f"clusters are drawn without frames: {names}: {fault}")
+        if names and engine.keeps:
+            plain = dataclasses.replace(graph, clusters=[], ends={
+                key: dataclasses.replace(end, cluster=None) for key, end in graph.ends.items()})
+            return [part for one in components_of(plain, component.vertices) for part in parts_of(plain, one, options, engine)]
         ends = {key for key, end in graph.ends.items() if key[0] in component.edges and is_port(end)}
         names = ", ".join(dict.fromkeys(graph.vertices[graph.edges[edge].head if is_head else graph.edges[edge].tail].name
                                         for edge, is_head in sorted(ends)))

@@ -37,6 +37,9 @@ class Compass(enum.Enum):
         return frozenset(map(Side, self.value))
 
 
+COMPASS = {one.value: one for one in Compass}
+
+
 @dataclass(frozen=True, slots=True)
 class Span:
     """A place in a grid: the first row and column, from 0, and the number of rows and columns."""

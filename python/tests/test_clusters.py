@@ -22,6 +22,26 @@ CLUSTERS = """digraph G { subgraph cluster_0 { style=filled; color=lightgrey; no
 COMPOUND = """digraph G { compound=true; subgraph cluster0 { a -> b; a -> c; b -> d; c -> d; } subgraph cluster1 { e -> g; e -> f; }
   b -> f [lhead=cluster1]; d -> e; c -> g [ltail=cluster0, lhead=cluster1]; c -> e [ltail=cluster0]; d -> h; }"""
 
+# As yEd writes groups, shortened.
+GROUP = """<data key="d6"><y:ProxyAutoBoundsNode><y:Realizers active="0"><y:GroupNode><y:Fill color="#F5F5F5" transparent="false"/>
+  <y:BorderStyle color="#000000" type="dashed" width="1.0"/><y:NodeLabel fontSize="15" modelName="internal" modelPosition="t">{}</y:NodeLabel>
+  <y:Shape type="roundrectangle"/></y:GroupNode></y:Realizers></y:ProxyAutoBoundsNode></data>"""
+NODE = '<node id="{}"><data key="d6"><y:ShapeNode><y:NodeLabel>{}</y:NodeLabel></y:ShapeNode></data></node>'
+YED = f"""<graphml xmlns="http://graphml.graphdrawing.org/xmlns" xmlns:y="http://www.yworks.com/xml/graphml">
+  <key for="node" id="d6" yfiles.type="nodegraphics"/><graph edgedefault="directed" id="G">
+  <node id="n0" yfiles.foldertype="group">{GROUP.format("Group 1")}<graph edgedefault="directed" id="n0:">{NODE.format("n0::n0", "a")}
+    <node id="n0::n1" yfiles.foldertype="folder">{GROUP.format("Inner")}<graph edgedefault="directed" id="n0::n1:">
+    {NODE.format("n0::n1::n0", "b")}</graph></node></graph></node>
+  <node id="n1" yfiles.foldertype="group"><graph edgedefault="directed" id="n1:">{NODE.format("n1::n0", "c")}</graph></node>
+  <node id="n2" yfiles.foldertype="group">{GROUP.format("")}<graph edgedefault="directed" id="n2:"/></node>
+  <edge id="e0" source="n0::n0" target="n1"/></graph></graphml>"""
+GML = """Creator "yFiles"\nVersion "2.18"\ngraph\n[ hierarchic 1 directed 1
+  node [ id 0 label "a" gid 2 ] node [ id 1 label "b" gid 2 ]
+  node [ id 2 label "Group 1" graphics [ type "roundrectangle" fill "#F5F5F5" ] isGroup 1 gid 4 LabelGraphics [ anchor "b" ] ]
+  node [ id 3 label "c" ] node [ id 4 label "Outer" isGroup 1 ] node [ id 5 label "Self" isGroup 1 gid 5 ]
+  node [ id 6 label "d" gid 5 ]
+  edge [ source 0 target 1 ] edge [ source 3 target 0 ] edge [ source 3 target 5 ] ]"""
+
 
 def of(text: str, form: str = "dot") -> Graph:
     """The graph of a text."""
@@ -118,10 +138,37 @@ class Dot(unittest.TestCase):
 @support.needs_networkx
 class GraphML(unittest.TestCase):
     def test_nested_graphs(self) -> None:
-        """A node with nodes inside is one of the members of its cluster, and has the label."""
-        graph = of(support.GRAPHS["nested.graphml"].read_text(encoding="utf-8"), "graphml")
-        self.assertEqual(members(graph), {"server": {"server", "cache", "store"}})
-        self.assertEqual([(one.label, one.parent) for one in graph.clusters], [("", None)])
+        """A node with nodes inside is one of the members of its cluster, and both have its label."""
+        text = support.GRAPHS["nested.graphml"].read_text(encoding="utf-8")
+        for more, label in (("", "server"), ('<data key="text">The server</data>', "The server")):
+            graph = of(text.replace('<node id="server">', '<node id="server">' + more), "graphml")
+            self.assertEqual(members(graph), {"server": {"server", "cache", "store"}})
+            self.assertEqual([(one.label, one.parent) for one in graph.clusters], [(label, None)])
+            self.assertEqual(graph.vertices[1].label, label)
+
+    def test_groups_of_yed(self) -> None:
+        """A group is a frame with its label; one at which an edge ends is a vertex too. Graphs in it may be empty."""
+        graph = of(YED, "graphml")
+        self.assertEqual([(one.name, one.label, one.parent) for one in graph.clusters],
+                         [("n0", "Group 1", None), ("n0::n1", "Inner", 0), ("n1", "n1", None), ("n2", "", None)])
+        self.assertEqual(members(graph), {"n0": {"n0::n0"}, "n0::n1": {"n0::n1::n0"}, "n1": {"n1", "n1::n0"}, "n2": set()})
+        self.assertEqual([vertex.label for vertex in graph.vertices], ["a", "b", "n1", "c"])
+        look = graph.clusters[0].look
+        self.assertEqual((look.fill, look.colour, look.dash, look.font.size, look.is_rounded, look.is_label_below),
+                         (Colour("#f5f5f5"), Colour("#000000"), Dash.DASHED, 15, True, False))
+
+
+@support.needs_networkx
+class Gml(unittest.TestCase):
+    def test_groups_of_yed(self) -> None:
+        """A node lies in the group that is its gid; a group that lies in itself is outermost."""
+        graph = of(GML, "gml")
+        self.assertEqual([(one.name, one.label, one.parent) for one in graph.clusters],
+                         [("Outer", "Outer", None), ("Group 1", "Group 1", 0), ("Self", "Self", None)])
+        self.assertEqual(members(graph), {"Outer": set(), "Group 1": {"a", "b"}, "Self": {"Self", "d"}})
+        self.assertEqual((graph.clusters[1].look.fill, graph.clusters[1].look.is_label_below), (Colour("#f5f5f5"), True))
+        self.assertEqual([(graph.vertices[edge.tail].label, graph.vertices[edge.head].label) for edge in graph.edges],
+                         [("a", "b"), ("c", "a"), ("c", "Self")])
 
 
 if __name__ == "__main__":

@@ -7,21 +7,28 @@ import unittest
 
 import support
 from dot_grammar import PortGrammar
+from drawing_checker import on_outer_face
+from planarbend.command import named
 from planarbend.draw import draw
 from planarbend.drawing.drawn import Drawing
 from planarbend.drawing.nest_search import NestSearch, planarized
 from planarbend.drawing.nesting import nesting_of
+from planarbend.drawing.plans import Options
 from planarbend.graph import Graph
 from planarbend.layout.library import LibraryEngine
 from planarbend.programs import PlanarbendError
 from planarbend.readers import read
 from port_judge import Judge
+from test_clusters import CLUSTERS
 
 NESTED = """digraph { compound=true; subgraph cluster_a { label="outer A"; a; subgraph cluster_b { style=filled; b; c; b -> c } subgraph cluster_e {
   label=empty } } subgraph cluster_d { label=D; labelloc=b; d; e } a -> b; c -> d; e -> a; a -> e [lhead=cluster_d, ltail=cluster_a]; f -> c; d -> d }"""
 LONELY = """graph { subgraph cluster_a { label=one; a } subgraph cluster_b { label=two; subgraph cluster_c { b; c } d } subgraph cluster_f {
   label="nothing in it" } e }"""
 K33 = "graph { subgraph cluster_a { a; b; x } subgraph cluster_b { c; y; z } a -- x; a -- y; a -- z; b -- x; b -- y; b -- z; c -- x; c -- y; c -- z }"
+# Any three of four vertices that are all joined have a common face, all four only where two edges cross.
+K4 = "graph { a -- b; a -- c; a -- d; b -- c; b -- d; c -- d; subgraph cluster_x { x; y; subgraph cluster_z { z } } x -- a; y -- b; z -- a }"
+RECORDS = """graph { node [shape=record]; subgraph cluster_in { subgraph cluster_r { r [label="<p> x|<q> y"] } } u; v; r:p -- u; r:q -- v; u -- v }"""
 
 
 def of(text: str) -> Graph:
@@ -149,6 +156,27 @@ class Drawn(unittest.TestCase):
         self.assertEqual(len(made.boxes), 3)
         self.assertEqual([warning.partition(":")[0] for warning in graph.looks.warnings], ["clusters are drawn without frames"] * 2)
         self.assertNotIn("frames", json.loads(made.text("json")))
+
+    def test_outer_face(self) -> None:
+        """Vertices outside all clusters come to the face outside all frames, also those that no drawing has there without a crossing."""
+        for text, names, crossings in ((CLUSTERS, "start", 0), (CLUSTERS, "end", 0), (CLUSTERS, "start,end", 1), (K4, "a,b", 0),
+                                       (K4, "a,d", 0), (K4, "a,b,c,d", 1), (RECORDS, "u,v", 0)):
+            graph = of(text)
+            made = draw(graph, Options(named(graph, names)), self.engine)
+            self.assertEqual((len(made.frames), graph.looks.warnings), (len(graph.clusters), []), names)
+            self.assertEqual(len(made.crossings), crossings, names)
+            told = json.loads(made.text("json"))
+            told["vertices"] += [{"kind": "frame", "box": frame.box} for frame in made.frames.values()]
+            self.assertLessEqual(set(named(graph, names)), on_outer_face(told), names)
+
+    def test_outer_face_within_a_frame(self) -> None:
+        """It is not possible: the warning says where the vertex is; ports are kept."""
+        graph = of(RECORDS)
+        made = draw(graph, Options(named(graph, "u,r")), self.engine)
+        self.assertEqual((made.frames, set(made.meets)), ({}, {(0, False), (1, False)}))
+        self.assertEqual(graph.looks.warnings, ["clusters are drawn without frames: cluster_in, cluster_r: no vertex within a frame is on the"
+                                                " outer face, as it must be: r (in cluster_r)"])
+        self.assertLessEqual(set(named(graph, "u,r")), on_outer_face(json.loads(made.text("json"))))
 
 
 if __name__ == "__main__":

@@ -3,6 +3,7 @@ from __future__ import annotations
 
 import json
 import unittest
+import xml.etree.ElementTree as xml
 from fractions import Fraction
 
 import support
@@ -11,12 +12,14 @@ from planarbend.draw import draw
 from planarbend.drawing.drawn import Drawing
 from planarbend.drawing.field_items import in_order
 from planarbend.drawing.sites import Sites, rectangles
+from planarbend.drawing.picture import line_of
 from planarbend.layout.library import LibraryEngine
 from planarbend.ports import Compass, End, Field, Side, Span
 from planarbend.programs import PlanarbendError
 from planarbend.readers import read
 from port_files import FILES
 from port_judge import Judge
+from svg_reader import SVG
 
 ROW = Field(fields=(Field("a", "p"), Field("b", "q", Span(column=1)), Field("c", "r", Span(column=2))))
 STRUCTS = """digraph { node [shape=record]; s1 [label="<f0> left|<f1> middle|<f2> right"]; s2 [label="<f0> one|<f1> two"];
@@ -90,9 +93,26 @@ class Drawn(unittest.TestCase):
         self.assertEqual(set(made.meets), {(0, False), (0, True), (1, False), (1, True)})
         self.assertEqual([len(made.field_boxes[number]) for number in range(3)], [4, 3, 11])
 
+    def test_lines_over_boxes(self) -> None:
+        """The line to the field in the middle of the last record lies over this record, below its texts; the other line is below
+        all boxes."""
+        elements = [one for one in xml.fromstring(self.judged(STRUCTS).text("svg")).iter()
+                    if one.tag in (SVG + "polyline", SVG + "rect", SVG + "text")]
+        order = "".join("l" if one.tag == SVG + "polyline" else "b" if one.tag == SVG + "rect" else "t" for one in elements)
+        self.assertRegex(order, "^blbbblt+$")  # the first box is the paper
+
     def test_compass_points(self) -> None:
         """Also of a loop, and of a vertex that is no record."""
         self.judged(COMPASS)
+
+    def test_compass_points_of_outlines(self) -> None:
+        """Lines end at the outline of a diamond: the two edges of its outline from the south to the east and the west."""
+        made = self.judged("digraph { d [shape=diamond, label=diamond]; d:s -> a; d:se -> b; d:w -> a }")
+        left, top, right, bottom = made.boxes[0]
+        for number in range(3):
+            x, y = line_of(made, number)[0]
+            across, down = abs(2 * x - left - right) / (right - left), abs(2 * y - top - bottom) / (bottom - top)
+            self.assertAlmostEqual(across + down, 1, delta=.02)
 
     def test_tables(self) -> None:
         """The line to the field in the middle passes over one of those around it, and goes straight on from the border."""

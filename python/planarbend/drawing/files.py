@@ -1,83 +1,50 @@
 """A drawing as DOT with positions, as GraphML and as GML, for other programs."""
 from __future__ import annotations
 
-from collections import Counter
-from collections.abc import Mapping
+from collections.abc import Sequence
 from html import escape
 
+from planarbend.clusters import clusters_of
 from planarbend.drawing.drawn import Box, Drawing, Point
+from planarbend.drawing.file_text import (PLAIN, Values, address, attribute, gml_text, hue, identifier, lettered, listed,
+                                          names_of, painted)
+from planarbend.drawing.frame_picture import STROKE as FRAME_STROKE
 from planarbend.drawing.items import size_of
+from planarbend.drawing.nested_files import (cluster_names, dot_clusters, ended, field_at, field_values, group_names,
+                                             has_columns, port_values, steps, table_text, without_colons)
 from planarbend.drawing.picture import DOT, FILL, FILLS, INK, LABEL_FONT, LINE, STROKE
 from planarbend.drawing.symbols import ELLIPSES, RING, WHOLE, corner_of
 from planarbend.drawing.texts import FONT, allowed, lines_of
 from planarbend.graph import Arrow, Graph, Kind
-from planarbend.style import Colour, EdgeLook, Font, NodeLook, Outline
+from planarbend.readers.dot_clusters import BEGINNING
+from planarbend.readers.port_data import FIELDS
+from planarbend.style import Across, ClusterLook, Colour, EdgeLook, Look, NodeLook, Outline
 
 INCH = 72.0  # pixels, as one pixel is written as one point
 ARROW = 8.0  # pixels, the length of an arrowhead
 ARROW_SIZE = 0.8  # the same, in Graphviz's unit
-PLAIN = "DejaVu Sans"
 TAB = 12.0  # pixels, three times the greatest height of the tab of a folder in Graphviz
 PLAIN_LOOK = NodeLook()
 YED: dict[Outline | None, str] = {
     Outline.ELLIPSE: "ellipse", Outline.CIRCLE: "ellipse", Outline.DOUBLE_CIRCLE: "ellipse", Outline.POINT: "ellipse",
     Outline.DIAMOND: "diamond", Outline.HEXAGON: "hexagon", Outline.OCTAGON: "octagon"}
 
-Values = Mapping[str, object]
-
-
-def names_of(graph: Graph) -> list[str]:
-    """Return a name for each vertex; all are different."""
-    used, found = Counter(vertex.name for vertex in graph.vertices), []
-    seen: set[str] = set()
-    for number, vertex in enumerate(graph.vertices):
-        name = vertex.name
-        while name in seen or (used[vertex.name] > 1 and vertex.name in seen and name in used):
-            name = f"{vertex.name} {number}" if name == vertex.name else name + "+"
-        seen.add(name)
-        found.append(name)
-    return found
-
-
 def is_directed(graph: Graph) -> bool:
     """Return whether a graph is written as a directed one: its file says so, or an edge has an arrow."""
     return graph.directed or any(edge.arrow is not Arrow.NONE for edge in graph.edges)
 
 
-def quoted(text: str) -> str:
-    """Return a text as a string of DOT."""
-    return '"' + text.replace("\\", "\\\\").replace('"', '\\"').replace("\r", "").replace("\n", "\\n") + '"'
-
-
-def listed(values: Values) -> str:
-    """Return attributes of DOT in brackets, without those that are None."""
-    given = [f"{key}={quoted(value) if isinstance(value, str) else f'{value:g}'}" for key, value in values.items()
-             if value is not None]
-    return f" [{', '.join(given)}]" if given else ""
-
-
-def painted(colour: Colour | None, plain: str | None = None) -> str | None:
-    """Return a colour as DOT has it, or the plain one if there is none."""
-    if colour is None or colour.text == "none":
-        return plain if colour is None else "transparent"
-    opacity = f"{round(255 * colour.opacity):02x}" if colour.opacity < 1 and colour.text.startswith("#") else ""
-    return colour.text + opacity
-
-
-def lettered(font: Font, size: float) -> dict[str, object]:
-    """Return the attributes of a font; `size` is that of the plain one."""
-    face = ("-Bold" if font.is_bold else "") + ("-Italic" if font.is_italic else "")
-    family = font.family or (PLAIN if face else None)
-    return {"fontname": family and family + face, "fontsize": font.size, "fontcolor": painted(font.colour)}
-
-
 def dot(drawing: Drawing) -> str:
     """Return the drawing as DOT with positions, sizes and splines: `neato -n2` shows it. A pixel is written as a point."""
-    graph, names, height = drawing.graph, names_of(drawing.graph), drawing.size[1]
-    joint = "->" if is_directed(graph) else "--"
+    drawing = without_colons(drawing)
+    graph, names = drawing.graph, names_of(drawing.graph)
+    joint, clusters = "->" if is_directed(graph) else "--", cluster_names(graph, beginning=BEGINNING)
+    is_column = has_columns(graph)
     whole: dict[str, object] = {
-        "bb": f"0,0,{drawing.size[0]:g},{height:g}", "label": graph.looks.graph.label or None,
-        "bgcolor": painted(graph.looks.graph.background), **lettered(graph.looks.graph.font, FONT)}
+        "bb": f"0,0,{drawing.size[0]:g},{drawing.size[1]:g}", "label": graph.looks.graph.label or None,
+        "bgcolor": painted(graph.looks.graph.background), **lettered(graph.looks.graph.font, FONT),
+        "rankdir": "LR" if is_column else None,
+        "compound": "true" if any(end.cluster is not None for end in graph.ends.values()) else None}
     nodes = {"shape": "box", "style": "filled,rounded", "fillcolor": FILL, "color": LINE, "penwidth": STROKE,
              "fontname": PLAIN, "fontsize": FONT, "fontcolor": INK, "fixedsize": "true"}
     edges = {"color": LINE, "penwidth": STROKE, "arrowsize": ARROW_SIZE, "fontname": PLAIN, "fontsize": LABEL_FONT,
@@ -85,9 +52,11 @@ def dot(drawing: Drawing) -> str:
     found = [f"{'digraph' if is_directed(graph) else 'graph'} {{", f"  graph{listed(whole)};", f"  node{listed(nodes)};",
              f"  edge{listed(edges)};"]
     for number, name in enumerate(names):
-        found.append(f"  {quoted(name)}{listed(dot_node(drawing, number))};")
+        found.append(f"  {identifier(name)}{listed(dot_node(drawing, number) | field_values(drawing, number, is_column))};")
+    found += dot_clusters(drawing, names, clusters)
     for number, edge in enumerate(graph.edges):
-        found.append(f"  {quoted(names[edge.tail])} {joint} {quoted(names[edge.head])}{listed(dot_edge(drawing, number))};")
+        values = dot_edge(drawing, number) | port_values(graph, number, clusters)
+        found.append(f"  {identifier(names[edge.tail])} {joint} {identifier(names[edge.head])}{listed(values)};")
     return "\n".join([*found, "}\n"])
 
 
@@ -141,7 +110,7 @@ def shape_of(kind: Kind, look: NodeLook, box: Box, label: str) -> dict[str, obje
 def dot_edge(drawing: Drawing, number: int) -> dict[str, object]:
     """Return the attributes of an edge."""
     edge, look = drawing.graph.edges[number], drawing.graph.looks.edges.get(number, EdgeLook())
-    found: dict[str, object] = {"pos": spline(drawing.lines[number], edge.arrow, drawing.size[1])}
+    found: dict[str, object] = {"pos": spline(ended(drawing, number), edge.arrow, drawing.size[1])}
     way = {Arrow.NONE: "none", Arrow.FORWARD: "forward", Arrow.BACK: "back", Arrow.BOTH: "both"}[edge.arrow]
     if way != ("forward" if is_directed(drawing.graph) else "none"):
         found["dir"] = way
@@ -184,24 +153,22 @@ def shortened(end: Point, before: Point) -> Point:
     return end[0] + share * (before[0] - end[0]), end[1] + share * (before[1] - end[1])
 
 
-def gml_text(text: str) -> str:
-    """Return a text as a string of GML, which is ASCII."""
-    plain = escape(allowed(text))
-    return '"' + "".join(letter if " " <= letter <= "~" else f"&#{ord(letter)};" for letter in plain) + '"'
-
-
 def gml(drawing: Drawing) -> str:
-    """Return the drawing as GML, with the middle and the size of each box, and the points of each line, y downwards."""
-    graph = drawing.graph
+    """Return the drawing as GML, with the middle and the size of each box, and the points of each line, y downwards. Clusters with
+    frames are groups of yEd."""
+    graph, clusters = drawing.graph, cluster_names(drawing.graph)
+    homes = {vertex: number for vertex, number in clusters_of(graph.clusters).items() if number in drawing.frames}
     found = ["graph [", f"  directed {is_directed(graph):d}", "  multigraph 1"]
-    for number, (vertex, (left, top, right, bottom)) in enumerate(zip(graph.vertices, drawing.boxes, strict=True)):
+    for number, vertex in enumerate(graph.vertices):
         look = graph.looks.nodes.get(number, PLAIN_LOOK)
         is_round = look.outline is None or look.is_rounded
+        more = f" gid {len(graph.vertices) + homes[number]}" if number in homes else ""
+        more += f" {FIELDS} {gml_text(table_text(graph.fields[number]))}" if number in graph.fields else ""
         kind = YED.get(look.outline, "roundrectangle" if is_round else "rectangle")
-        more = "".join(f' {key} "{colour.text}"' for key, colour in (("fill", look.fill), ("outline", look.colour)) if colour)
-        found.append(f'  node [ id {number} label {gml_text(vertex.label)} name {gml_text(vertex.name)} graphics ['
-                     f' x {(left + right) / 2} y {(top + bottom) / 2} w {right - left} h {bottom - top}'
-                     f' type "{kind}"{more} ] ]')
+        found.append(f'  node [ id {number} label {gml_text(vertex.label)} name {gml_text(vertex.name)}{more}'
+                     f' graphics [ {gml_box(drawing.boxes[number], kind, look)} ] ]')
+    for number in drawing.frames:
+        found.append(gml_group(drawing, number, clusters[number]))
     for number, (edge, line) in enumerate(zip(graph.edges, drawing.lines, strict=True)):
         edge_look = graph.looks.edges.get(number, EdgeLook())
         points = " ".join(f"point [ x {x} y {y} ]" for x, y in line)
@@ -210,34 +177,102 @@ def gml(drawing: Drawing) -> str:
         for key, arrows in (("sourceArrow", (Arrow.BACK, Arrow.BOTH)), ("targetArrow", (Arrow.FORWARD, Arrow.BOTH))):
             more += f' {key} "standard"' if edge.arrow in arrows else ""
         label = f" label {gml_text(edge.label)}" if edge.label else ""
+        label += "".join(f" {key} {gml_text(value)}" for key, value in port_values(graph, number, clusters).items())
         found.append(f'  edge [ source {edge.tail} target {edge.head}{label}'
                      f' graphics [ type "line"{more} Line [ {points} ] ] ]')
     return "\n".join([*found, "]\n"])
 
 
-def attribute(text: str) -> str:
-    """Return a text as the value of an attribute of XML, in quotes."""
-    return '"' + escape(allowed(text)).replace("\n", "&#10;") + '"'
+def gml_box(box: Box, kind: str, look: Look) -> str:
+    """Return the graphics of a node in GML."""
+    left, top, right, bottom = box
+    more = "".join(f' {key} "{colour.text}"' for key, colour in (("fill", look.fill), ("outline", look.colour)) if colour)
+    return f'x {(left + right) / 2} y {(top + bottom) / 2} w {right - left} h {bottom - top} type "{kind}"{more}'
+
+
+def gml_group(drawing: Drawing, number: int, name: str) -> str:
+    """Return a cluster in GML, by a name."""
+    one, first = drawing.graph.clusters[number], len(drawing.graph.vertices)
+    kind, more = "roundrectangle" if one.look.is_rounded else "rectangle", "" if one.look.fill else " hasFill 0"
+    home = "" if one.parent is None else f" gid {first + one.parent}"
+    return (f"  node [ id {first + number} label {gml_text(one.label)} name {gml_text(name)} isGroup 1{home}"
+            f" graphics [ {gml_box(drawing.frames[number].box, kind, one.look)}{more} ]"
+            f' LabelGraphics [ anchor "{label_place(one.look)}" ] ]')
+
+
+def label_place(look: ClusterLook) -> str:
+    """Return where the label of a frame is, in yEd's words."""
+    return ("b" if look.is_label_below else "t") + ("" if look.across is Across.CENTRE else str(look.across.value))
 
 
 def graphml(drawing: Drawing) -> str:
-    """Return the drawing as GraphML, with coordinates as numbers for networkx and Gephi, and as graphics for yEd."""
-    graph = drawing.graph
+    """Return the drawing as GraphML, with coordinates as numbers for networkx and Gephi, and as graphics for yEd. Clusters with
+    frames are nodes with their nodes inside."""
+    graph, names = drawing.graph, names_of(drawing.graph)
+    clusters = group_names(graph, names)
+    ends = {key for number in range(len(graph.edges)) for key in port_values(graph, number, clusters)}
     keys = [("label", "node", "string"), *((key, "node", "double") for key in ("x", "y", "width", "height")),
-            ("text", "edge", "string"), ("points", "edge", "string")]
+            ("text", "edge", "string"), ("points", "edge", "string"),
+            *([(FIELDS, "node", "string")] if graph.fields else []), *((key, "edge", "string") for key in sorted(ends))]
     found = ['<?xml version="1.0" encoding="UTF-8"?>', '<graphml xmlns="http://graphml.graphdrawing.org/xmlns"'
              ' xmlns:y="http://www.yworks.com/xml/graphml">',
              *(f'<key id="{key}" for="{of}" attr.name="{"label" if key == "text" else key}" attr.type="{kind}"/>'
                for key, of, kind in keys),
              '<key id="yn" for="node" yfiles.type="nodegraphics"/><key id="ye" for="edge" yfiles.type="edgegraphics"/>',
-             f'<graph edgedefault="{"directed" if is_directed(graph) else "undirected"}">']
-    names = names_of(graph)
-    for number, name in enumerate(names):
-        found.append(f"<node id={attribute(name)}>{graphml_node(drawing, number)}</node>")
+             f'<graph edgedefault="{default_of(graph)}">']
+    found += graphml_nodes(drawing, names, clusters)
     for number, edge in enumerate(graph.edges):
-        found.append(f"<edge id=\"e{number}\" source={attribute(names[edge.tail])} target={attribute(names[edge.head])}>"
-                     f"{graphml_edge(drawing, number)}</edge>")
+        fields = [field_at(graph, number, is_head) for is_head in (False, True)]
+        ports = "".join(f" {key}={attribute(one.port)}" for key, one in zip(("sourceport", "targetport"), fields) if one)
+        found.append(f"<edge id=\"e{number}\" source={attribute(names[edge.tail])} target={attribute(names[edge.head])}{ports}>"
+                     f"{graphml_edge(drawing, number)}{data_of(port_values(graph, number, clusters))}</edge>")
     return "\n".join([*found, "</graph>", "</graphml>\n"])
+
+
+def default_of(graph: Graph) -> str:
+    """Return the direction of edges in GraphML."""
+    return "directed" if is_directed(graph) else "undirected"
+
+
+def data_of(values: Values) -> str:
+    """Return values as data of GraphML."""
+    return "".join(f'<data key="{key}">{escape(allowed(str(value)), quote=False)}</data>' for key, value in values.items())
+
+
+def graphml_nodes(drawing: Drawing, names: Sequence[str], clusters: Sequence[str]) -> list[str]:
+    """Return all nodes of GraphML, those of a cluster with a frame inside that of the cluster; `names` and `clusters` are the names
+    of vertices and clusters."""
+    graph, home = drawing.graph, clusters_of(drawing.graph.clusters)
+    own = {name: number for number, name in enumerate(names)}  # of the vertices that clusters are, too
+    node_of = [f"<node id={attribute(name)}>{graphml_node(drawing, number)}" for number, name in enumerate(names)]
+    found = [f"{node}</node>" for number, node in enumerate(node_of) if home.get(number) not in drawing.frames]
+    for number, is_end in steps(graph.clusters, sorted(drawing.frames)):
+        name = clusters[number]
+        if is_end:
+            found.append("</graph></node>")
+            continue
+        found.append(node_of[own[name]] if name in own else f'<node id={attribute(name)} yfiles.foldertype="group">'
+                     + graphml_group(drawing, number))
+        found[-1] += f'<graph id={attribute(name + ":")} edgedefault="{default_of(graph)}">'
+        found += [f"{node_of[vertex]}</node>" for vertex in graph.clusters[number].members if names[vertex] != name]
+    return found
+
+
+def graphml_group(drawing: Drawing, number: int) -> str:
+    """Return the data of a cluster with a frame."""
+    one, (left, top, right, bottom) = drawing.graph.clusters[number], drawing.frames[number].box
+    look, size = one.look, f' fontSize="{one.look.font.size:g}"' if one.look.font.size else ""
+    text = f">{escape(allowed(one.label), quote=False)}</y:NodeLabel>" if one.label else ' hasText="false"/>'
+    place = {"x": (left + right) / 2, "y": (top + bottom) / 2, "width": right - left, "height": bottom - top}
+    return "".join([
+        '<data key="yn"><y:ProxyAutoBoundsNode><y:Realizers active="0"><y:GroupNode>',
+        f'<y:Geometry x="{left}" y="{top}" width="{right - left}" height="{bottom - top}"/>',
+        f'<y:Fill {hue(look.fill or Colour("none"))}/><y:BorderStyle {hue(look.colour or Colour(LINE))}'
+        f' type="{look.dash.value if look.dash else "line"}" width="{FRAME_STROKE if look.width is None else look.width:g}"/>',
+        f'<y:NodeLabel modelName="internal" modelPosition="{label_place(look)}"{size}{text}',
+        f'<y:Shape type="{"roundrectangle" if look.is_rounded else "rectangle"}"/>',
+        '</y:GroupNode></y:Realizers></y:ProxyAutoBoundsNode></data>',
+        data_of({"label": one.label} if one.label else {}), data_of(place)])
 
 
 def graphml_node(drawing: Drawing, number: int) -> str:
@@ -253,8 +288,15 @@ def graphml_node(drawing: Drawing, number: int) -> str:
         f'<data key="yn"><y:ShapeNode><y:Geometry x="{left}" y="{top}" width="{right - left}" height="{bottom - top}"/>',
         f'<y:Fill {hue(fill)}/><y:BorderStyle {hue(line)} type="{look.dash.value if look.dash else "line"}"'
         f' width="{STROKE}"/><y:NodeLabel{size}>{escape(allowed(vertex.label), quote=False)}</y:NodeLabel>'
-        f'<y:Shape type="{kind}"/></y:ShapeNode></data>',
-        *(f'<data key="{key}">{escape(allowed(str(value)), quote=False)}</data>' for key, value in values.items())])
+        f'<y:Shape type="{kind}"/></y:ShapeNode></data>', data_of(values), graphml_fields(drawing.graph, number)])
+
+
+def graphml_fields(graph: Graph, number: int) -> str:
+    """Return the ports of a node with fields, and the fields as data."""
+    if number not in graph.fields:
+        return ""
+    names = dict.fromkeys(one.port for one, _ in graph.fields[number].walk() if one.port)
+    return data_of({FIELDS: table_text(graph.fields[number])}) + "".join(f"<port name={attribute(name)}/>" for name in names)
 
 
 def graphml_edge(drawing: Drawing, number: int) -> str:
@@ -274,13 +316,3 @@ def graphml_edge(drawing: Drawing, number: int) -> str:
         f' width="{STROKE if look.width is None else look.width:g}"/><y:Arrows source="{arrows[0]}" target="{arrows[1]}"/>',
         f"<y:EdgeLabel>{escape(allowed(edge.label), quote=False)}</y:EdgeLabel>" if edge.label else "",
         "</y:PolyLineEdge></data>"])
-
-
-def hue(colour: Colour) -> str:
-    """Return the attributes of a colour for yEd."""
-    return 'hasColor="false"' if colour.text == "none" else f'color="{colour.text}"'
-
-
-def address(link: str) -> str | None:
-    """Return a link as Graphviz can write it into XML, or None if there is none."""
-    return "".join(f"%{ord(letter):02X}" if letter in '<>"' else letter for letter in link).replace("&", "&amp;") or None

@@ -1,14 +1,16 @@
 """Good shapes of a component with clusters: embeddings with few crossings, directions with few bends, and the core's drawings."""
 from __future__ import annotations
 
-from collections.abc import Iterable, Iterator
+from collections.abc import Iterable, Iterator, Sequence
 
+from planarbend.clusters import clusters_of
 from planarbend.drawing.frame_items import NoFrames
 from planarbend.drawing.given import given_shape
 from planarbend.drawing.nest_search import planarized
 from planarbend.drawing.nested import NestedPlanarization
 from planarbend.drawing.resite import resited
 from planarbend.drawing.nesting import nesting_of
+from planarbend.drawing.outer_search import planarized_together
 from planarbend.drawing.plans import Options
 from planarbend.drawing.shape import Shape
 from planarbend.drawing.turns import Directed, Program, outer_faces
@@ -27,15 +29,22 @@ def framed_shapes(graph: Graph, options: Options, engine: Engine) -> list[Shape]
     Raises
     ------
     NoFrames
-        There is no library, the component takes too many vertices, or edges cannot be straight.
+        There is no library, the component takes too many vertices, edges cannot be straight, or vertices of `outer` lie in a
+        cluster or on no common face.
     """
     if not engine.keeps:
         raise NoFrames("frames need the library libplanarbend of this version")
+    check_outer(graph, options.outer)
     searches = planarized(nesting_of(graph), options.seed, options.effort)
     if searches[0][0].nesting.ports:
         planars = resited(searches)
     else:
         planars = [planar for _, planar in searches]
+    if len(options.outer) > 1 and not any(faces_with(planar, options.outer) for planar in planars):
+        planars = planarized_together(nesting_of(graph), options.outer, options.seed, options.effort)
+    if not planars:
+        names = ", ".join(graph.vertices[vertex].name for vertex in options.outer)
+        raise NoFrames(f"no embedding was found with these vertices on one face outside all frames: {names}")
     if min(len(planar.rotation) for planar in planars) > engine.most_vertices:
         raise NoFrames(f"they take more than {engine.most_vertices} vertices and crossings")
     ways = [upright(one, options) for one in sorted(directed(planars, options), key=lambda one: one.cost)[:MOST_WAYS]]
@@ -47,13 +56,25 @@ def framed_shapes(graph: Graph, options: Options, engine: Engine) -> list[Shape]
     return found
 
 
+def check_outer(graph: Graph, outer: Sequence[int]) -> None:
+    """Raise `NoFrames` if vertices that must lie on the outer face lie in a cluster, whose frame is between them and this face."""
+    home = clusters_of(graph.clusters)
+    names = [f"{graph.vertices[vertex].name} (in {graph.clusters[home[vertex]].name})" for vertex in outer if vertex in home]
+    if names:
+        raise NoFrames(f"no vertex within a frame is on the outer face, as it must be: {', '.join(names)}")
+
+
+def faces_with(planar: NestedPlanarization, vertices: Sequence[int]) -> list[int]:
+    """Return the faces outside all frames with all of some vertices, the longest first."""
+    return [face for face in outer_faces(planar) if {planar.tail[dart] for dart in planar.walks[face]}.issuperset(vertices)]
+
+
 def directed(planars: Iterable[NestedPlanarization], options: Options) -> Iterator[Directed]:
     """Yield embeddings with outer faces that have all of `outer`, and directions in which vertices with ports may lie on their
     sides."""
     for planar in planars:
         program = Program(planar, (), options.straight)
-        faces = [face for face in outer_faces(planar)
-                 if {planar.tail[dart] for dart in planar.walks[face]}.issuperset(options.outer)]
+        faces = faces_with(planar, options.outer)
         for face in faces[:max(1, min(MOST_FACES, MOST_WORK // len(planar.tail)))]:
             try:
                 yield program.solved(face, is_free=True)

@@ -55,7 +55,7 @@ def end_json(drawing: Drawing, edge: int, is_head: bool, at: Point) -> dict[str,
     """Return an end of an edge: the port, the compass point and the cluster that its file names, and the point."""
     end: End = drawing.graph.ends[edge, is_head]
     found: dict[str, Any] = {"at": list(at)}
-    if end.cluster is not None:
+    if end.cluster is not None and end.cluster in drawing.frames:
         return found | {"cluster": drawing.graph.clusters[end.cluster].name}
     ends = drawing.graph.edges[edge]
     if end.field is not None:

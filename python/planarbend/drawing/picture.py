@@ -4,6 +4,7 @@ from __future__ import annotations
 import errno
 import math
 import os
+from collections.abc import Sequence
 
 from planarbend.drawing.drawn import Box, Drawing, Point
 from planarbend.drawing.field_picture import field_lines, field_texts
@@ -15,6 +16,7 @@ from planarbend.drawing.symbols import ROUND, WHOLE, border, drawn_on, elements
 from planarbend.drawing.texts import FAMILY, FONT, LINE_HEIGHT, LONGEST_LINE, lines_of, svg_text, text_lines, text_size
 from planarbend.drawing.themes import paper, themed
 from planarbend.graph import Kind, Vertex
+from planarbend.ports import End
 from planarbend.style import EdgeLook, NodeLook, Outline
 
 STROKE = 1.6  # pixels, of lines
@@ -42,7 +44,8 @@ def svg(drawing: Drawing, theme: str = "light") -> str:
     markers = Markers(drawing.graph, LINE, cover)
     (width, height), caption = captioned(drawing)
     text = svg_text(width, height, [*markers.elements(), *frame_elements(drawing, LINE, INK, theme),
-                                    *line_elements(drawing, markers), *box_elements(drawing, theme),
+                                    *line_elements(drawing, markers, False),
+                                    *box_elements(drawing, theme, line_elements(drawing, markers, True)),
                                     *label_elements(drawing, cover), *net_label_elements(drawing), *caption], behind)
     return themed(text, theme)
 
@@ -74,24 +77,36 @@ def line_of(drawing: Drawing, number: int) -> list[Point]:
             least = size_of(vertex.label, vertex.kind, look)
             corners = border(look.outline, drawing.boxes[end], least, ROUND * look.is_rounded)
             ends.append(drawn_on(corners, at, before))
-    meets = [drawing.meets.get((number, is_head)) for is_head in (False, True)]
-    ends = [end if met is None else met for end, met in zip(ends, meets)]
+    for is_head in (False, True):
+        one = drawing.graph.ends.get((number, is_head), End())
+        if one.field is not None or one.cluster is not None:
+            ends[is_head] = drawing.meets.get((number, is_head), ends[is_head])
     return [ends[0], *line[1:-1], ends[1]]
 
 
-def line_elements(drawing: Drawing, markers: Markers) -> list[str]:
-    """Return the lines of the edges."""
+def enters(drawing: Drawing, number: int) -> bool:
+    """Return whether an edge meets a field more than a pixel inside the box of a vertex."""
+    for is_head, vertex in enumerate((drawing.graph.edges[number].tail, drawing.graph.edges[number].head)):
+        x, y = drawing.meets.get((number, bool(is_head)), drawing.boxes[vertex][:2])
+        left, top, right, bottom = drawing.boxes[vertex]
+        if left + 1 < x < right - 1 and top + 1 < y < bottom - 1:
+            return True
+    return False
+
+
+def line_elements(drawing: Drawing, markers: Markers, are_inside: bool) -> list[str]:
+    """Return the lines of the edges that enter boxes, or of all others."""
     found = [f'<g fill="none" stroke="{LINE}" stroke-width="{STROKE}" stroke-linejoin="round">']
     for number, heads in enumerate(markers.at):
         look = drawing.graph.looks.edges.get(number, EdgeLook())
-        if look.is_visible:
+        if look.is_visible and enters(drawing, number) is are_inside:
             points = " ".join(f"{x:.1f},{y:.1f}" for x, y in line_of(drawing, number))
             found += wrapped(look, [f'<polyline points="{points}"{stroked(look)}{heads}/>'])
-    return found + ["</g>"]
+    return found + ["</g>"] if len(found) > 1 or not are_inside else []
 
 
-def box_elements(drawing: Drawing, theme: str) -> list[str]:
-    """Return the boxes with their names."""
+def box_elements(drawing: Drawing, theme: str, over: Sequence[str]) -> list[str]:
+    """Return the boxes with their names; `over` is between the two."""
     found = [f'<g stroke="{LINE}" stroke-width="{STROKE}">']
     texts = [f'<g fill="{INK}" font-family="{FAMILY}" font-size="{FONT}" text-anchor="middle">']
     for number, vertex in enumerate(drawing.graph.vertices):
@@ -104,7 +119,7 @@ def box_elements(drawing: Drawing, theme: str) -> list[str]:
         words = lettered(look.font) + (' fill="black"' if is_own else "")  # which the file expects on its own colours
         texts += wrapped(look, [line for text, at in field_texts(drawing, number) for line in text_lines(
             lines_of(text), (at[0] + at[2]) / 2, (at[1] + at[3]) / 2, height, words)])
-    return found + ["</g>", *net_elements(drawing), *texts, "</g>"]
+    return found + ["</g>", *net_elements(drawing), *over, *texts, "</g>"]
 
 
 def outline_elements(vertex: Vertex, look: NodeLook, box: Box) -> list[str]:

@@ -3,15 +3,14 @@ from __future__ import annotations
 
 from collections.abc import Sequence
 
-from planarbend.clusters import around, clusters_of
-from planarbend.ports import Compass, End, Field
+from planarbend.clusters import clusters_of, first_around
+from planarbend.ports import COMPASS, End, Field
 from planarbend.readers import records, tables
 from planarbend.readers.building import Builder
 from planarbend.readers.gvpr import Entry
 
 RECORDS = ("record", "Mrecord")
 LEVEL = ("LR", "RL")  # values of `rankdir` with which the outermost fields of a record are below each other
-COMPASS = {one.value: one for one in Compass}
 ANYWHERE = ("", "c", "_")  # compass points that name no side
 TRUE = ("true", "yes")
 BAD_RECORDS = "nodes whose label is none of a record"
@@ -83,13 +82,11 @@ class Ports:
 
     def frame(self, name: str, vertex: int, other: int) -> int | None:
         """Return the first cluster with a name if it is around a vertex and not around the other end of the edge, or None."""
-        clusters = self.graph.clusters
-        number = next((number for number, one in enumerate(clusters) if one.name == name), None)
-        if number in around(clusters, self.innermost.get(vertex)) and number not in around(clusters, self.innermost.get(other)):
-            return number
-        names = " and ".join(self.graph.vertices[one].name for one in (vertex, other))
-        self.strange.setdefault(NO_CLUSTERS, []).append(f"{names} ({name})")
-        return None
+        found = first_around(self.graph.clusters, name, self.innermost.get(vertex), self.innermost.get(other))
+        if found is None:
+            names = " and ".join(self.graph.vertices[one].name for one in (vertex, other))
+            self.strange.setdefault(NO_CLUSTERS, []).append(f"{names} ({name})")
+        return found
 
     def warn(self) -> None:
         """Add the warnings to the graph's looks."""

@@ -7,7 +7,7 @@ from typing import Any
 from xml.etree.ElementTree import Element
 
 from planarbend.readers.colours import colour_of, of_parts
-from planarbend.style import Colour, Dash, EdgeLook, Font, NodeLook, Outline
+from planarbend.style import Across, ClusterLook, Colour, Dash, EdgeLook, Font, Look, NodeLook, Outline
 
 YED = "{http://www.yworks.com/xml/graphml}"
 OUTLINES = {"rectangle": Outline.BOX, "rectangle3d": Outline.BOX, "roundrectangle": Outline.BOX, "ellipse": Outline.ELLIPSE,
@@ -54,6 +54,31 @@ def graphml_node(element: Element, values: Mapping[str, Any]) -> NodeLook:
     stroke = Colour("none") if line.get("hasColor") == "false" else colour(line.get("color"))
     return NodeLook(colour=stroke, fill=inside, width=number(line.get("width")), dash=DASHES.get(line.get("type", "")),
                     font=font(label), outline=OUTLINES.get(shape), is_rounded=shape == "roundrectangle")
+
+
+def graphml_label(element: Element) -> str | None:
+    """Return the text of yEd's first label of a node, or None if there is no label."""
+    found = next((one for data in element if data.tag.endswith("}data") for one in data.iter(YED + "NodeLabel")), None)
+    text = "" if found is None else found.text or ""
+    return None if found is None else text if text.strip() else ""
+
+
+def graphml_cluster(element: Element, values: Mapping[str, Any]) -> ClusterLook:
+    """Return the look of a frame in GraphML, where it is a node."""
+    return cluster_look(graphml_node(element, values), first(element, "NodeLabel").get("modelPosition", ""))
+
+
+def gml_cluster(values: Mapping[str, Any]) -> ClusterLook:
+    """Return the look of a frame in GML, where it is a node."""
+    label = values.get("LabelGraphics")
+    return cluster_look(gml_node(values), str(label.get("anchor", "")) if isinstance(label, Mapping) else "")
+
+
+def cluster_look(look: NodeLook, label: str) -> ClusterLook:
+    """Return the look of a node as that of a frame; `label` is where its label is, such as `t` or `br`."""
+    across = next((one for one in Across if label.endswith(one.value)), Across.CENTRE)
+    return ClusterLook(**{name: getattr(look, name) for name in Look.__dataclass_fields__}, is_rounded=look.is_rounded,
+                       is_label_below=label.startswith("b"), across=across)
 
 
 def graphml_edge(element: Element, values: Mapping[str, Any]) -> EdgeLook:

@@ -1,16 +1,19 @@
 """Adds the ports and the nested graphs of a GraphML text to its graph."""
 from __future__ import annotations
 
-from collections.abc import Sequence
+from collections.abc import Container, Hashable, Mapping, Sequence
+from typing import Any
 from xml.etree.ElementTree import Element
 
-from planarbend.clusters import Cluster
 from planarbend.ports import End, Field, Span
+from planarbend.readers import groups, port_data
 from planarbend.readers.building import Builder
 from planarbend.readers.fault import shown
+from planarbend.readers.groups import Group
 
 NAMESPACE = "{http://graphml.graphdrawing.org/xmlns}"
 PORT, GRAPH, NODE = NAMESPACE + "port", NAMESPACE + "graph", NAMESPACE + "node"
+FOLDER, FOLDERS = "yfiles.foldertype", ("group", "folder")  # the attribute of yEd's groups, and its values
 
 
 def field_of(element: Element, text: str, name: str = "", at: Span = Span()) -> Field:
@@ -22,12 +25,18 @@ def field_of(element: Element, text: str, name: str = "", at: Span = Span()) -> 
     return Field("", name, at, (Field(text, at=Span(0, 0, 1, len(ports))), *inner))
 
 
-def add_ports(built: Builder, nodes: dict[str | None, Element], lines: Sequence[Element]) -> None:
-    """Add the ports of nodes as fields, and the ends of edges at them; `lines` are the edges in the graph's order."""
+def add_ports(built: Builder, nodes: Mapping[str | None, Element], values: Mapping[str | None, Mapping[str, Any]],
+              lines: Sequence[Element]) -> None:
+    """Add the ports of nodes as fields, and the ends of edges at them; `values` are the data of nodes, and `lines` are the edges
+    in the graph's order."""
     for key, element in nodes.items():
-        if element.find(PORT) is not None and built.has(key):
-            vertex = built.places[key]
-            built.fields[vertex] = field_of(element, built.vertices[vertex].label)
+        if built.has(key):
+            vertex, names = built.places[key], {one.get("name", "") for port in element.findall(PORT) for one in port.iter(PORT)}
+            given = port_data.fields_in(values[key])
+            if given is not None and names <= {one.port for one, _ in given.walk()}:
+                built.fields[vertex] = given
+            elif names:
+                built.fields[vertex] = field_of(element, built.vertices[vertex].label)
     unknown = []
     for number, (edge, line) in enumerate(zip(built.edges, lines, strict=True)):
         for is_head, port in ((False, line.get("sourceport")), (True, line.get("targetport"))):
@@ -41,16 +50,18 @@ def add_ports(built: Builder, nodes: dict[str | None, Element], lines: Sequence[
         built.looks.warnings.append(f"ports that are not found: {', '.join(map(shown, dict.fromkeys(unknown)))}")
 
 
-def add_clusters(built: Builder, around: Element, parent: int | None = None) -> None:
-    """Add a cluster for each node with nodes inside it; the node itself is one of the members, and has the label."""
-    for graph in around.findall(GRAPH):
-        for node in graph.findall(NODE):
-            number, vertex = parent, built.places[node.get("id")]
-            if node.find(f"{GRAPH}/{NODE}") is not None:
-                number = len(built.clusters)
-                built.clusters.append(Cluster(built.vertices[vertex].name, "", parent))
-            if number is not None:
-                built.clusters[number].members.append(vertex)
-            add_clusters(built, node, number)
-    if parent is not None:
-        built.clusters[parent].members.sort()
+def frames_of(root: Element, ends: Container[str | None]) -> set[str | None]:
+    """Return the nodes that are groups of yEd and no more: no edge ends at one; `ends` are the nodes at which edges end."""
+    return {node.get("id") for node in root.iter(NODE)
+            if node.get(FOLDER) in FOLDERS and node.find(GRAPH) is not None and node.get("id") not in ends}
+
+
+def add_clusters(built: Builder, nodes: Mapping[str | None, Element], frames: Mapping[str | None, Group]) -> None:
+    """Add a cluster for each node with nodes inside it, and for `frames`, which are no vertices. Another one is one of the members
+    of its cluster, which has the same label."""
+    homes: dict[Hashable, Hashable] = {
+        inner.get("id"): key for key, node in nodes.items() for inner in node.findall(f"{GRAPH}/{NODE}")}
+    found: dict[Hashable, Group] = {
+        key: frames[key] if key in frames else Group(str(key), built.vertices[built.places[key]].label)
+        for key, node in nodes.items() if key in frames or node.find(f"{GRAPH}/{NODE}") is not None}
+    groups.add_clusters(built, found, homes)

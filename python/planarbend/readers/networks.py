@@ -5,13 +5,14 @@ import json
 import operator
 import re
 import warnings
-from collections.abc import Hashable, Iterable
+from collections.abc import Callable, Hashable, Iterable
 from typing import Any
 
 from planarbend.graph import Arrow, Graph
-from planarbend.readers import graphics, graphml_ports
+from planarbend.readers import graphics, graphml_ports, port_data
 from planarbend.readers.building import Builder
 from planarbend.readers.fault import Fault, decoded, shown
+from planarbend.readers.groups import Group, add_clusters
 
 NAMESPACE = "{http://graphml.graphdrawing.org/xmlns}"
 GRAPH6 = b">>graph6<<"
@@ -29,9 +30,10 @@ def label_of(data: dict[str, Any]) -> str | None:
 def read_graphml(data: bytes) -> Graph:
     """Return the graph of a GraphML text: its first `graph`, with the nodes and edges of graphs inside its nodes.
 
-    Ports are fields of their nodes; a node with nodes inside has a cluster. Edges keep their order and each its own direction.
-    Labels are the data named `label` or `name`, or the first label of yEd. A `Fault` is raised if the text is not XML or not
-    GraphML, has a hyperedge, or an edge to a node that it does not have.
+    Ports are fields of their nodes; a node with nodes inside has a cluster, and is no vertex itself if it is a group of yEd at
+    which no edge ends. Edges keep their order and each its own direction. Labels are the data named `label` or `name`, or the
+    first label of yEd. A `Fault` is raised if the text is not XML or not GraphML, has a hyperedge, or an edge to a node that it
+    does not have.
     """
     from xml.etree import ElementTree
 
@@ -45,29 +47,47 @@ def read_graphml(data: bytes) -> Graph:
     for edge, number in zip(root.iter(NAMESPACE + "edge"), range(len(directions))):
         edge.attrib.pop("directed", None)
         edge.set("id", str(number))  # networkx returns it as the key, so that no two edges are merged
+    frames = graphml_ports.frames_of(root, {end for pair in directions for end in pair[:2]})
     for element in root.iter(NAMESPACE + "node"):
         if element.find(NAMESPACE + "graph") is not None:
             element.set("yfiles.foldertype", "group")  # else networkx skips what is inside
-    with warnings.catch_warnings():
-        warnings.simplefilter("ignore")
-        try:
-            found = networkx.parse_graphml(ElementTree.tostring(root, encoding="unicode"), force_multigraph=True)
-        except Exception as error:  # networkx lets many kinds through
-            raise Fault(f"not GraphML: {shown(str(error))}") from None
+    found = parsed(networkx.parse_graphml, ElementTree.tostring(root, encoding="unicode"))
     built = Builder(directed=found.is_directed())
     elements = {node.get("id"): node for node in root.iter(NAMESPACE + "node")}
-    for node, values in found.nodes(data=True):
-        built.looks.add_node(built.vertex(node, label_of(values)), graphics.graphml_node(elements[node], values))
-    lines = list(root.iter(NAMESPACE + "edge"))
-    for tail, head, key, values in sorted(found.edges(keys=True, data=True), key=operator.itemgetter(2)):
+    groups = graphml_nodes(built, found, elements, frames)
+    lines, edges = list(root.iter(NAMESPACE + "edge")), sorted(found.edges(keys=True, data=True), key=operator.itemgetter(2))
+    for tail, head, key, values in edges:
         tail, head = directions[key][0], directions[key][1]  # of an undirected graph networkx may exchange the ends
         is_arrow = found.is_directed() if directions[key][2] is None else directions[key][2]
         built.edge(tail, head, label_of(values) or "", Arrow.FORWARD if is_arrow else Arrow.NONE)
         built.looks.add_edge(len(built.edges) - 1, graphics.graphml_edge(lines[int(key)], values))
         built.directed |= is_arrow
-    graphml_ports.add_ports(built, elements, lines)
-    graphml_ports.add_clusters(built, root)
+    graphml_ports.add_ports(built, elements, found.nodes, lines)
+    graphml_ports.add_clusters(built, elements, groups)
+    port_data.add_ends(built, [values for *_, values in edges])
     return built
+
+
+def graphml_nodes(built: Builder, found: Any, elements: dict[str | None, Any], frames: set[str | None]) -> dict[str | None, Group]:
+    """Add the nodes that networkx found, but for those that are frames only, which are returned."""
+    groups: dict[str | None, Group] = {}
+    for node, values in found.nodes(data=True):
+        label, element = label_of(values) or graphics.graphml_label(elements[node]), elements[node]
+        if node in frames:
+            groups[node] = Group(node, node if label is None else label, graphics.graphml_cluster(element, values))
+        else:
+            built.looks.add_node(built.vertex(node, label or None), graphics.graphml_node(element, values))
+    return groups
+
+
+def parsed(parse: Callable[..., Any], text: str) -> Any:
+    """Return networkx's graph of a GraphML text, or raise a `Fault` if it refuses the text."""
+    with warnings.catch_warnings():
+        warnings.simplefilter("ignore")
+        try:
+            return parse(text, force_multigraph=True)
+        except Exception as error:  # networkx lets many kinds through
+            raise Fault(f"not GraphML: {shown(str(error))}") from None
 
 
 def scanned(data: bytes) -> list[tuple[str, str, bool | None]]:
@@ -117,25 +137,41 @@ def scanned(data: bytes) -> list[tuple[str, str, bool | None]]:
 
 def read_gml(data: bytes) -> Graph:
     """Return the graph of a GML text, with parallel edges even if it does not declare them, or raise a `Fault` with the line
-    given by networkx if it refuses the text."""
-    import networkx
-
+    given by networkx if it refuses the text. A group of yEd (`isGroup` and `gid`) is a cluster, and also a vertex if an edge ends
+    at it."""
     text = re.sub(*PARALLEL, decoded(data), flags=re.M)
     if "multigraph" not in text:
         text = GML_GRAPH.sub(lambda match: match[0] + " multigraph 1", text, count=1)
-    try:
-        found = networkx.parse_gml(text, label=None)
-    except Exception as error:  # networkx lets many kinds through
-        place = PLACE.search(str(error))
-        raise Fault(f"not GML: {shown(PLACE.sub('', str(error)))}", int(place[1]) if place else None) from None
+    found = parsed_gml(text)
     built = Builder(directed=found.is_directed())
+    if not built.directed and any(port_data.are_ports(values) for *_, values in found.edges(data=True)):
+        found = parsed_gml(GML_GRAPH.sub(lambda match: match[0] + " directed 1", text, count=1))  # which keeps tails and heads
+    groups: dict[Hashable, Group] = {}
     for node, values in found.nodes(data=True):
         name = label_of(values) or str(node)
-        built.looks.add_node(built.vertex(node, name, name=name), graphics.gml_node(values))
+        if values.get("isGroup") == 1:
+            groups[node] = Group(str(values.get("name", name)), str(values.get("label", name)), graphics.gml_cluster(values))
+        if node not in groups or found.degree(node):
+            number, fields = built.vertex(node, name, name=name), port_data.fields_in(values)
+            built.looks.add_node(number, graphics.gml_node(values))
+            built.fields |= {} if fields is None else {number: fields}
     for tail, head, values in found.edges(data=True):
         built.edge(tail, head, label_of(values) or "", Arrow.FORWARD if built.directed else Arrow.NONE)
         built.looks.add_edge(len(built.edges) - 1, graphics.gml_edge(values))
+    add_clusters(built, groups, {node: group for node, group in found.nodes(data="gid") if isinstance(group, int)})
+    port_data.add_ends(built, [values for *_, values in found.edges(data=True)])
     return built
+
+
+def parsed_gml(text: str) -> Any:
+    """Return networkx's graph of a GML text, or raise a `Fault` if it refuses the text."""
+    import networkx
+
+    try:
+        return networkx.parse_gml(text, label=None)
+    except Exception as error:  # networkx lets many kinds through
+        place = PLACE.search(str(error))
+        raise Fault(f"not GML: {shown(PLACE.sub('', str(error)))}", int(place[1]) if place else None) from None
 
 
 def read_graph6(data: bytes) -> Graph:
