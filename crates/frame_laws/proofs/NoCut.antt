@@ -136,7 +136,7 @@ whole_fails p given vs fs plane range points all =
     close : (x y u w : ℤ) → x ≤ℤ u → y ≡ w → u +ℤ w ≡ pos 0 → (x +ℤ y) ≤ℤ pos 0
     close x y u w less same none = omega (arith, ints)
 
-zeros : (n : ℕ) (f : ℕ → ℤ) → ((k : ℕ) → k < n → f k ≡ pos 0) → total_below n f ≡ pos 0
+pub zeros : (n : ℕ) (f : ℕ → ℤ) → ((k : ℕ) → k < n → f k ≡ pos 0) → total_below n f ≡ pos 0
 zeros n f none = total_below-same n f (λ _. pos 0) none ∙ nothing n
   where
     even : (k : ℕ) → pos k -ℤ pos k ≡ pos 0
@@ -191,7 +191,7 @@ points_have_no_cut p given vs fs plane range points shows =
     more_and_none z more none = omega (arith, ints)
 
 -- an angle that can be given is 1 to 4 right angles
-in_range : (given : GivenModel) → CanBeGiven given.angles given.turns → (d : ℕ) → IsAngle (angle_given given d)
+pub in_range : (given : GivenModel) → CanBeGiven given.angles given.turns → (d : ℕ) → IsAngle (angle_given given d)
 in_range given can d = elim (cases_lt d (length given.angles)) [
   | inl inside ↦ can.are_angles d None inside
   | inr past ↦ subst IsAngle (sym (get_or_past given.angles d None past)) tt
