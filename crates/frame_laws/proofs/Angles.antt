@@ -224,8 +224,6 @@ pub vertex_less : (p : PlaneModel) (given : GivenModel) → HaveRoom p given →
     → at_vertex p (k + 1) (λ d. (1 + beyond_first (angle_given given d)) * cond (s d) 1 0) + cond m 4 0
     ≤ at_vertex p (k + 1) (λ d. angle_of p given d * cond (s d) 1 0) + cond m (vertex_degree p (k + 1) + beyond_at_vertex p given (k + 1)) 0
 vertex_less p given have s m b k below alike inside =
-    let v : ℕ = k + 1 in
-    let w : ℕ → ℕ = λ d. cond (s d) 1 0 in
     let like : (d : ℕ) → d < darts p → is_free p given (k + 1) d ≡ true → cond {A = ℕ} (s d) 1 0 ≡ cond b 1 0 = λ d l on. ap (λ (t : Bool). cond t 1 0) (alike d l on) in
     let first = first_weighed (darts p) (4 - given_around p given (k + 1)) (cond b 1 0) (is_free p given (k + 1)) (λ d. cond (s d) 1 0) like in
     elim (cases_Bool (any_below (darts p) (is_free p given (k + 1)))) [

@@ -86,7 +86,6 @@ vertex_parts p plane inside cycle zero below =
     untouched_zero filled = false_from_ne_true (touches p filled 0) (λ on. at_zero filled (touched p filled 0 on))
 vertex_parts p plane inside cycle (suc k) below =
     let ends = plane_ends p plane in
-    let v : ℕ = suc k in
     let zero_not : cond {A = ℕ} (eqb 0 (suc k)) 1 0 ≡ 0 = cond-false {A = ℕ} (eqb 0 (suc k)) 1 0 (ne_eqb 0 (suc k) (λ e. omega arith)) in
     elim (cases_Bool (touches p inside (suc k))) [
       | inl within ↦ elim (cases_Bool (touches p (beyond inside) (suc k))) [

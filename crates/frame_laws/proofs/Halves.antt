@@ -1,6 +1,6 @@
 -- One side of a rim: the faces, vertices and edges that are not on the other side and not of the rim. With the rim and all beyond
 -- it put together to one place, these edges join all places, and all faces; so there are enough of them.
-use Rattle.std.proofs.Common.{◌≡◌, ◌≤◌, ◌<◌, ℕ, zero, suc, ◌+◌, ◌-◌, cond, eqb, Bool, true, false, not, ◌&&◌, ◌||◌, refl, sym, ◌∙◌, ap, subst, inl, inr, arith}
+use Rattle.std.proofs.Common.{◌≡◌, ◌≤◌, ◌<◌, ℕ, zero, suc, ◌+◌, cond, eqb, Bool, true, false, not, ◌&&◌, ◌||◌, refl, sym, ◌∙◌, ap, subst, inl, inr, arith}
 use Rattle.std.proofs.lemmas.Bool.{cases_eq, cases_Bool, both_ways, and_parts, and_from, or_cases, or_left, or_right, not-true, not_from_false, false_from_ne_true, cond-true, cond-false, eq-eqb, eqb-true}
 use Rattle.faces.specs.Planes.{PlaneModel, IsPlane, darts, vertices, tail, next, after, reverse_dart, face_at}
 use Rattle.faces.proofs.Ends.{plane_ends, seven_rules}
@@ -133,7 +133,6 @@ both_ends : (p : PlaneModel) → IsPlane p → (filled : FaceSet) (s : ℕ → B
     → (d : ℕ) → d < darts p → s (place_of p filled (tail p d)) ≡ s (place_of p filled (tail p (reverse_dart p d)))
 both_ends p plane filled s both d below =
     let ends = plane_ends p plane in
-    let back = reverse_dart p d in
     elim (cases_Bool (filled (face_at p d))) [
       | inl on ↦
           let two = ends_touched p plane filled d below on in
@@ -190,7 +189,6 @@ faces_joined : (p : PlaneModel) → IsPlane p → (filled : FaceSet) → IsCycle
     → (f g : ℕ) → f < p.faces → g < p.faces → filled f ≡ false → filled g ≡ false → s f ≡ true → s g ≡ true
 faces_joined p plane filled cycle s both f g f_in g_in f_out g_out here =
     let ends = plane_ends p plane in
-    let b : Bool = s (face_at p (reverse_dart p cycle.first)) in
     let rims : (d : ℕ) → IsRim p filled d → s (face_at p (reverse_dart p d)) ≡ s (face_at p (reverse_dart p cycle.first)) = each in
     elim (cases_Bool (s (face_at p (reverse_dart p cycle.first)))) [
       | inl on ↦

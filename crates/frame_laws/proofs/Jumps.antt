@@ -1,8 +1,7 @@
 -- A set of faces that has both sides or none of each edge but those of rims. At each rim it has the faces inside, those outside,
 -- both or none. Where it has just one of them, what lies on the other side of the rim makes up for it: together these sets
 -- have each face equally often.
-use Rattle.std.proofs.Common.{◌≡◌, ◌≤◌, ◌<◌, ℕ, ◌+◌, cond, eqb, Bool, true, false, not, ◌&&◌, ◌||◌, refl, sym, ◌∙◌, ap, subst, inl, inr, arith}
-use Rattle.std.specs.Prelude.{◌≢◌}
+use Rattle.std.proofs.Common.{◌≡◌, ◌<◌, ℕ, ◌+◌, cond, eqb, Bool, true, false, not, ◌&&◌, refl, sym, ◌∙◌, ap, subst, inl, inr, arith}
 use Rattle.std.proofs.lemmas.Bool.{cases_eq, cases_Bool, both_ways, and_parts, and_from, not-true, not-false, not_from_false, false_from_ne_true, eq-eqb, eqb-true}
 use Rattle.common.specs.Sums.{sum_below}
 use Rattle.common.proofs.Sums.{sum_below-same, sum_below-changed}
@@ -78,10 +77,8 @@ across_alike p plane frames inside rims s both i d e i_in d_rim e_rim =
 pub on_either : (p : PlaneModel) → IsPlane p → (inside : FaceSet) (v : ℕ) → IsOnRim p (beyond inside) v → IsOnRim p inside v
 on_either p plane inside v on =
     let ends = plane_ends p plane in
-    let a : ℕ = on.arrives in
     let turned : IsRim p (beyond inside) on.arrives = on.rim in
     let back : IsRim p inside (reverse_dart p on.arrives) = turned_rim p plane inside on.arrives on.rim in
-    let e : ℕ = next p on.arrives in
     let e_in : next p on.arrives < darts p = ends.after_in_range (reverse_dart p on.arrives) back.dart in
     on_rim p plane inside v (next p on.arrives)
     (subst (λ (u : ℕ). touches_at u) (ends.reverse_dart_tail on.arrives turned.dart ∙ on.here) (touches_from p inside (reverse_dart p on.arrives) back.dart back.here))
@@ -170,8 +167,6 @@ over_rim : (p : PlaneModel) → IsPlane p → (frames : ℕ) (inside : ℕ → F
     → how_often p frames inside s (face_at p d) ≡ how_often p frames inside s (face_at p (reverse_dart p d))
 over_rim p plane frames inside rims s both i d i_in rim =
     let ends = plane_ends p plane in
-    let a : Bool = s (face_at p d) in
-    let b : Bool = s (face_at p (reverse_dart p d)) in
     let f : ℕ → ℕ = λ j. cond (made_up p (inside j) s (face_at p d)) 1 0 in
     let g : ℕ → ℕ = λ j. cond (made_up p (inside j) s (face_at p (reverse_dart p d))) 1 0 in
     let alike : (x : ℕ) → IsRim p (inside i) x → (s (face_at p x) ≡ s (face_at p d)) × (s (face_at p (reverse_dart p x)) ≡ s (face_at p (reverse_dart p d))) =
@@ -189,7 +184,6 @@ over_rim p plane frames inside rims s both i d i_in rim =
     elsewhere : (j : ℕ) → j < frames → (i ≡ j → ⊥) → inside j (face_at p d) ≡ inside j (face_at p (reverse_dart p d))
     elsewhere j j_in other =
         let ends = plane_ends p plane in
-        let back : ℕ = reverse_dart p d in
         let on : IsOnRim p (inside i) (tail p (reverse_dart p d)) = record { arrives = d; rim = rim; here = sym (ends.reverse_dart_tail d rim.dart) } in
         let turned = one_rim p plane frames inside rims i j (reverse_dart p d) i_in j_in other (ends.reverse_dart_in_range d rim.dart) on in
         sym (subst (λ (x : ℕ). inside j (face_at p (reverse_dart p d)) ≡ inside j (face_at p x)) (ends.reverse_dart_back d rim.dart) turned)
@@ -248,7 +242,6 @@ over_edge p plane frames inside rims s both d d_in =
 pub equally_often : (p : PlaneModel) → IsPlane p → (frames : ℕ) (inside : ℕ → FaceSet) → AreRims p frames inside → (s : FaceSet) → HasBoth p frames inside s → (f : ℕ) → f < p.faces
     → how_often p frames inside s f ≡ how_often p frames inside s p.outer
 equally_often p plane frames inside rims s both f f_in =
-    let k : ℕ = how_often p frames inside s p.outer in
     let t : ℕ → Bool = λ x. eqb (how_often p frames inside s x) (how_often p frames inside s p.outer) in
     eqb-true (how_often p frames inside s f) (how_often p frames inside s p.outer)
     (faces_connected p plane t

@@ -1,5 +1,5 @@
 -- Points and frames can always be kept: where only points and frames are given, no vertices and faces turn more than can leave them.
-use Rattle.std.proofs.Common.{◌≡◌, ◌≤◌, ◌<◌, ℕ, ◌+◌, ◌-◌, ◌*◌, cond, eqb, Bool, true, false, ◌&&◌, List, refl, sym, ◌∙◌, ap, subst, inl, inr, arith}
+use Rattle.std.proofs.Common.{◌≡◌, ◌≤◌, ◌<◌, ℕ, ◌+◌, ◌-◌, ◌*◌, cond, eqb, Bool, true, false, List, refl, sym, ◌∙◌, ap, subst, inl, inr, arith}
 use Rattle.std.specs.Prelude.{ℤ, pos, negsuc, ◌+ℤ◌, ◌-ℤ◌, ◌≤ℤ◌, ◌<ℤ◌, Option, Some, None, ◌==◌, if◌then◌else◌, ◌⊎◌}
 use Rattle.std.proofs.lemmas.Bool.{cases_eq, both_ways, eq-eqb, ne_eqb}
 use Rattle.std.proofs.lemmas.Int.{ints}
@@ -246,7 +246,6 @@ ones_parted p given s =
 -- so a cut has nothing to turn
 nothing_to_turn : (p : PlaneModel) (given : GivenModel) (frames : ℕ) (inside : ℕ → FaceSet) → IsPlane p → HaveRoom p given → AreParts p given frames inside → (vs fs : List Bool) → ShowsNone p given vs fs → has_to_turn p given vs fs ≤ℤ pos 0
 nothing_to_turn p given frames inside plane have parts vs fs shows =
-    let s : FaceSet = is_marked fs in
     let n : ℕ = vertices p in
     let at_vertices : total_below n (λ k. if is_marked vs k then vertex_has_to_turn p given (k + 1) else pos 0)
     ≡ pos (sum_below n (λ k. cond (is_marked vs k) 4 0)) -ℤ pos (sum_below n (λ k. cond (is_marked vs k) (vertex_degree p (k + 1) + beyond_at_vertex p given (k + 1)) 0)) =

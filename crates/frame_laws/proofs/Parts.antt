@@ -1,6 +1,6 @@
 -- Points and frames: their rims, the room that their vertices have, and what a cut has of faces.
 use Rattle.std.proofs.Common.{◌≡◌, ◌≤◌, ◌<◌, ℕ, ◌+◌, cond, eqb, Bool, true, false, not, ◌&&◌, List, refl, sym, ◌∙◌, ap, subst, inl, inr, arith}
-use Rattle.std.specs.Prelude.{Option, Some, None, ◌==◌, if◌then◌else◌, ◌⊎◌, ◌≢◌, ℤ}
+use Rattle.std.specs.Prelude.{Option, Some, None, ◌==◌, if◌then◌else◌, ◌⊎◌, ℤ}
 use Rattle.std.proofs.lemmas.Bool.{cases_eq, cases_Bool, both_ways, and_parts, and_from, not-true, not_from_false, false_from_ne_true, eq-eqb, eqb-true}
 use Rattle.common.proofs.Sums.{sum_below-same, sum_below-none, sum_below-member}
 use Rattle.faces.specs.Planes.{PlaneModel, IsPlane, darts, vertices, tail, head, next, after, reverse_dart, face_at}
@@ -110,7 +110,6 @@ free_alike p given frames inside plane parts s both v d e d_in e_in d_free e_fre
     let later : s (face_at p (next p d)) ≡ s (face_at p (next p e)) =
     elim (on_one_side p plane frames inside v) [
       | inl rim ↦
-          let i : ℕ = rim.0 in
           let outside : (x : ℕ) → x < darts p → is_free p given v x ≡ true → inside rim.0 (face_at p (next p x)) ≡ false =
           λ x l free. false_from_ne_true (inside rim.0 (face_at p (next p x))) (λ on.
           let x_parts = free_parts p given v x free in
@@ -204,7 +203,6 @@ kind_of p given frames inside plane parts v =
         → IsPoint p given (head p d) ⊎ ((j : ℕ) × (j < frames) × (inside j (face_at p d) ≡ true) × IsOnRim p (inside j) (head p d)) → IsPoint p given v
     no_rim_point apart d at (inl is) = subst (λ (u : ℕ). IsPoint p given u) at is
     no_rim_point apart d at (inr found) =
-        let i : ℕ = found.0 in
         let on : IsOnRim p (inside found.0) v = subst (λ (u : ℕ). IsOnRim p (inside found.0) u) at found.3 in
         absurd (both_ways (touches p (inside found.0) v && touches p (beyond (inside found.0)) v) (apart found.0 found.1)
         (and_from (touches p (inside found.0) v) (touches p (beyond (inside found.0)) v) (inner found.0 on) (outer found.0 on)))

@@ -1,5 +1,5 @@
 -- Going round: a vertex from dart to dart, and a rim from vertex to vertex on the other side of its faces.
-use Rattle.std.proofs.Common.{◌≡◌, ◌≤◌, ◌<◌, ℕ, zero, suc, ◌+◌, ◌-◌, eqb, Bool, true, false, not, ◌&&◌, ◌||◌, List, [], length, get_or, refl, sym, ◌∙◌, ap, subst, inl, inr, arith}
+use Rattle.std.proofs.Common.{◌≡◌, ◌<◌, ℕ, zero, suc, ◌+◌, ◌-◌, eqb, Bool, true, false, not, ◌&&◌, ◌||◌, List, [], length, get_or, refl, sym, ◌∙◌, ap, subst, inl, inr, arith}
 use Rattle.std.proofs.lemmas.Bool.{cases_eq, cases_lt, cases_Bool, both_ways, and_parts, and_from, or_cases, or_left, or_right, not-true, not-false, not_from_true, not_from_false, eq-eqb, eqb-true}
 use Rattle.embedding.specs.Darts.{first_dart, after_of}
 use Rattle.embedding.proofs.Entries.{Stands, stands_at, dart_stands}
