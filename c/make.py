@@ -21,7 +21,10 @@ from common import ROOT, START, say, stop
 TOP = Path(ROOT)
 SOURCE, OUT = TOP / "c", TOP / "out"
 SONAME = "libplanarbend.so.2"
-FILES = ["libplanarbend.a", SONAME, "libplanarbend.so", "planarbend.pc"]
+LIBRARIES = [SONAME, "libplanarbend.a", "libplanarbend.so"]
+FILES = [*LIBRARIES, "planarbend.pc"]
+RECORD = OUT / f"{SONAME}.sources"  # sums of what was made and of its sources, which checks/start/build.py writes
+SOURCES = [SOURCE / name for name in ("planarbend.c", "planarbend.h", "planarbend.map")]
 COMPILER = os.environ.get("CC") or "cc"
 FLAGS = ["-std=c11", "-O2", "-fPIC", "-Wall", "-Wextra", "-Werror"]
 

@@ -1,4 +1,4 @@
-"""The build backend of this package: pip calls these functions (PEP 517, PEP 660), and package/make.py writes its wheel with
+"""The build backend of this package: pip calls these functions (PEP 517, PEP 660), and package/packages.py writes its wheel with
 them. Nothing else is needed, so that `pip install --no-build-isolation ./python` works offline in any virtual environment."""
 from __future__ import annotations
 

@@ -9,7 +9,8 @@ kit's compiler is called directly. Its output is kept where rt looks for librari
 finds there. A file next to each library records its sources, and those of all libraries below.
 
 A file next to the program records its sources: their checksums, as `sha256sum` writes them, and as comments their lines
-of crates.txt. With it, `planarbend` detects whether a source has changed. `planarbend --build` starts this script.
+of crates.txt and the kit. With it, `planarbend` detects whether a source has changed. Another one next to the library
+for C does the same. `planarbend --build` starts this script.
 """
 import concurrent.futures
 import contextlib
@@ -120,10 +121,12 @@ class Crates:
                 shutil.move(old, place)
         shutil.rmtree(OUTDATED)
 
-    def sums(self):
-        """The record next to the program: first its checksum, then its sources."""
-        lines = [f"#kit {sum_of_file(os.path.join(KIT, 'WHAT'))}", *(f"#crates.txt {line}" for line in self.lines)]
-        sums = {PROGRAM: sum_of_file(PROGRAM)} | self.files
+    def sums(self, made=(PROGRAM,), more=()):
+        """The record next to what was made, by default the program: first its checksums, then those of its sources. `more`
+        are sources that are not Rattle, with their checksums."""
+        lines = [f"#kit {sum_of_file(os.path.join(KIT, 'WHAT'))}", f"#kit-id {read(os.path.join(KIT, 'KIT-ID')).strip()}",
+                 *(f"#crates.txt {line}" for line in self.lines)]
+        sums = {path: sum_of_file(path) for path in made} | self.files | dict(more)
         lines += [f"{found}  {os.path.relpath(path, ROOT)}" for path, found in sums.items()]
         return "".join(f"{line}\n" for line in lines)
 
@@ -460,7 +463,10 @@ def make_library():
         say("proving and compiling the library for C")
         with kept_out(crates.uses) as held:
             prove(crates, Work(crates, processors()), held)
+    sums = {path: sum_of_file(path) for path in make.SOURCES}
     make.make(Path(library_of(LIBRARY)))
+    if all(map(crates.is_built, crates.libraries)):
+        replace_text(make.RECORD, crates.sums([make.OUT / name for name in make.LIBRARIES], sums))
 
 
 def give_to_rt():

@@ -1,7 +1,8 @@
 #!/usr/bin/env python3
 """Copies what --build has made to folders below PREFIX: the program and planarbend-draw to bin, the library to lib, its
-header to include, the man pages to share/man/man1, and the Python package to the folder below PREFIX where this version
-of Python looks for packages. The list of all these files is share/planarbend/files.
+header to include, the man pages to share/man/man1, completions for bash to share/bash-completion/completions, and the
+Python package to the folder below PREFIX where this version of Python looks for packages. The list of all these files
+is share/planarbend/files.
 
 All files are first written next to their places under temporary names, and then renamed, so that each is complete at
 any time. If one cannot be written or renamed, all are as they were before. Files that only an earlier installation has
@@ -25,6 +26,10 @@ import make
 
 TOP = Path(ROOT)
 LIST = "share/planarbend/files"
+COMMANDS = ("planarbend", "planarbend-draw")
+# The man pages and completions, by their paths below PREFIX and in the checkout.
+SHARED = {f"share/man/man1/{name}.1": f"docs/{name}.1" for name in COMMANDS} | {
+    f"share/bash-completion/completions/{name}": f"docs/{name}.bash" for name in COMMANDS}
 NEW, OLD = ".planarbend-new", ".planarbend-old"  # endings of temporary names
 DRAW = """#!{python}
 import sys
@@ -39,7 +44,7 @@ sys.exit(run())
 def files_of(prefix):
     """What each path below PREFIX gets: a file, a text, or for a link its target, each with its mode."""
     found = {"bin/planarbend": (Path(PROGRAM), 0o755),
-             **{f"share/man/man1/{name}": (TOP / "docs" / name, 0o644) for name in ("planarbend.1", "planarbend-draw.1")}}
+             **{path: (TOP / source, 0o644) for path, source in SHARED.items()}}
     if (make.OUT / make.SONAME).is_file():
         found |= {"lib/libplanarbend.a": (make.OUT / "libplanarbend.a", 0o644),
                   f"lib/{make.SONAME}": (make.OUT / make.SONAME, 0o755), "lib/libplanarbend.so": (make.SONAME, None),
