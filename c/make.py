@@ -29,7 +29,7 @@ COMPILER = os.environ.get("CC") or "cc"
 FLAGS = ["-std=c11", "-O2", "-fPIC", "-Wall", "-Wextra", "-Werror"]
 
 
-def version():
+def version() -> str:
     """The version, without the program's name."""
     return Path(START, "texts/version").read_text(encoding="utf-8").split()[1]
 
@@ -39,7 +39,7 @@ def exported():
     return re.findall(r"\bplanarbend_\w+(?=;)", (SOURCE / "planarbend.map").read_text(encoding="utf-8"))
 
 
-def package_text(prefix, libraries, headers):
+def package_text(prefix: object, libraries: object, headers: object) -> str:
     """The text of planarbend.pc for these folders."""
     text = (SOURCE / "planarbend.pc.in").read_text(encoding="utf-8")
     for name, value in [("prefix", prefix), ("libdir", libraries), ("includedir", headers), ("version", version())]:

@@ -52,7 +52,7 @@ class Made(NamedTuple):
     @property
     def version(self) -> str:
         """The version of the packages."""
-        return library.version() + ("" if self.word == "proved" else f"+{self.word}")
+        return f"{library.version()}{'' if self.word == 'proved' else f'+{self.word}'}"
 
     @property
     def origin(self) -> str:
@@ -162,8 +162,8 @@ def tree_of(made: Made) -> Tree:
 
 def write_tarball(path: Path, top: str, files: Tree) -> None:
     """Write files below the folder `top` of a tarball."""
-    with open(path, "wb") as out, gzip.GzipFile("", "wb", fileobj=out, mtime=STAMP) as packed, \
-            tarfile.open(fileobj=packed, mode="w", format=tarfile.GNU_FORMAT) as tarball:
+    whole = io.BytesIO()
+    with tarfile.open(fileobj=whole, mode="w", format=tarfile.GNU_FORMAT) as tarball:
         for name, (data, mode) in sorted(files.items()):
             entry = tarfile.TarInfo(f"{top}/{name}")
             entry.mtime, entry.mode = STAMP, mode or 0o777
@@ -172,6 +172,7 @@ def write_tarball(path: Path, top: str, files: Tree) -> None:
             else:
                 entry.type, entry.linkname = tarfile.SYMTYPE, data.decode()
             tarball.addfile(entry, io.BytesIO(data) if mode else None)
+    path.write_bytes(gzip.compress(whole.getvalue(), mtime=STAMP))
 
 
 def write_wheel(folder: Path, made: Made) -> str:

@@ -20,7 +20,7 @@ ANY = "py3-none-any"  # the tag of a wheel for all platforms
 def project() -> dict[str, Any]:
     """Return the table `project` of pyproject.toml."""
     with open(os.path.join(FOLDER, "pyproject.toml"), "rb") as source:
-        return tomllib.load(source)["project"]
+        return dict(tomllib.load(source)["project"])
 
 
 def modules() -> list[str]:

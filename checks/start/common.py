@@ -6,6 +6,8 @@ import re
 import shutil
 import signal
 import sys
+from collections.abc import Iterator
+from typing import NoReturn
 
 START = os.path.dirname(os.path.abspath(__file__))
 ROOT = os.path.dirname(os.path.dirname(START))
@@ -15,19 +17,19 @@ PROGRAM = os.path.join(ROOT, "out", "planarbend")  # of --build or --test; `rt c
 BUILD_MINUTES = 37  # from nothing, on 4 free cores
 
 
-def write_error(text):
+def write_error(text: bytes) -> None:
     """Writes bytes to standard error, and ignores errors."""
     with contextlib.suppress(OSError):
         while text:
             text = text[os.write(2, text):]
 
 
-def say(*lines):
+def say(*lines: str) -> None:
     for line in lines:
         write_error(os.fsencode(f"planarbend: {line}\n"))
 
 
-def stop(*lines, status=1):
+def stop(*lines: str, status: int = 1) -> NoReturn:
     """Prints these lines and exits with this status."""
     say(*lines)
     sys.exit(status)
@@ -52,7 +54,7 @@ def look_at_machine(what, memory, disk, folder):
 SIGNALS = (signal.SIGINT, signal.SIGTERM, signal.SIGHUP)  # that end a program
 
 
-def end_on_signals():
+def end_on_signals() -> None:
     """Makes these signals raise SystemExit, so that processes are ended and temporary files removed."""
     for number in SIGNALS:
         signal.signal(number, lambda number, _: sys.exit(128 + number))
@@ -64,7 +66,7 @@ def ignore_signals():
 
 
 @contextlib.contextmanager
-def alone():
+def alone() -> Iterator[None]:
     """Waits for other builds, tests and installations in this checkout, and keeps later ones waiting."""
     folder = os.open(ROOT, os.O_RDONLY)
     try:
