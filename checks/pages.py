@@ -22,15 +22,15 @@ from programs import ROOT
 
 PAGES = ["README.md", "CONTRIBUTING.md", "docs/*.md", "bench/*.md"]
 COUNTED = [*PAGES, "CHANGELOG.md", "examples/README.md"]
-MOST = {"README.md": 900, "CONTRIBUTING.md": 900, "CHANGELOG.md": 600, "docs/CHECK.md": 500, "docs/CLUSTER.md": 750,
-        "": 13_000}  # words; of all pages
+MOST = {"README.md": 1_000, "CONTRIBUTING.md": 900, "CHANGELOG.md": 600, "docs/CHECK.md": 500, "docs/CLUSTER.md": 750,
+        "": 13_100}  # words; of all pages
 WRITTEN = {"bench/RESULTS.md", "docs/COUNTS.md"}  # by scripts, and so not counted
 NO_TREE = {"bench/RESULTS.md"}  # quotes what ran
 NUMBER = re.compile(r"([\d,]*\d) (crates|proofs|edits|attacks|tests)\b")
 # Words of other programs, of formats, and of the system.
 OUTSIDE = set("""rt ci check fmt tidy lemma test doc version must-fail verdict Ok Err printf png svg planarg geng -p -c
     -D4 plantri parallel slurm-wlm munge nauty chromium futex clap MOD RES kill cred_expire slurm.conf sshlogin workdir
-    env passed failed smallvec --only requires docs/REFUSED.md python3-networkx python3-scipy graphviz pip -e""".split())
+    env passed failed format-patch smallvec --only requires docs/REFUSED.md python3-networkx python3-scipy graphviz pip -e""".split())
 MEN, TEXTS = ("docs/planarbend.1", "docs/planarbend-draw.1"), "checks/start/texts"
 ENTRY = re.compile(r"^ {2,6}(-\S.*?|<.*?>\S*)  +(\S.*)$")  # an argument or option of --help, and what it says
 DRAW_ENTRY = re.compile(r"^ {2}(-\S.*?|[A-Z]+)(?: {2,}|\n {10,})(\S.*)$", re.M)  # the same of planarbend-draw
