@@ -1,4 +1,4 @@
-# Completion of planarbend for bash. checks/completion.py writes it from --help.
+# Completion of planarbend for bash. package/completion.py writes it from --help.
 _planarbend() {
     local command= word=$2 before=$3 words=
     if ((COMP_CWORD > 1)); then command=${COMP_WORDS[1]}; fi

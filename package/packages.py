@@ -26,7 +26,7 @@ from typing import NamedTuple
 
 sys.dont_write_bytecode = True
 ROOT = Path(__file__).resolve().parent.parent
-sys.path += [str(ROOT / folder) for folder in ("checks/start", "c", "python")]
+sys.path[1:1] = [str(ROOT / folder) for folder in ("checks/start", "c", "python")]
 import build_wheel
 import make as library
 from common import PROGRAM, alone, end_on_signals, say, stop

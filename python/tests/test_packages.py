@@ -14,7 +14,7 @@ from pathlib import Path
 
 import support
 
-sys.path.append(str(support.ROOT / "package"))
+sys.path.insert(1, str(support.ROOT / "package"))
 import build_wheel
 import packages
 

@@ -4,16 +4,19 @@ checks/ready finds them if they are not those of the texts."""
 from __future__ import annotations
 
 import re
+import sys
 from collections.abc import Iterable, Mapping
 from pathlib import Path
 
+sys.dont_write_bytecode = True
+sys.path.insert(1, str(Path(__file__).resolve().parent.parent / "checks"))
 import pages
 import programs
 from programs import ROOT
 
 Entries = Iterable[tuple[str, str]]  # arguments and options, each with what --help says of it
 TEXT = """\
-# Completion of {program} for bash. checks/completion.py writes it from --help.
+# Completion of {program} for bash. package/completion.py writes it from --help.
 {name}() {{
     local command= word=$2 before=$3 words=
     if ((COMP_CWORD > 1)); then command=${{COMP_WORDS[1]}}; fi
@@ -76,7 +79,7 @@ def completions() -> dict[str, str]:
 
 def faults() -> list[str]:
     """The files that have another text, one line each."""
-    return [f"{path}: not as checks/completion.py writes it" for path, text in completions().items()
+    return [f"{path}: not as package/completion.py writes it" for path, text in completions().items()
             if not Path(ROOT, path).is_file() or pages.text_of(path) != text]
 
 
