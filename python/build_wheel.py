@@ -47,6 +47,7 @@ def core_metadata(about: Mapping[str, Any], readme: str) -> str:
     extras = about.get("optional-dependencies", {})
     fields = [("Metadata-Version", "2.1"), ("Name", about["name"]), ("Version", about["version"]),
               ("Summary", about["description"]), ("Keywords", ",".join(about["keywords"])),
+              ("Author", ", ".join(author["name"] for author in about["authors"])),
               *(("Classifier", classifier) for classifier in about["classifiers"]),
               ("Requires-Python", about["requires-python"]),
               *(("Requires-Dist", need) for need in about["dependencies"]),

@@ -19,7 +19,7 @@ import build_wheel
 import packages
 
 ABOUT = {"name": "some", "version": "1.5", "description": "A thing", "keywords": ["a b", "c"], "requires-python": ">=3.11",
-         "classifiers": ["Typing :: Typed"], "dependencies": ["x>=2"], "optional-dependencies": {"more": ["y", "z<3"]}}
+         "authors": [{"name": "A B"}, {"name": "C"}], "classifiers": ["Typing :: Typed"], "dependencies": ["x>=2"], "optional-dependencies": {"more": ["y", "z<3"]}}
 ABC = "ungWv48Bz-pBQUDeXa4iI7ADYaOWF3qctBD_YfIAFa0"  # SHA-256 of "abc" by FIPS 180, as RECORD has it
 MADE = packages.Made(b"\0GLIBC_2.2.5\0GLIBC_2.17\0", b"\0GLIBC_2.34\0GLIBC_PRIVATE\0", None, "c0ffee", "kit 1", "proved")
 
@@ -28,8 +28,8 @@ class Wheel(unittest.TestCase):
     def test_metadata(self) -> None:
         text = build_wheel.core_metadata(ABOUT, "# Some\n\nName: other\n")
         found = email.message_from_string(text)
-        self.assertEqual([found[name] for name in ("Name", "Version", "Summary", "Keywords", "Requires-Python")],
-                         ["some", "1.5", "A thing", "a b,c", ">=3.11"])
+        self.assertEqual([found[name] for name in ("Name", "Version", "Summary", "Keywords", "Author", "Requires-Python")],
+                         ["some", "1.5", "A thing", "a b,c", "A B, C", ">=3.11"])
         self.assertEqual(found.get_all("Requires-Dist"), ["x>=2", 'y; extra == "more"', 'z<3; extra == "more"'])
         self.assertEqual((found.get_all("Provides-Extra"), found["Description-Content-Type"]), (["more"], "text/markdown"))
         self.assertEqual(found.get_payload(), "# Some\n\nName: other\n")
