@@ -37,7 +37,7 @@ DRAW_ENTRY = re.compile(r"^ {2}(-\S.*?|[A-Z]+)(?: {2,}|\n {10,})(\S.*)$", re.M) 
 WORD = re.compile(r"-{0,2}[A-Za-z_][\w\-]*(?:\.[a-z]\w*)*|\d[\d,.]*")
 
 
-def text_of(path: str) -> str:
+def text_of(path):
     return programs.read(os.path.join(ROOT, path)).decode(errors="replace")
 
 
@@ -190,10 +190,10 @@ def man_page(text):
     return re.sub(r'"planarbend [\d.]+"', f'"planarbend {version}"', text, count=1)
 
 
-def entries_of(command: str) -> list[tuple[str, str]]:
+def entries_of(command):
     """The arguments and options of a command, each with what --help says of it."""
     if command != "draw":
-        return [(entry[1], entry[2]) for entry in map(ENTRY.match, text_of(f"{TEXTS}/{command}").splitlines()) if entry]
+        return [entry.groups() for entry in map(ENTRY.match, text_of(f"{TEXTS}/{command}").splitlines()) if entry]
     words = [sys.executable, "-m", "planarbend", "draw", "--help"]
     environment = {"COLUMNS": "1000", "PYTHONPATH": os.path.join(ROOT, "python"), "PYTHONDONTWRITEBYTECODE": "1"}
     ran = subprocess.run(words, capture_output=True, text=True, env=os.environ | environment, check=True)

@@ -1,6 +1,6 @@
 #!/usr/bin/env python3
 """Writes the completions for bash, docs/planarbend.bash and docs/planarbend-draw.bash, from the texts of --help.
-checks/ready finds them if they are not those of the texts."""
+python/tests/test_packages.py finds them if they are not those of the texts."""
 from __future__ import annotations
 
 import re
@@ -75,12 +75,6 @@ def completions() -> dict[str, str]:
     table = {name: pages.entries_of(name) for name in commands if name != "help"}
     return {"docs/planarbend.bash": completion("planarbend", table, commands, options),
             "docs/planarbend-draw.bash": completion("planarbend-draw", {"*": pages.entries_of("draw")})}
-
-
-def faults() -> list[str]:
-    """The files that have another text, one line each."""
-    return [f"{path}: not as package/completion.py writes it" for path, text in completions().items()
-            if not Path(ROOT, path).is_file() or pages.text_of(path) != text]
 
 
 if __name__ == "__main__":

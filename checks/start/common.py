@@ -6,7 +6,6 @@ import re
 import shutil
 import signal
 import sys
-from collections.abc import Iterator
 from typing import NoReturn
 
 START = os.path.dirname(os.path.abspath(__file__))
@@ -66,7 +65,7 @@ def ignore_signals():
 
 
 @contextlib.contextmanager
-def alone() -> Iterator[None]:
+def alone():
     """Waits for other builds, tests and installations in this checkout, and keeps later ones waiting."""
     folder = os.open(ROOT, os.O_RDONLY)
     try:

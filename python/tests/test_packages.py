@@ -16,6 +16,7 @@ import support
 
 sys.path.insert(1, str(support.ROOT / "package"))
 import build_wheel
+import completion
 import packages
 
 ABOUT = {"name": "some", "version": "1.5", "description": "A thing", "keywords": ["a b", "c"], "requires-python": ">=3.11",
@@ -120,6 +121,19 @@ class Packages(unittest.TestCase):
 
 
 class Completion(unittest.TestCase):
+    def test_written_from_help(self) -> None:
+        for path, text in completion.completions().items():
+            self.assertEqual((support.ROOT / path).read_text(encoding="utf-8"), text, "run package/completion.py")
+
+    def test_options(self) -> None:
+        for name, said, wanted in (
+            ("-h, --help", "Print help", (["-h", "--help"], None)), ("<FILE>...", "files", ([], [])),
+            ("--outer <CHOICE>", "Face [default: a] [possible values: a, b]", (["--outer"], ["a", "b"])),
+            ("--theme {x,y}", "colours", (["--theme"], ["x", "y"])), ("-o, --output OUT", "a file", (["-o", "--output"], None)),
+            ("--straight NAME--NAME", "no bends", (["--straight"], [])), ("--progress...", "Show", (["--progress"], None)),
+        ):
+            self.assertEqual(completion.option_of(name, said), wanted)
+
     def completed(self, *words: str) -> list[str]:
         """What bash completes the last of these words to; a text that begins with `compopt` if files are not meant."""
         script = (f". {support.ROOT}/docs/{words[0]}.bash; compopt() {{ echo compopt $*; }}; COMP_WORDS=(\"$@\")"
