@@ -180,6 +180,20 @@ def planarbend() -> str:
     return built(os.environ.get("PLANARBEND") or f"{ROOT}/out/planarbend", "./planarbend --build")
 
 
+def library() -> Any:
+    """The built library: PLANARBEND_LIBRARY, or that of ./planarbend --build."""
+    from planarbend.layout.library import Library
+
+    return Library(library_file())
+
+
+def library_file(name: str = "libplanarbend.so.2") -> str:
+    """The path of the built library, or of a file beside it."""
+    path = os.environ.get("PLANARBEND_LIBRARY") or f"{ROOT}/out/libplanarbend.so.2"
+    path = os.path.join(os.path.dirname(os.path.abspath(path)), name)
+    return path if os.path.isfile(path) else sys.exit(f"not built: {path}; build it by ./planarbend --build")
+
+
 def of_crate(crate: str, command: str) -> str:
     """The program that `rt` with this command builds in a crate: its tests, or the program that it is."""
     name = crate + "_tests" if command == "test" else crate
