@@ -324,6 +324,14 @@ def run(words: Sequence[str], stderr: int | None = None) -> Run:
     return Run(seconds, used.ru_utime + used.ru_stime, peak or used.ru_maxrss * 1024, digest.hexdigest())
 
 
+def wait_for(holds: Callable[[], object], text: str, patience: float, pause: float = 0.1) -> None:
+    """Waits until a condition holds."""
+    end = time.monotonic() + patience
+    while not holds():
+        assert time.monotonic() < end, f"not seen in {patience} s: {text}"
+        time.sleep(pause)
+
+
 def peak_of(process: int) -> int:
     """The most memory, in bytes, that a process has had so far; 0 once it has ended."""
     try:
