@@ -8,6 +8,7 @@ import signal
 import sys
 import tempfile
 import unittest
+from collections.abc import Iterable
 from typing import Any
 
 import planted
@@ -65,22 +66,36 @@ def stop(*_: object) -> None:
     raise KeyboardInterrupt
 
 
-def main(checks: type[Checks], *options: tuple[str, dict[str, Any]], what: str = "CASE", alone: str = "",
-         is_quiet: bool = False) -> int:
-    """Runs a script: parses its arguments, which name cases, and these options; runs the cases, without names all except
-    one that runs only by its name; and returns the exit status."""
-    known = {name.replace("_", "-"): name for name, value in vars(checks).items() if callable(value) and name[0] != "_"}
+def asked(checks: type[Checks], *options: tuple[str, dict[str, Any]], what: str = "CASE") -> argparse.Namespace:
+    """The arguments of a script: names of its cases, and these options."""
     parser = programs.parser_of(sys.modules["__main__"].__doc__)
-    programs.add_names(parser, what, known)
+    programs.add_names(parser, what, known(checks))
     for option, how in options:
         parser.add_argument(option, **how)
-    checks.told, result = planted.asked(parser, os.path.abspath(sys.argv[0])), Counted(is_quiet)
+    checks.told = planted.asked(parser, os.path.abspath(sys.argv[0]))
+    return checks.told
+
+
+def known(checks: type[Checks]) -> dict[str, str]:
+    """The methods that are cases, by their names on the command line."""
+    return {name.replace("_", "-"): name for name, value in vars(checks).items() if callable(value) and name[0] != "_"
+            and name != "setUp"}
+
+
+def run(checks: type[Checks], names: Iterable[str], is_quiet: bool = False) -> int:
+    """Runs these cases, prints the counts, and returns the exit status."""
+    result = Counted(is_quiet)
     for number in (signal.SIGTERM, signal.SIGINT):  # a shell's background job starts with SIGINT ignored
         signal.signal(number, stop)
     try:
-        for name in [name for name in checks.told.names if name != alone or len(checks.told.names) < len(known)]:
-            checks(known[name]).run(result)
+        for name in names:
+            checks(known(checks)[name]).run(result)
     except KeyboardInterrupt:
         sys.exit(f"{os.path.relpath(sys.argv[0], programs.ROOT)}: stopped")
     print(f"{result.passed} passed, {result.failed} failed")
     return 1 if result.failed else 0
+
+
+def main(checks: type[Checks], *options: tuple[str, dict[str, Any]]) -> int:
+    """Runs a script whose arguments are names of its cases and these options."""
+    return run(checks, asked(checks, *options).names)
