@@ -53,7 +53,7 @@ class Counted(unittest.TestResult):
             self.addError(test, None)
 
     def addError(self, test: unittest.TestCase, error: Any) -> None:
-        self.note(test.id().rpartition(".")[2].replace("_", "-"), error)
+        self.note(test.id().rpartition(".")[2], error)
 
     addFailure = addError
 
@@ -69,17 +69,12 @@ def stop(*_: object) -> None:
 def asked(checks: type[Checks], *options: tuple[str, dict[str, Any]], what: str = "CASE") -> argparse.Namespace:
     """The arguments of a script: names of its cases, and these options."""
     parser = programs.parser_of(sys.modules["__main__"].__doc__)
-    programs.add_names(parser, what, known(checks))
+    programs.add_names(parser, what, [name for name, value in vars(checks).items() if name[0] != "_" and name != "setUp"
+                                      and (callable(value) or hasattr(value, "__get__"))])
     for option, how in options:
         parser.add_argument(option, **how)
     checks.told = planted.asked(parser, os.path.abspath(sys.argv[0]))
     return checks.told
-
-
-def known(checks: type[Checks]) -> dict[str, str]:
-    """The methods that are cases, by their names on the command line."""
-    return {name.replace("_", "-"): name for name, value in vars(checks).items() if callable(value) and name[0] != "_"
-            and name != "setUp"}
 
 
 def run(checks: type[Checks], names: Iterable[str], is_quiet: bool = False) -> int:
@@ -89,7 +84,7 @@ def run(checks: type[Checks], names: Iterable[str], is_quiet: bool = False) -> i
         signal.signal(number, stop)
     try:
         for name in names:
-            checks(known(checks)[name]).run(result)
+            checks(name).run(result)
     except KeyboardInterrupt:
         sys.exit(f"{os.path.relpath(sys.argv[0], programs.ROOT)}: stopped")
     print(f"{result.passed} passed, {result.failed} failed")
