@@ -66,13 +66,11 @@ def stop(*_: object) -> None:
     raise KeyboardInterrupt
 
 
-def asked(checks: type[Checks], *options: tuple[str, dict[str, Any]], what: str = "CASE") -> argparse.Namespace:
+def asked(checks: type[Checks], *options: programs.Option, what: str = "CASE") -> argparse.Namespace:
     """The arguments of a script: names of its cases, and these options."""
-    parser = programs.parser_of(sys.modules["__main__"].__doc__)
+    parser = programs.parser_of(sys.modules["__main__"].__doc__, *options)
     programs.add_names(parser, what, [name for name, value in vars(checks).items() if name[0] != "_" and name != "setUp"
                                       and (callable(value) or hasattr(value, "__get__"))])
-    for option, how in options:
-        parser.add_argument(option, **how)
     checks.told = planted.asked(parser, os.path.abspath(sys.argv[0]))
     return checks.told
 
@@ -91,6 +89,6 @@ def run(checks: type[Checks], names: Iterable[str], is_quiet: bool = False) -> i
     return 1 if result.failed else 0
 
 
-def main(checks: type[Checks], *options: tuple[str, dict[str, Any]]) -> int:
+def main(checks: type[Checks], *options: programs.Option) -> int:
     """Runs a script whose arguments are names of its cases and these options."""
     return run(checks, asked(checks, *options).names)

@@ -1,8 +1,9 @@
-"""Shared by the scripts of bench/ and checks/: command lines, cases, the programs that they run, the toolchain, the
-preloaded library, copies of crates, files of graphs, runs of a program, and the sections of bench/RESULTS.md."""
+"""Shared by the scripts of bench/ and checks/: command lines, the programs that they run, the toolchain, the preloaded
+library, copies of crates, files of graphs, runs of a program, and the sections of bench/RESULTS.md."""
 from __future__ import annotations
 
 import argparse
+import contextlib
 import datetime
 import hashlib
 import importlib.machinery
@@ -52,15 +53,17 @@ class Run(NamedTuple):
     digest: str
 
 
-def parser_of(text: str | None) -> argparse.ArgumentParser:
-    """A parser of the command line with this help."""
-    return argparse.ArgumentParser(description=text, formatter_class=argparse.RawDescriptionHelpFormatter,
-                                   epilog="The built program is PLANARBEND, or else that of ./planarbend --build.")
+Option = tuple[str, dict[str, Any]]  # a name, and what argparse is told of it
+WRITE: Option = ("--write", {"action": "store_true", "help": "replace this script's tables in bench/RESULTS.md"})
 
 
-def add_write(parser: argparse.ArgumentParser) -> None:
-    """Adds the option that stores the tables."""
-    parser.add_argument("--write", action="store_true", help="replace this script's tables in bench/RESULTS.md")
+def parser_of(text: str | None, *options: Option) -> argparse.ArgumentParser:
+    """A parser of the command line with this help and these options."""
+    parser = argparse.ArgumentParser(description=text, formatter_class=argparse.RawDescriptionHelpFormatter,
+                                     epilog="The built program is PLANARBEND, or else that of ./planarbend --build.")
+    for option, how in options:
+        parser.add_argument(option, **how)
+    return parser
 
 
 def add_names(parser: argparse.ArgumentParser, what: str, known: Collection[str], default: str = "") -> None:
@@ -74,40 +77,14 @@ def add_names(parser: argparse.ArgumentParser, what: str, known: Collection[str]
                         help=f"{', '.join(known)} ({default or 'all'})")
 
 
-class Cases:
-    """Prints a line for each case, and counts those that failed."""
-
-    def __init__(self) -> None:
-        self.failed = 0
-
-    def look(self, name: str, well: bool, told: object = "") -> None:
-        """Prints the result of a case, with a remark if there is one."""
-        self.failed += not well
-        print(f"{'passed' if well else 'FAILED'}: {name}" + f": {told}" * bool(told), flush=True)
-
-    def run(self, name: str, case: Callable[..., object], *given: object) -> None:
-        """Runs a case; it fails if it raises an exception."""
-        try:
-            case(*given)
-        except Exception as fault:
-            self.look(name, False, fault if isinstance(fault, AssertionError) else repr(fault))
-        else:
-            self.look(name, True)
-
-    def status(self) -> int:
-        """The exit status of the script."""
-        return 1 if self.failed else 0
-
-
 class Section:
     """A section of bench/RESULTS.md: the command that writes it, a title, when and where it ran, and tables. Each line
     is printed as soon as it is added. Faults are bounds that a figure exceeds."""
 
-    def __init__(self, command: str, title: str) -> None:
-        self.head = f"## `{command}`"
-        self.lines: list[str] = []
-        self.faults: list[str] = []
+    def __init__(self, command: str, title: str, *columns: str) -> None:
+        self.head, self.lines, self.faults = f"## `{command}`", list[str](), list[str]()
         self.add(f"{self.head}: {title}", "", where(), "")
+        self.columns(*columns)
 
     def add(self, *lines: str) -> None:
         self.lines += lines
@@ -133,11 +110,14 @@ class Section:
 Part = Callable[[argparse.Namespace, str], Section]  # of a script: from its options and a folder
 
 
-def measure(told: argparse.Namespace, parts: dict[str, Part]) -> int:
-    """Runs the named parts, each in its own folder, keeps what they print if requested, and prints their
-    faults. Returns the exit status of the script."""
-    faults = []
-    for name in told.names:
+def measure(parts: dict[str, Part], *options: Option, default: str = "") -> int:
+    """Runs the parts that the command line names, each in its own folder, keeps what they print if requested, and prints
+    their faults. Returns the exit status of the script."""
+    parser, faults = parser_of(sys.modules["__main__"].__doc__, *options, WRITE), []
+    if len(parts) > 1:
+        add_names(parser, "PART", parts, default)
+    told = parser.parse_args()
+    for name in told.names if len(parts) > 1 else parts:
         with tempfile.TemporaryDirectory() as folder:
             section = parts[name](told, folder)
         section.keep(told.write)
@@ -156,8 +136,7 @@ def where() -> str:
 def busy_cores() -> float:
     """How many cores were busy during one second."""
     def ticks() -> tuple[int, int]:
-        with open("/proc/stat", encoding="ascii") as lines:
-            numbers = list(map(int, lines.readline().split()[1:9]))
+        numbers = list(map(int, read("/proc/stat").split()[1:9]))
         return sum(numbers), numbers[3] + numbers[4]  # all; idle or waiting for a disk
 
     before, idle_before = ticks()
@@ -227,10 +206,9 @@ def module(path: str) -> Any:
 
 def preload(folder: str) -> str:
     """Builds checks/preload.c in a folder and returns the library's path."""
-    library = os.path.join(folder, "preload.so")
-    source = os.path.join(ROOT, "checks/preload.c")
-    subprocess.run(["cc", "-O1", "-shared", "-fPIC", "-o", library, source], check=True)
-    return library
+    made = os.path.join(folder, "preload.so")
+    subprocess.run(["cc", "-O1", "-shared", "-fPIC", "-o", made, os.path.join(ROOT, "checks/preload.c")], check=True)
+    return made
 
 
 def outside(folder: str, source: str = "lemon.cc", *more: str) -> str:
@@ -334,12 +312,10 @@ def wait_for(holds: Callable[[], object], text: str, patience: float, pause: flo
 
 def peak_of(process: int) -> int:
     """The most memory, in bytes, that a process has had so far; 0 once it has ended."""
-    try:
-        with open(f"/proc/{process}/status", encoding="ascii") as lines:
-            found = [line.split()[1] for line in lines if line.startswith("VmHWM:")]
-    except OSError:
-        return 0
-    return int(found[0]) * 1024 if found else 0
+    with contextlib.suppress(OSError):
+        if found := re.search(rb"^VmHWM: *\t*(\d+)", read(f"/proc/{process}/status"), re.M):
+            return int(found[1]) * 1024
+    return 0
 
 
 def generated(folder: str, kind: str, vertices: int | str, count: int, seed: int | str) -> str:
@@ -387,7 +363,8 @@ def text_of(words: Sequence[str]) -> str:
     return subprocess.run(words, check=True, stdout=subprocess.PIPE, stderr=subprocess.DEVNULL, text=True).stdout
 
 
-def figures(words: Sequence[str]) -> dict[str, int]:
+def figures(words: Sequence[str], given: bytes = b"") -> dict[str, int]:
     """The numbers that a program prints in one line, by name."""
-    pairs = (word.partition("=") for word in text_of(words).split())
+    ran = subprocess.run(words, check=True, input=given, stdout=subprocess.PIPE, stderr=subprocess.DEVNULL)
+    pairs = (word.partition("=") for word in ran.stdout.decode().split())
     return {name: int(figure) for name, _, figure in pairs if figure}
