@@ -24,55 +24,53 @@
 
 // The fewest bends with whichever face as the outer one.
 static long best_bends(Graph graph) {
-  long best = -1;
-  for (graph.outer = 0; graph.outer < static_cast<int>(graph.degree.size()); ++graph.outer) {
-    const long bends = fewest_bends(graph);
-    if (best < 0 || bends < best) best = bends;
-  }
+  long best = 1l << 40;
+  for (graph.outer = 0; graph.outer < static_cast<int>(graph.degree.size()); ++graph.outer)
+    best = std::min(best, fewest_bends(graph));
   return best;
 }
 
 // The nanoseconds of a network, built and solved: the least of so many times.
 static long least_time(const Graph &graph, int rounds) {
-  long least = -1;
+  long least = 1l << 60;
   for (int round = 0; round < rounds; ++round) {
     const auto begin = std::chrono::steady_clock::now();
-    if (fewest_bends(graph) < 0) return -1;
-    const auto took = std::chrono::steady_clock::now() - begin;
-    const long time = std::chrono::duration_cast<std::chrono::nanoseconds>(took).count();
-    if (least < 0 || time < least) least = time;
+    fewest_bends(graph);
+    const std::chrono::nanoseconds took = std::chrono::steady_clock::now() - begin;
+    least = std::min<long>(least, took.count());
   }
   return least;
 }
 
-static int print_times(const std::string &text, int rounds) {
+// Calls `each` with the graphs of a file, and returns how many there are. Ends the program if one breaks a rule.
+template <class Each>
+static long each_graph(const std::string &text, Each each) {
   size_t at = 15;
   Graph graph;
-  long graphs = 0, sum = 0;
-  while (next_record(text, at, graph)) {
-    if (broken_rule(graph)) return 1;
-    ++graphs;
-    sum += least_time(graph, rounds);
+  long graphs = 0;
+  for (; next_record(text, at, graph); ++graphs) {
+    if (broken_rule(graph)) std::exit(1);
+    each(graph);
   }
-  std::printf("graphs=%ld networks=%ld\n", graphs, sum);
-  return 0;
+  return graphs;
+}
+
+static int print_times(const std::string &text, int rounds) {
+  long sum = 0;
+  const long graphs = each_graph(text, [&](const Graph &graph) { sum += least_time(graph, rounds); });
+  return std::printf("graphs=%ld networks=%ld\n", graphs, sum) < 0;
 }
 
 static int print_turning(const std::string &text) {
   const int bend = 1000;  // more than vertices can turn
-  size_t at = 15;
-  Graph graph;
-  long graphs = 0, two = 0, bends = 0, turning = 0;
-  while (next_record(text, at, graph)) {
-    if (broken_rule(graph)) return 1;
-    ++graphs;
+  long two = 0, bends = 0, turning = 0;
+  const long graphs = each_graph(text, [&](const Graph &graph) {
     for (const auto &neighbours : graph.lists) two += neighbours.size() == 2;
     const long cost = least_cost(graph, bend, 1);
     bends += cost / bend;
     turning += cost % bend;
-  }
-  std::printf("graphs=%ld bends=%ld two=%ld turning=%ld\n", graphs, bends, two, turning);
-  return 0;
+  });
+  return std::printf("graphs=%ld bends=%ld two=%ld turning=%ld\n", graphs, bends, two, turning) < 0;
 }
 
 // What is printed of each file: how far its graphs are taken, and whether totals stand alone.
@@ -86,8 +84,7 @@ static void print_report(const std::string &text, Report report) {
   long number = 0, accepted = 0, all_faces = 0, all_bends = 0;
   while (next_record(text, at, graph)) {
     ++number;
-    const char *rule = broken_rule(graph);
-    if (rule) {
+    if (const char *rule = broken_rule(graph)) {
       if (!report.quiet) std::printf("graph %ld refused %s\n", number, rule);
       continue;
     }
@@ -253,46 +250,42 @@ struct Splitter {
   std::vector<std::vector<unsigned char>> kept;
   std::string out;
 
-  void line(unsigned order, size_t bytes, size_t number) {
+  void line(const std::vector<unsigned char> &record, size_t number) {
     char text[96];
-    int size = snprintf(text, sizeof text, "record %zu n=%u bytes=%zu\n", number, order, bytes);
-    out.append(text, static_cast<size_t>(size));
+    out.append(text, snprintf(text, sizeof text, "record %zu n=%u bytes=%zu\n", number, record[0], record.size()));
     if (out.size() > kPiece) flush();
   }
   void flush() {
     fwrite(out.data(), 1, out.size(), stdout);
     out.clear();
   }
-  void whole() {
-    ++records;
-    if (keep) kept.emplace_back(open);
-    else line(open[0], open.size(), records);
-    open.clear();
+  // Takes a byte of a record; the word of a fault, or null.
+  const char *add(unsigned char byte) {
+    if (open.empty()) {
+      if (records == kMostRecords) return "many";
+      if (byte == 0) return "large";
+      left = byte;
+    } else if (byte != 0 && ++entries > 254) {
+      return "oversize";
+    }
+    const bool ends_list = byte == 0;
+    open.push_back(byte);
+    if (ends_list) entries = 0;
+    if (ends_list && --left == 0) {
+      ++records;
+      if (keep) kept.emplace_back(open);
+      else line(open, records);
+      open.clear();
+    }
+    return nullptr;
   }
   // Takes one piece; the word of a fault, or null.
   const char *feed(const unsigned char *piece, size_t size) {
-    for (size_t i = 0; i < size; ++i) {
-      unsigned char byte = piece[i];
-      if (header_done < kHeaderSize) {
-        if (byte != static_cast<unsigned char>(kHeader[header_done])) return "header";
-        ++header_done;
-      } else if (open.empty()) {
-        if (records == kMostRecords) return "many";
-        if (byte == 0) return "large";
-        open.push_back(byte);
-        left = byte;
-        entries = 0;
-      } else if (byte == 0) {
-        open.push_back(byte);
-        entries = 0;
-        if (--left == 0) whole();
-      } else {
-        if (entries == 254) return "oversize";
-        open.push_back(byte);
-        ++entries;
-      }
-    }
-    return nullptr;
+    const char *fault = nullptr;
+    for (size_t i = 0; i < size && !fault; ++i)
+      if (header_done == kHeaderSize) fault = add(piece[i]);
+      else if (piece[i] != static_cast<unsigned char>(kHeader[header_done++])) fault = "header";
+    return fault;
   }
 };
 
@@ -302,19 +295,16 @@ static int print_frames(const char *name, bool keep) {
   FILE *file = fopen(name, "rb");
   const char *end = file ? nullptr : "io";
   static unsigned char piece[kPiece];
-  while (file && !end) {
-    size_t size = fread(piece, 1, sizeof piece, file);
-    if (size == 0) {
-      end = ferror(file)                          ? "io"
-            : splitter.header_done < kHeaderSize ? "header"
-            : splitter.open.empty()              ? "complete"
-                                                  : "truncated";
-      break;
-    }
-    end = splitter.feed(piece, size);
+  while (!end) {
+    const size_t size = fread(piece, 1, sizeof piece, file);
+    end = size > 0                               ? splitter.feed(piece, size)
+          : ferror(file)                         ? "io"
+          : splitter.header_done < kHeaderSize   ? "header"
+          : splitter.open.empty()                ? "complete"
+                                                 : "truncated";
   }
   size_t number = 0;
-  for (const auto &record : splitter.kept) splitter.line(record[0], record.size(), ++number);
+  for (const auto &record : splitter.kept) splitter.line(record, ++number);
   splitter.flush();
   printf("end %s records=%zu\n", end, splitter.records);
   return strcmp(end, "complete") == 0 ? 0 : 3;
