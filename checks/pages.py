@@ -91,7 +91,7 @@ class Tree:
         edits = [file.split("/") for file in self.files if file.endswith(".edit")]
         return {"crates": len(tests), "tests": sum(tests), "proofs": len(tests) + sum(map(bool, tests)),
                 "edits": sum(parts[0] == "crates" and parts[2] == "must-fail" for parts in edits),
-                "attacks": sum(parts[:2] == ["checks", "edits"] for parts in edits)}
+                "attacks": sum(parts[:2] == ["checks", "edits"] and parts[2] != "tested" for parts in edits)}
 
     def has_path(self, name):
         """Whether the path of some file or folder of the tree ends like this."""

@@ -74,7 +74,7 @@ def add_names(parser: argparse.ArgumentParser, what: str, known: Collection[str]
         return word
 
     parser.add_argument("names", metavar=what, nargs="*", type=name, default=[default] if default else list(known),
-                        help=f"{', '.join(known)} ({default or 'all'})")
+                        help=f"{', '.join(known)} ({default or 'all'})" if len(known) < 30 else "(all)")
 
 
 class Section:
