@@ -8,8 +8,6 @@
 //   many FILES    the fewest bends of the graphs of files, one after another in one process
 //   times FILE N  a line: the nanoseconds of building and solving the networks of all graphs, each the least of N times
 //   turning FILE  a line: how many vertices have degree 2, and how few of them turn in shapes with the fewest bends
-//   lengths       the least lengths of random drawings along one axis (crates/length_tests/src/random.rt)
-//   given         the least length of each drawing along one axis on standard input
 //   costs         the least costs of random networks, `-` if there is no flow (crates/flow_tests/src/flows.rt)
 //   keep FILE     the lines of `planarbend frames`, once all records are gathered, each in a buffer of its own
 //   stream FILE   the same lines, and no record is kept
@@ -18,9 +16,6 @@
 #include <cstdlib>
 #include <cstring>
 #include <iostream>
-#include <lemon/list_graph.h>
-#include <stdexcept>
-#include <utility>
 
 // The fewest bends with whichever face as the outer one.
 static long best_bends(Graph graph) {
@@ -99,13 +94,7 @@ static void print_report(const std::string &text, Report report) {
   std::printf("graphs %ld accepted %ld faces %ld bends %ld\n", number, accepted, all_faces, all_bends);
 }
 
-// ---- Lengths of drawings along one axis.
-//
-// Segments keep their order on each level that two of them share, one unit apart at least: the dual of that linear
-// program sends units from segments where more edges begin to those where more end, over each such pair, and as many
-// as can be. A drawing on standard input is whole numbers: how many segments there are; how many wires, and the
-// segments of each, counted from 0, the lesser coordinate first; how many pairs that are one unit apart at least, and
-// likewise their segments. Wires are pairs too.
+// ---- Random networks, as crates/flow_tests/src/flows.rt makes them.
 
 struct Random {
   uint64_t state;
@@ -114,92 +103,6 @@ struct Random {
     return static_cast<int>((state >> 33) % static_cast<uint64_t>(count));
   }
 };
-
-using Pair = std::pair<int, int>;
-using Pairs = std::vector<Pair>;
-
-// Whether segments share a level, each given by its least and its greatest.
-static bool share_a_level(const Pair &one, const Pair &other) {
-  return std::max(one.first, other.first) <= std::min(one.second, other.second);
-}
-
-static long least_length(int count, const Pairs &wires, const Pairs &apart) {
-  lemon::ListDigraph graph;
-  std::vector<lemon::ListDigraph::Node> nodes;
-  for (int r = 0; r < count; ++r) nodes.push_back(graph.addNode());
-  lemon::ListDigraph::NodeMap<long> supply(graph, 0);
-  lemon::ListDigraph::ArcMap<long> cost(graph, -1);
-  for (const auto &[low, high] : wires) {
-    ++supply[nodes[low]];
-    --supply[nodes[high]];
-  }
-  for (const auto &[low, high] : apart) cost[graph.addArc(nodes[low], nodes[high])] = -1;
-  lemon::NetworkSimplex<lemon::ListDigraph, long, long> simplex(graph);
-  simplex.costMap(cost).supplyMap(supply);
-  if (simplex.run() != simplex.OPTIMAL) throw std::runtime_error("no least length");
-  return -simplex.totalCost<long>();
-}
-
-// Of a drawing with so many segments, on so many levels and each on at most `height`.
-static long least_length(Random &random, int count, int levels, int height) {
-  Pairs segments, wires, apart;
-  for (int r = 0; r < count; ++r) {
-    random.below(3);  // how far behind the segment before it is drawn
-    const int low = random.below(levels);
-    segments.push_back({low, std::min(low + random.below(height), levels - 1)});
-  }
-  for (int tried = 0; tried < 2 * count; ++tried) {
-    const int one = random.below(count), other = random.below(count);
-    if (one == other || !share_a_level(segments[one], segments[other])) continue;
-    wires.push_back({std::min(one, other), std::max(one, other)});
-  }
-  for (int r = 0; r < count; ++r)
-    for (int s = r + 1; s < count; ++s)
-      if (share_a_level(segments[r], segments[s])) apart.push_back({r, s});
-  return least_length(count, wires, apart);
-}
-
-// The next pairs, and as many of them as are said to come.
-static Pairs next_pairs() {
-  int count = 0;
-  std::cin >> count;
-  Pairs pairs(count);
-  for (auto &[low, high] : pairs) std::cin >> low >> high;
-  return pairs;
-}
-
-static int print_given() {
-  std::ios::sync_with_stdio(false);
-  int count = 0;
-  while (std::cin >> count) {
-    const Pairs wires = next_pairs();
-    Pairs apart = next_pairs();
-    if (!std::cin) return 1;
-    apart.insert(apart.end(), wires.begin(), wires.end());
-    std::cout << least_length(count, wires, apart) << "\n";
-  }
-  return 0;
-}
-
-// Of a thousand small drawings the sums of a hundred each, and the lengths of three large ones, after their numbers.
-static int print_lengths() {
-  for (uint64_t first = 0; first < 1000; first += 100) {
-    long total = 0;
-    for (uint64_t drawing = first; drawing < first + 100; ++drawing) {
-      Random random{drawing};
-      const int count = random.below(30) + 2, levels = random.below(12) + 1;
-      total += least_length(random, count, levels, levels);
-    }
-    std::cout << total << "\n";
-  }
-  for (const int count : {300, 600, 1000}) {
-    Random random{static_cast<uint64_t>(count)};
-    std::cout << count << " " << least_length(random, count, 40, 8) << "\n";
-  }
-  return 0;
-}
-
-// ---- Random networks, as crates/flow_tests/src/flows.rt makes them.
 
 static std::string next_cost(Random &random) {
   using Net = lemon::SmartDigraph;
@@ -312,8 +215,6 @@ static int print_frames(const char *name, bool keep) {
 
 int main(int count, char **words) {
   const std::string mode = count > 1 ? words[1] : "";
-  if (mode == "lengths") return print_lengths();
-  if (mode == "given") return print_given();
   if (mode == "costs") return print_costs();
   if (count < 3) return 2;
   if (mode == "keep" || mode == "stream") return print_frames(words[2], mode == "keep");
