@@ -1,7 +1,5 @@
 """The harness of the scripts of checks/, on unittest: cases by their names on the command line, a line for each, the counts
 and the exit status. A case fails by any exception; `assert` with a text says why."""
-from __future__ import annotations
-
 import argparse
 import os
 import signal

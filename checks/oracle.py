@@ -1,8 +1,6 @@
 """What a right answer is, without the code of the product: darts and faces of neighbour lists, rules for graphs, the JSON form
 of lines, what the points of a drawing show, and the fewest bends, also under conditions. By docs/FORMAT.md, docs/JSON.md and
 docs/CHECK.md. The fewest bends are those of scipy's HiGHS, and regions are scipy's labels (Debian: python3-scipy)."""
-from __future__ import annotations
-
 import collections
 import itertools
 import json

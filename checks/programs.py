@@ -1,7 +1,5 @@
 """Shared by the scripts of bench/ and checks/: command lines, the programs that they run, the toolchain, the preloaded
 library, copies of crates, files of graphs, runs of a program, and the sections of bench/RESULTS.md."""
-from __future__ import annotations
-
 import argparse
 import contextlib
 import datetime

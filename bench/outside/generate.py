@@ -27,8 +27,6 @@
 
 Needs Python's standard library alone, and takes a few milliseconds a graph of 250 vertices.
 """
-from __future__ import annotations
-
 import math
 import os
 import random

@@ -1,6 +1,4 @@
 """Arguments of the command line, and the command `check`."""
-from __future__ import annotations
-
 import os
 import re
 import shutil

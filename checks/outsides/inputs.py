@@ -1,6 +1,4 @@
 """Files of all kinds, good and bad, pipes and standard input."""
-from __future__ import annotations
-
 import bz2
 import contextlib
 import gzip

@@ -1,6 +1,4 @@
 """Limits on open files, threads and address space."""
-from __future__ import annotations
-
 import bisect
 import ctypes
 import os

@@ -1,7 +1,5 @@
 """Shared by the groups of cases: the program's input and expected answers, the content of report lines, how a run may
 end, the use of Linux, and the folder in which the program runs."""
-from __future__ import annotations
-
 import array
 import contextlib
 import fcntl

@@ -1,7 +1,5 @@
 """What a run writes, and when: outputs that are closed or full, signals, sources that become silent, lines of progress,
 and how far later files are read."""
-from __future__ import annotations
-
 import contextlib
 import os
 import pty

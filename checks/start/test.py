@@ -9,8 +9,6 @@ What `rt ci` proves is kept for `planarbend --build`. What was built stays, also
 The package's tests are run by the first of this Python and Debian's that has networkx, NumPy and SciPy, otherwise by the
 first that has networkx. Those that need one of these, Graphviz or rsvg-convert are skipped, by name, if it is missing. `planarbend --test` starts this script.
 """
-from __future__ import annotations
-
 import contextlib
 import os
 import re
