@@ -5,7 +5,6 @@ import contextlib
 import datetime
 import hashlib
 import importlib.machinery
-import importlib.util
 import os
 import re
 import shutil
@@ -13,6 +12,7 @@ import subprocess
 import sys
 import tempfile
 import time
+import types
 from collections.abc import Callable, Collection, Iterable, Sequence
 from pathlib import Path
 from typing import Any, NamedTuple
@@ -173,8 +173,7 @@ def library_file(name: str = "libplanarbend.so.2") -> str:
 
 def of_crate(crate: str, command: str) -> str:
     """The program that `rt` with this command builds in a crate: its tests, or the program that it is."""
-    name = crate + "_tests" if command == "test" else crate
-    return built(f"{ROOT}/crates/{crate}/out/{name}", f"(cd crates/{crate} && rt {command})")
+    return built(f"{ROOT}/crates/{crate}/out/{crate}{'_tests' * (command == 'test')}", f"(cd crates/{crate} && rt {command})")
 
 
 def corpus() -> str:
@@ -193,12 +192,9 @@ def built(program: str, command: str) -> str:
 def module(path: str) -> Any:
     """A script of this repository, as a module; or another Python file, by its full path."""
     name = os.path.basename(path).replace("-", "_").removesuffix(".py")
-    loader = importlib.machinery.SourceFileLoader(name, os.path.join(ROOT, path))
-    spec = importlib.util.spec_from_loader(name, loader)
-    assert spec
-    found = importlib.util.module_from_spec(spec)
-    sys.modules[name] = found
-    loader.exec_module(found)
+    sys.modules[name] = found = types.ModuleType(name)
+    found.__file__ = os.path.join(ROOT, path)
+    importlib.machinery.SourceFileLoader(name, found.__file__).exec_module(found)
     return found
 
 
@@ -255,14 +251,10 @@ def copy_crates(folder: str, top: str, root: str = ROOT) -> str:
     uses, found = libraries(root), [top]
     for crate in found:  # which grows
         found += [used for used in uses[crate] if used in uses and used not in found]
-    crates = [crate for crate in uses if crate in found]
-    for crate in crates:
-        for part in ("src", "specs"):
-            source = os.path.join(root, "crates", crate, part)
-            if os.path.isdir(source):
-                shutil.copytree(source, os.path.join(folder, "crates", crate, part))
+        for source in [part for part in ("src", "specs") if os.path.isdir(f"{root}/crates/{crate}/{part}")]:
+            shutil.copytree(f"{root}/crates/{crate}/{source}", f"{folder}/crates/{crate}/{source}")
     shutil.copy(os.path.join(root, "HANDLES"), folder)
-    lines = [f"{crate}: {' '.join(uses[crate])}\n" for crate in crates]
+    lines = [f"{crate}: {' '.join(used)}\n" for crate, used in uses.items() if crate in found]
     Path(folder, "crates.txt").write_text("".join(lines), encoding="utf-8")
     return os.path.join(folder, "crates", top)
 
