@@ -107,8 +107,7 @@ def says(machine: Machine, name: str, words: list[Any], out: bytes, status: int,
     with machine.case("check", name):
         words = ["check", *words]
         ran = machine.fed(words, how["given"], pause) if pause else machine.ran(words, **how)
-        assert ran == (status, out, err), f"status {ran.status}, {ran.out[-200:]!r}, {ran.err!r}; not status" \
-            f" {status}, {out[-200:]!r}, {err!r}"
+        assert ran == (status, out, err), f"{ran}; not {Ran(status, out, err)}"
 
 
 def reads_pipes(machine: Machine, two: str, drawn: str) -> None:
@@ -149,7 +148,7 @@ def reads_long_lines(machine: Machine) -> None:
     many = machine.file(HEADER + LONE * count)
     with machine.case("check", f"{count} graphs in little memory"):
         ran = machine.ran(["check", many, machine.file(b"{}\n" * count)], **room)
-        assert ran.status == 4 and ran.out.count(b" refused edgeless\n") == count, (ran.status, ran.out[-80:], ran.err)
+        assert ran.status == 4 and ran.out.count(b" refused edgeless\n") == count, ran
 
 
 def fails_to_write(machine: Machine, paths: list[str]) -> None:

@@ -81,9 +81,6 @@ class Climb(NamedTuple):
     steps: Iterable[int]
     environment: dict[str, str]
 
-    def words(self) -> list[str]:
-        return [*self.command.words, self.path]
-
 
 def check_memory(machine: Machine) -> None:
     """Steps for two graphs; for many graphs, so that memory runs out during the work; and for many with one heap for
@@ -104,12 +101,9 @@ def check_memory(machine: Machine) -> None:
 
 def loaded_from(machine: Machine) -> int:
     """The least address space, in kB, with which the system's loader brings the program to its start."""
-    def is_enough(space: int) -> bool:
-        traced = {"LD_TRACE_LOADED_OBJECTS": "1"}  # the loader ends where the program would start
-        return machine.ran([], environment=traced, preexec_fn=limits(AS=space << 10)).status == 0
-
-    steps = range(0, MOST_TO_LOAD, 4)
-    return steps[bisect.bisect_left(steps, True, key=is_enough)]
+    steps, traced = range(0, MOST_TO_LOAD, 4), {"LD_TRACE_LOADED_OBJECTS": "1"}  # it ends where the program would start
+    return steps[bisect.bisect_left(steps, True, key=lambda space: machine.ran(
+        [], environment=traced, preexec_fn=limits(AS=space << 10)).status == 0)]
 
 
 def climb(machine: Machine, runs: Climb) -> None:
@@ -132,7 +126,7 @@ def each_ends_by_name(machine: Machine, runs: Climb, answers: dict[int, Ran]) ->
     """Fills in how the run ends at each step. If the system refuses a page for the stack, there is no answer."""
     wrong: list[str] = []
     for step in runs.steps:
-        ran = machine.ran(runs.words(), environment=runs.environment, preexec_fn=limits(AS=step << 10))
+        ran = machine.ran([*runs.command.words, runs.path], environment=runs.environment, preexec_fn=limits(AS=step << 10))
         answers[step] = ran
         if ran.status == -signal.SIGSEGV and lacks_stack(machine, runs, step):
             print(f"{runs.command}, {runs.name}: {step} kB of address space: the stack may not grow", flush=True)
@@ -158,8 +152,7 @@ def wants_memory(command: Command, ran: Ran, files: list[File]) -> None:
     expected = expected_events(command, told)
     lacking = any(lacks_memory(event) for event in events)
     status = 3 if lacking or any(file.mark != "complete" for file in told) else 0
-    assert ran.status == status and not rest and are_same(events, expected, scarce=True) and not ran.err, \
-        f"status {ran.status}, {ran.err[:200]!r}, end of output {ran.out[-60:]!r}"
+    assert ran.status == status and not rest and are_same(events, expected, scarce=True) and not ran.err, ran
 
 
 def lacks_stack(machine: Machine, runs: Climb, step: int) -> bool:
@@ -170,21 +163,13 @@ def lacks_stack(machine: Machine, runs: Climb, step: int) -> bool:
         LIBC.ptrace(TRACEME, 0, None, None)
         limits(AS=step << 10)()
     quiet: dict[str, Any] = {"stdout": subprocess.DEVNULL, "stderr": subprocess.DEVNULL, "preexec_fn": prepare}
-    with machine.started(runs.words(), environment=runs.environment, **quiet) as child:
-        status = os.waitpid(child.pid, 0)[1]
-        while os.WIFSTOPPED(status) and os.WSTOPSIG(status) != signal.SIGSEGV:
+    with machine.started([*runs.command.words, runs.path], environment=runs.environment, **quiet) as child:
+        while os.WIFSTOPPED(status := os.waitpid(child.pid, 0)[1]) and os.WSTOPSIG(status) != signal.SIGSEGV:
             LIBC.ptrace(CONTINUE, child.pid, None, None)
-            status = os.waitpid(child.pid, 0)[1]
         if not os.WIFSTOPPED(status):
             return False
-        low, high = stack_of(child.pid)
-        pointer = int(programs.read(f"/proc/{child.pid}/syscall").split()[1], 16)
+        stack = re.search(rb"^(\w+)-(\w+) .*\[stack\]$", programs.read(f"/proc/{child.pid}/maps"), re.M)
+        (low, high), pointer = stack.groups(), programs.read(f"/proc/{child.pid}/syscall").split()[1]
         os.kill(child.pid, signal.SIGKILL)
         os.waitpid(child.pid, 0)
-    return pointer < low and high - low < 1 << 20
-
-
-def stack_of(process: int) -> tuple[int, int]:
-    """Where what is mapped of a process's stack begins and ends."""
-    low, high = re.search(rb"^(\w+)-(\w+) .*\[stack\]$", programs.read(f"/proc/{process}/maps"), re.M).groups()
-    return int(low, 16), int(high, 16)
+    return int(pointer, 16) < int(low, 16) and int(high, 16) - int(low, 16) < 1 << 20

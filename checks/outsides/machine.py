@@ -138,6 +138,9 @@ class Ran(NamedTuple):
     out: bytes
     err: str
 
+    def __str__(self) -> str:
+        return f"status {self.status}, {len(self.out)} bytes of output to {self.out[-80:]!r}, error {self.err[:200]!r}"
+
 
 # The marks of files of which a line on standard error may say what they look like.
 MISFITS = ("header", "large", "oversize", "truncated")
@@ -148,13 +151,11 @@ def is_whole(command: Command, ran: Ran, files: list[File], said: str | None = N
     given, there is a line for each file that could not be read, and one or none for each that is not planar_code."""
     least = sum(file.mark == "io" for file in files)
     most = least + sum(file.mark in MISFITS for file in files)
-    assert said in (None, ran.err) and least <= ran.err.count("planarbend: ") <= most, \
-        f"status {ran.status}, on standard error {ran.err!r}, not {said!r}"
+    assert said in (None, ran.err) and least <= ran.err.count("planarbend: ") <= most, f"{ran}, not {said!r}"
     (events, rest), expected = events_of(command, ran.out), expected_events(command, files)
     place = next((at for at, pair in enumerate(zip(events, expected)) if pair[0] != pair[1]), len(events))
-    assert events == expected and not rest, f"status {ran.status}, line {place + 1} of the report: " \
-        f"{events[place:place + 1] or rest}, not {expected[place:place + 1]}"
-    assert ran.status == (0 if all(file.mark == "complete" for file in files) else 3), f"status {ran.status}"
+    assert events == expected and not rest, f"{ran}; line {place + 1}: {events[place:][:1]}, not {expected[place:][:1]}"
+    assert ran.status == (0 if all(file.mark == "complete" for file in files) else 3), ran
 
 
 def lacks_memory(event: Event) -> bool:
@@ -181,8 +182,8 @@ def is_beginning(command: Command, out: bytes, files: list[File], scarce: bool =
 
 def is_fault(ran: Ran, status: int, text: str | None) -> None:
     """This status with nothing on standard output, and this text on standard error (any text if it is None)."""
-    assert ran.status == status and not ran.out and (ran.err if text is None else ran.err == text), \
-        f"status {ran.status}, {len(ran.out)} bytes of output, {ran.err[:200]!r}; not status {status}, {text!r}"
+    is_said = bool(ran.err) if text is None else ran.err == text
+    assert ran.status == status and not ran.out and is_said, f"{ran}; not status {status}, {text!r}"
 
 
 # ---- What the cases ask of Linux: limits and closed descriptors for the process that becomes the program, outputs

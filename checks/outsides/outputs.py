@@ -44,7 +44,7 @@ def check_outputs(machine: Machine) -> None:
 def takes_no_more(command: Command, ran: Ran, files: list[File], said: str) -> None:
     """The error of standard output that accepts no more data, with a beginning of the report. If the reader is gone,
     there is no message."""
-    assert (ran.status, ran.err) == (1, said), f"status {ran.status}, {ran.err!r}; not status 1, {said!r}"
+    assert (ran.status, ran.err) == (1, said), f"{ran}; not status 1, {said!r}"
     is_beginning(command, ran.out, files)
 
 
@@ -139,8 +139,7 @@ def ends_by(machine: Machine, child: subprocess.Popen[bytes], which: signal.Sign
     """The run ends by this signal, and had written nothing unless it was writing."""
     child.send_signal(which)
     ran = machine.ended(child)
-    assert ran.status == -which and not ran.err and (writes or not ran.out), \
-        f"status {ran.status}, {len(ran.out)} bytes of output, {ran.err!r}; not the end by {which.name}"
+    assert ran.status == -which and not ran.err and (writes or not ran.out), f"{ran}; not the end by {which.name}"
 
 
 # ---- Slow and silent sources: lines are written within a second, and a waiting run takes hardly any processor time.

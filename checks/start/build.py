@@ -69,8 +69,7 @@ class Crates:
 
     def below(self, name):
         """The crates below this one."""
-        found = set(self.uses[name])
-        return found.union(*map(self.below, found))
+        return set(self.uses[name]).union(*map(self.below, self.uses[name]))
 
     def sum_of_texts(self, name):
         """A checksum of the sources of a crate and of what it uses."""
@@ -100,8 +99,7 @@ class Crates:
             place = os.path.dirname(library_of(name))
             if os.path.isdir(place) and not self.is_built(name):
                 if OUTDATED:
-                    os.makedirs(OUTDATED, exist_ok=True)
-                    shutil.move(place, os.path.join(OUTDATED, name))
+                    put(place, os.path.join(OUTDATED, name))
                 else:
                     shutil.rmtree(place)
 
@@ -144,8 +142,8 @@ class Crates:
         """The command that proves a crate and builds it, in the crate's folder, without the output file."""
         root = "main" if name == "planarbend" else "lib"
         words = [f"{KIT}/bin/rattle", "build", "--crate-name", name, f"src/{root}.rt", "--links", f"{name}="]
-        places = {used: f"{KIT}/rlibs/{used}.rlib" for used in self.of_kit[name]}
-        for used, place in (places | {used: library_of(used) for used in self.uses[name]}).items():
+        for used in [*self.of_kit[name], *self.uses[name]]:
+            place = library_of(used) if used in self.uses[name] else f"{KIT}/rlibs/{used}.rlib"
             words += ["--extern", f"{used}={place}"]
         for folder in [f"{KIT}/rlibs", *[os.path.dirname(library_of(used)) for used in self.below(name)]]:
             words += ["-L", f"dependency={folder}"]
@@ -156,8 +154,7 @@ class Crates:
 def git_folder():
     """The folder in which git keeps the state of this checkout, or None. A worktree names it in a file."""
     path = os.path.join(ROOT, ".git")
-    if os.path.isfile(path):
-        path = os.path.join(ROOT, read(path).strip().removeprefix("gitdir: "))
+    path = os.path.join(ROOT, read(path).strip().removeprefix("gitdir: ")) if os.path.isfile(path) else path
     return path if os.path.isdir(path) else None
 
 
