@@ -19,7 +19,7 @@
 
 // The fewest bends with whichever face as the outer one.
 static long best_bends(Graph graph) {
-  long best = 1l << 40;
+  long best = fewest_bends(graph);
   for (graph.outer = 0; graph.outer < static_cast<int>(graph.degree.size()); ++graph.outer)
     best = std::min(best, fewest_bends(graph));
   return best;
@@ -68,7 +68,7 @@ static int print_turning(const std::string &text) {
   return std::printf("graphs=%ld bends=%ld two=%ld turning=%ld\n", graphs, bends, two, turning) < 0;
 }
 
-// What is printed of each file: how far its graphs are taken, and whether totals stand alone.
+// How far the graphs of each file are taken, and whether totals stand alone.
 struct Report {
   bool planes = false, best = false, quiet = false;
 };
@@ -77,19 +77,17 @@ static void print_report(const std::string &text, Report report) {
   size_t at = 15;
   Graph graph;
   long number = 0, accepted = 0, all_faces = 0, all_bends = 0;
-  while (next_record(text, at, graph)) {
-    ++number;
-    if (const char *rule = broken_rule(graph)) {
-      if (!report.quiet) std::printf("graph %ld refused %s\n", number, rule);
-      continue;
-    }
-    ++accepted;
-    all_faces += static_cast<long>(graph.degree.size());
+  for (; next_record(text, at, graph); ++number) {
+    const char *rule = broken_rule(graph);
+    if (rule && !report.quiet) std::printf("graph %ld refused %s\n", number + 1, rule);
+    if (rule) continue;
+    const int faces = static_cast<int>(graph.degree.size());
     const long bends = report.planes ? 0 : report.best ? best_bends(graph) : fewest_bends(graph);
+    ++accepted;
+    all_faces += faces;
     all_bends += bends;
     if (!report.quiet)
-      std::printf("graph %ld ok n=%d m=%d f=%zu bends=%ld\n", number, graph.vertices, graph.darts() / 2,
-                  graph.degree.size(), bends);
+      std::printf("graph %ld ok n=%d m=%d f=%d bends=%ld\n", number + 1, graph.vertices, graph.darts() / 2, faces, bends);
   }
   std::printf("graphs %ld accepted %ld faces %ld bends %ld\n", number, accepted, all_faces, all_bends);
 }
