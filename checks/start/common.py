@@ -65,20 +65,25 @@ def ignore_signals():
 
 
 @contextlib.contextmanager
-def alone():
-    """Waits for other builds, tests and installations in this checkout, and keeps later ones waiting."""
-    folder = os.open(ROOT, os.O_RDONLY)
+def locked(path, other):
+    """Locks a folder, and yields its descriptor; says so if it waits for another process, unless the file system has no
+    locks."""
+    folder = os.open(path, os.O_RDONLY)
     try:
-        try:
-            fcntl.flock(folder, fcntl.LOCK_EX | fcntl.LOCK_NB)
-        except BlockingIOError:
-            say("waiting for another --build, --test or --install in this checkout")
-            fcntl.flock(folder, fcntl.LOCK_EX)
-        except OSError:
-            pass  # some file systems have no locks
-        yield
+        with contextlib.suppress(OSError):
+            try:
+                fcntl.flock(folder, fcntl.LOCK_EX | fcntl.LOCK_NB)
+            except BlockingIOError:
+                say(f"waiting for another {other} in this checkout")
+                fcntl.flock(folder, fcntl.LOCK_EX)
+        yield folder
     finally:
         os.close(folder)
+
+
+def alone():
+    """Waits for other builds, tests and installations in this checkout, and keeps later ones waiting."""
+    return locked(ROOT, "--build, --test or --install")
 
 
 def replace_text(path, text):

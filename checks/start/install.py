@@ -64,11 +64,8 @@ def files_of(prefix):
 
 def listed(place):
     """The files that earlier installations have put here, and the folders that they have made, which end in a slash."""
-    found = []
-    for path in (place / LIST, beside(place / LIST, NEW)):  # the second of one that was killed
-        with contextlib.suppress(OSError):
-            found += path.read_text(encoding="utf-8").splitlines()
-    return list(dict.fromkeys(found))
+    paths = (place / LIST, beside(place / LIST, NEW))  # the second of one that was killed
+    return list(dict.fromkeys(name for path in paths if path.is_file() for name in path.read_text(encoding="utf-8").splitlines()))
 
 
 def beside(path, ending):
@@ -80,12 +77,9 @@ def write(path, content, mode):
     path.unlink(missing_ok=True)
     if mode is None:
         path.symlink_to(content)
-        return
-    if isinstance(content, Path):
-        shutil.copyfile(content, path)
     else:
-        path.write_text(content, encoding="utf-8")
-    path.chmod(mode)
+        path.write_bytes(content.read_bytes() if isinstance(content, Path) else content.encode())
+        path.chmod(mode)
 
 
 def make_folders(path, made):
@@ -157,24 +151,19 @@ def install(prefix, place):
     say(f"installed {len(files)} files below {place}; --uninstall {prefix} removes them")
 
 
-def uninstall(prefix, place):
-    names = listed(place)
-    if not names:
-        stop(f"nothing is installed below {place}: there is no {LIST}")
-    remove(place, names)
-    say(f"removed what was installed below {place}")
-
-
 def main(what, folder):
     prefix = Path(os.path.abspath(folder))
     place = Path(os.environ.get("DESTDIR", "") + str(prefix))
-    is_new = what == "--install"
     end_on_signals()
     with alone():
-        if is_new and not os.path.isfile(PROGRAM):
-            stop("there is no proved program here yet", "planarbend --build proves and builds it")
         try:
-            (install if is_new else uninstall)(prefix, place)
+            if what == "--uninstall":
+                remove(place, listed(place) or stop(f"nothing is installed below {place}: there is no {LIST}"))
+                say(f"removed what was installed below {place}")
+            elif os.path.isfile(PROGRAM):
+                install(prefix, place)
+            else:
+                stop("there is no proved program here yet", "planarbend --build proves and builds it")
         except OSError as error:
             stop(f"cannot {what[2:]} below {place}: {error.filename}: {error.strerror}")
 
