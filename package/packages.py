@@ -110,14 +110,14 @@ def commit_of(root: Path, is_trial: bool) -> str:
             return subprocess.run(["git", "-C", root, *words], capture_output=True, text=True, check=True).stdout.splitlines()
         except (OSError, subprocess.CalledProcessError) as error:
             reason = getattr(error, "stderr", "") or str(error)
-            stop("a package names its commit, and git does not tell it", reason.strip())
+            stop("the commit, which a package names, was not found: git failed", reason.strip())
 
     commit, top = git("rev-parse", "HEAD", "--show-toplevel")
     if Path(top).resolve() != root:
-        stop("a package names its commit, and this folder is no checkout of its own")
+        stop(f"the commit, which a package names, was not found: {root} is not a git checkout")
     changed = git("status", "--porcelain")
     if changed and not is_trial:
-        stop(f"{changed[0][3:]} is not that of commit {commit[:12]}: commit all changes or undo them")
+        stop(f"{changed[0][3:]} has changes since commit {commit[:12]}: commit them or undo them")
     return commit + " with changes" * bool(changed)
 
 
@@ -130,7 +130,7 @@ def built() -> Made:
     commit = commit_of(ROOT, is_trial=False)
     kits = {line for record in records for line in re.findall(r"^#kit-id (.*)", record.read_text(encoding="utf-8"), re.M)}
     if len(kits) != 1:
-        stop("program and library were not built by one kit", "planarbend --build builds them again")
+        stop("program and library were built by different kits", "planarbend --build proves and builds them")
     return Made(Path(PROGRAM).read_bytes(), (library.OUT / library.SONAME).read_bytes(),
                 (library.OUT / "libplanarbend.a").read_bytes(), commit, kits.pop(), "proved")
 
