@@ -10,9 +10,9 @@ from collections.abc import Iterable
 from typing import Any, NamedTuple
 
 from machine import (
-    are_same, AS_NOBODY, both_ends, Command, COMMANDS, events_of, expected_events, File, IO, is_beginning, is_fault,
-    IS_ROOT, is_whole, lacks_memory, LAYOUT, LAYOUT_JSON, LAYOUTS, limits, Machine, NOBODY, Ran, split, TRIANGLE, TWO,
-    wait_for, waiting_bytes)
+    are_same, AS_NOBODY, both_ends, Command, COMMANDS, expected_lines, File, IO, is_beginning, is_fault, IS_ROOT,
+    is_whole, LAYOUT, LAYOUT_JSON, LAYOUTS, limits, lines_of, Machine, NOBODY, Ran, split, TRIANGLE, TWO, wait_for,
+    waiting_bytes)
 import programs
 from planarbend.layout.planar_code import HEADER
 from programs import LOST, MEMORY, THREAD
@@ -30,7 +30,7 @@ def check_open_files(machine: Machine) -> None:
     for command in LAYOUTS:  # each of 8 files is whole or `io`
         with machine.case(command, "4 open files, as many as one lane needs"):
             ran = machine.ran([*command.words, *[machine.two] * 8], preexec_fn=limits(NOFILE=4))
-            marks = [text.split()[1] for _, text in events_of(command, ran.out)[0] if text.startswith("end ")]
+            marks = re.findall(r"\bend (\w+) ", "\n".join(lines_of(command, ran.out)[0]))
             is_whole(command, ran, [split(TWO) if mark == "complete" else IO for mark in marks])
             assert len(marks) == 8, f"{len(marks)} files in the report, not 8"
     for command in (LAYOUT, LAYOUT_JSON):
@@ -144,15 +144,12 @@ def wants_memory(command: Command, ran: Ran, files: list[File]) -> None:
     if ran.status == 1 and ran.err in (MEMORY, THREAD, LOST):
         is_beginning(command, ran.out, files, scarce=True)
         return
-    events, rest = events_of(command, ran.out)
-    told = list(files)
-    for number, text in events:
-        if text.startswith("end memory ") and number <= len(files):
-            told[number - 1] = File(files[number - 1].records[:int(text.partition("=")[2])], "memory")
-    expected = expected_events(command, told)
-    lacking = any(lacks_memory(event) for event in events)
-    status = 3 if lacking or any(file.mark != "complete" for file in told) else 0
-    assert ran.status == status and not rest and are_same(events, expected, scarce=True) and not ran.err, ran
+    lines, rest = lines_of(command, ran.out)
+    ends = re.findall(r"\bend (\w+) \w+=(\d+)", "\n".join(lines))
+    told = [File(file.records[:int(count)], mark) if mark == "memory" else file for file, (mark, count) in zip(files, ends)]
+    status = 3 if any(line.endswith(" memory") for line in lines) or any(file.mark != "complete" for file in told) else 0
+    is_right = len(ends) == len(files) and not rest and are_same(lines, expected_lines(command, told), scarce=True)
+    assert ran.status == status and is_right and not ran.err, ran
 
 
 def lacks_stack(machine: Machine, runs: Climb, step: int) -> bool:

@@ -40,7 +40,6 @@ FULL = WRITE.format("No space left on device")
 TWICE = ("error: '-' (standard input) may be given only once\n\n"
          "Usage: planarbend <COMMAND>\n\nFor more information, try '--help'.\n")
 
-Event = tuple[int, str]  # the number of a file, and a line of its report; of JSON Lines that of the same report
 
 
 class Command(NamedTuple):
@@ -84,39 +83,25 @@ def split(text: bytes) -> File:
     return File(*planar_code.split(text))
 
 
-def expected_events(command: Command, files: Iterable[File]) -> list[Event]:
-    """The content of a whole report, line by line."""
-    events: list[Event] = []
+def expected_lines(command: Command, files: Iterable[File]) -> list[str]:
+    """The lines of a whole report; of JSON Lines those of the same report, each after the number of its file."""
+    found: list[str] = []
     for number, file in enumerate(files, 1):
         lines: list[object] = [] if command.frames or command.json else [reports.File(number)]
         lines += [reports.Record(place, record[0], len(record)) if command.frames
                   else f"graph {place} {ANSWERS.get(record, '?')}" for place, record in enumerate(file.records, 1)]
         lines.append(reports.End(file.mark, len(file.records), "records" if command.frames else "graphs"))
-        events += [(number, str(line)) for line in lines]
-    return events
+        found += [f"{number}: {line}" if command.json else str(line) for line in lines]
+    return found
 
 
-# ---- The content of report lines. A line that does not belong to such a report is wrong.
-
-def events_of(command: Command, text: bytes) -> tuple[list[Event], str]:
-    """The content of the complete lines of a report, and the rest after the last of them."""
+def lines_of(command: Command, text: bytes) -> tuple[list[str], str]:
+    """The complete lines of a report, in the form of `expected_lines`, and the rest after the last of them."""
     *lines, rest = text.decode("ascii", "replace").split("\n")
-    events: list[Event] = []
-    for line in lines:
-        number = events[-1][0] if events else int(command.frames)
-        events.append(event_of_json(line) if command.json else event_of_text(command, line, number))
-    return events, rest
+    return [line_of_json(line) if command.json else line for line in lines], rest
 
 
-def event_of_text(command: Command, text: str, number: int) -> Event:
-    """The content of a line of a report of `frames` or `layout`, in file `number`."""
-    found = reports.line_of(text)
-    of_frames = isinstance(found, reports.Record) or isinstance(found, reports.End) and found.of == "records"
-    assert str(found) == text and of_frames == command.frames, f"not a line of such a report: {text!r}"
-    return found.number if isinstance(found, reports.File) else number, text
-
-
-def event_of_json(text: str) -> Event:
+def line_of_json(text: str) -> str:
     """The content of a JSON line. It is compact, with the keys of docs/JSON.md in order; the lists of a graph have as many
     members as docs/JSON.md says, and the turns are the bends."""
     line = reports.json_line(text)
@@ -127,7 +112,7 @@ def event_of_json(text: str) -> Event:
             ("prices", ("faces", "vertices")), ("points", ("vertices", "corners"))) for part in parts)]
         assert list(map(len, lists)) == [2 * m, 2 * m, f, n, n, m], f"lists of other lengths: {line}"
         assert len("".join(turns)) == 2 * line["bends"], f"other bends than turns: {line}"
-    return line["file"], str(reports.of_json(line))
+    return f"{line['file']}: {reports.of_json(line)}"
 
 
 # ---- How a run may end: with a whole report, with a beginning of one, or with a fault.
@@ -152,31 +137,24 @@ def is_whole(command: Command, ran: Ran, files: list[File], said: str | None = N
     least = sum(file.mark == "io" for file in files)
     most = least + sum(file.mark in MISFITS for file in files)
     assert said in (None, ran.err) and least <= ran.err.count("planarbend: ") <= most, f"{ran}, not {said!r}"
-    (events, rest), expected = events_of(command, ran.out), expected_events(command, files)
-    place = next((at for at, pair in enumerate(zip(events, expected)) if pair[0] != pair[1]), len(events))
-    assert events == expected and not rest, f"{ran}; line {place + 1}: {events[place:][:1]}, not {expected[place:][:1]}"
+    (lines, rest), expected = lines_of(command, ran.out), expected_lines(command, files)
+    place = next((at for at, pair in enumerate(zip(lines, expected)) if pair[0] != pair[1]), len(lines))
+    assert lines == expected and not rest, f"{ran}; line {place + 1}: {lines[place:][:1]}, not {expected[place:][:1]}"
     assert ran.status == (0 if all(file.mark == "complete" for file in files) else 3), ran
 
 
-def lacks_memory(event: Event) -> bool:
-    """Whether it is a graph for which memory ran out."""
-    return re.fullmatch(r"graph \d+ memory", event[1]) is not None
-
-
-def are_same(events: list[Event], expected: list[Event], scarce: bool) -> bool:
+def are_same(lines: list[str], expected: list[str], scarce: bool) -> bool:
     """Whether these are the expected lines; if memory is scarce, a graph may be `memory` instead."""
-    return len(events) == len(expected) and all(
-        event == other or scarce and lacks_memory(event)
-        and (event[0], event[1].split()[:2]) == (other[0], other[1].split()[:2])
-        for event, other in zip(events, expected))
+    return len(lines) == len(expected) and all(
+        line == other or scarce and line == re.sub(r"(graph \d+) .*", r"\1 memory", other) for line, other in zip(lines, expected))
 
 
 def is_beginning(command: Command, out: bytes, files: list[File], scarce: bool = False) -> None:
     """What was written is a prefix of the whole report of these files; if memory is scarce, with graphs that
     are `memory`."""
-    (events, rest), expected = events_of(command, out), expected_events(command, files)
-    following = [text for _, text in expected[len(events):len(events) + 1]]
-    assert are_same(events, expected[:len(events)], scarce) and (
+    (lines, rest), expected = lines_of(command, out), expected_lines(command, files)
+    following = expected[len(lines):len(lines) + 1]
+    assert are_same(lines, expected[:len(lines)], scarce) and (
         not rest or following and (command.json or following[0].startswith(rest))), f"no beginning: {out[-80:]!r}"
 
 

@@ -14,8 +14,8 @@ from collections.abc import Iterator
 from typing import Any
 
 from machine import (
-    both_ends, broken_pipe, closing, Command, COMMANDS, EDGE, Event, events_of, expected_events, File, FRAMES, FULL,
-    full_disk, IO, is_beginning, is_whole, LAYOUT, LAYOUTS, limits, LONG, Machine, MANY, PATIENCE, place_in, Ran, split,
+    both_ends, broken_pipe, closing, Command, COMMANDS, EDGE, expected_lines, File, FRAMES, FULL, full_disk, IO,
+    is_beginning, is_whole, LAYOUT, LAYOUTS, limits, lines_of, LONG, Machine, MANY, PATIENCE, place_in, Ran, split,
     TRIANGLE, TWO, wait_for, waiting_bytes, WRITE)
 from planarbend.layout.planar_code import HEADER
 
@@ -172,8 +172,8 @@ class Fed:
 
     def tells(self, records: list[bytes]) -> None:
         """It has written the lines of these records within a second, and no others."""
-        end, expected = time.monotonic() + SECOND, expected_events(self.command, [File(records)])[:-1]
-        while events_of(self.command, self.out) != (expected, ""):
+        end, expected = time.monotonic() + SECOND, expected_lines(self.command, [File(records)])[:-1]
+        while lines_of(self.command, self.out) != (expected, ""):
             left = end - time.monotonic()
             assert left > 0 and select.select([self.child.stdout], [], [], left)[0], f"not {len(expected)} lines in time"
             self.out += os.read(self.child.stdout.fileno(), 65_536)
