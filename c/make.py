@@ -21,12 +21,15 @@ from common import ROOT, START, say, stop
 TOP = Path(ROOT)
 SOURCE, OUT = TOP / "c", TOP / "out"
 SONAME = "libplanarbend.so.2"
-FILES = ["libplanarbend.a", SONAME, "libplanarbend.so", "planarbend.pc"]
+LIBRARIES = [SONAME, "libplanarbend.a", "libplanarbend.so"]
+FILES = [*LIBRARIES, "planarbend.pc"]
+RECORD = OUT / f"{SONAME}.sources"  # sums of what was made and of its sources, which checks/start/build.py writes
+SOURCES = [SOURCE / name for name in ("planarbend.c", "planarbend.h", "planarbend.map")]
 COMPILER = os.environ.get("CC") or "cc"
 FLAGS = ["-std=c11", "-O2", "-fPIC", "-Wall", "-Wextra", "-Werror"]
 
 
-def version():
+def version() -> str:
     """The version, without the program's name."""
     return Path(START, "texts/version").read_text(encoding="utf-8").split()[1]
 
@@ -36,7 +39,7 @@ def exported():
     return re.findall(r"\bplanarbend_\w+(?=;)", (SOURCE / "planarbend.map").read_text(encoding="utf-8"))
 
 
-def package_text(prefix, libraries, headers):
+def package_text(prefix: object, libraries: object, headers: object) -> str:
     """The text of planarbend.pc for these folders."""
     text = (SOURCE / "planarbend.pc.in").read_text(encoding="utf-8")
     for name, value in [("prefix", prefix), ("libdir", libraries), ("includedir", headers), ("version", version())]:

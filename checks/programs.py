@@ -1,12 +1,10 @@
-"""Shared by the scripts of bench/ and checks/: command lines, cases, the programs that they run, the toolchain, the
-preloaded library, copies of crates, files of graphs, runs of a program, and the sections of bench/RESULTS.md."""
-from __future__ import annotations
-
+"""Shared by the scripts of bench/ and checks/: command lines, the programs that they run, the toolchain, the preloaded
+library, copies of crates, files of graphs, runs of a program, and the sections of bench/RESULTS.md."""
 import argparse
+import contextlib
 import datetime
 import hashlib
 import importlib.machinery
-import importlib.util
 import os
 import re
 import shutil
@@ -14,6 +12,7 @@ import subprocess
 import sys
 import tempfile
 import time
+import types
 from collections.abc import Callable, Collection, Iterable, Sequence
 from pathlib import Path
 from typing import Any, NamedTuple
@@ -52,15 +51,17 @@ class Run(NamedTuple):
     digest: str
 
 
-def parser_of(text: str | None) -> argparse.ArgumentParser:
-    """A parser of the command line with this help."""
-    return argparse.ArgumentParser(description=text, formatter_class=argparse.RawDescriptionHelpFormatter,
-                                   epilog="The built program is PLANARBEND, or else that of ./planarbend --build.")
+Option = tuple[str, dict[str, Any]]  # a name, and what argparse is told of it
+WRITE: Option = ("--write", {"action": "store_true", "help": "replace this script's tables in bench/RESULTS.md"})
 
 
-def add_write(parser: argparse.ArgumentParser) -> None:
-    """Adds the option that stores the tables."""
-    parser.add_argument("--write", action="store_true", help="replace this script's tables in bench/RESULTS.md")
+def parser_of(text: str | None, *options: Option) -> argparse.ArgumentParser:
+    """A parser of the command line with this help and these options."""
+    parser = argparse.ArgumentParser(description=text, formatter_class=argparse.RawDescriptionHelpFormatter,
+                                     epilog="The built program is PLANARBEND, or else that of ./planarbend --build.")
+    for option, how in options:
+        parser.add_argument(option, **how)
+    return parser
 
 
 def add_names(parser: argparse.ArgumentParser, what: str, known: Collection[str], default: str = "") -> None:
@@ -71,43 +72,17 @@ def add_names(parser: argparse.ArgumentParser, what: str, known: Collection[str]
         return word
 
     parser.add_argument("names", metavar=what, nargs="*", type=name, default=[default] if default else list(known),
-                        help=f"{', '.join(known)} ({default or 'all'})")
-
-
-class Cases:
-    """Prints a line for each case, and counts those that failed."""
-
-    def __init__(self) -> None:
-        self.failed = 0
-
-    def look(self, name: str, well: bool, told: object = "") -> None:
-        """Prints the result of a case, with a remark if there is one."""
-        self.failed += not well
-        print(f"{'passed' if well else 'FAILED'}: {name}" + f": {told}" * bool(told), flush=True)
-
-    def run(self, name: str, case: Callable[..., object], *given: object) -> None:
-        """Runs a case; it fails if it raises an exception."""
-        try:
-            case(*given)
-        except Exception as fault:
-            self.look(name, False, fault if isinstance(fault, AssertionError) else repr(fault))
-        else:
-            self.look(name, True)
-
-    def status(self) -> int:
-        """The exit status of the script."""
-        return 1 if self.failed else 0
+                        help=f"{', '.join(known)} ({default or 'all'})" if len(known) < 30 else "(all)")
 
 
 class Section:
     """A section of bench/RESULTS.md: the command that writes it, a title, when and where it ran, and tables. Each line
     is printed as soon as it is added. Faults are bounds that a figure exceeds."""
 
-    def __init__(self, command: str, title: str) -> None:
-        self.head = f"## `{command}`"
-        self.lines: list[str] = []
-        self.faults: list[str] = []
+    def __init__(self, command: str, title: str, *columns: str) -> None:
+        self.head, self.lines, self.faults = f"## `{command}`", list[str](), list[str]()
         self.add(f"{self.head}: {title}", "", where(), "")
+        self.columns(*columns)
 
     def add(self, *lines: str) -> None:
         self.lines += lines
@@ -133,11 +108,14 @@ class Section:
 Part = Callable[[argparse.Namespace, str], Section]  # of a script: from its options and a folder
 
 
-def measure(told: argparse.Namespace, parts: dict[str, Part]) -> int:
-    """Runs the named parts, each in its own folder, keeps what they print if requested, and prints their
-    faults. Returns the exit status of the script."""
-    faults = []
-    for name in told.names:
+def measure(parts: dict[str, Part], *options: Option, default: str = "") -> int:
+    """Runs the parts that the command line names, each in its own folder, keeps what they print if requested, and prints
+    their faults. Returns the exit status of the script."""
+    parser, faults = parser_of(sys.modules["__main__"].__doc__, *options, WRITE), []
+    if len(parts) > 1:
+        add_names(parser, "PART", parts, default)
+    told = parser.parse_args()
+    for name in told.names if len(parts) > 1 else parts:
         with tempfile.TemporaryDirectory() as folder:
             section = parts[name](told, folder)
         section.keep(told.write)
@@ -156,8 +134,7 @@ def where() -> str:
 def busy_cores() -> float:
     """How many cores were busy during one second."""
     def ticks() -> tuple[int, int]:
-        with open("/proc/stat", encoding="ascii") as lines:
-            numbers = list(map(int, lines.readline().split()[1:9]))
+        numbers = list(map(int, read("/proc/stat").split()[1:9]))
         return sum(numbers), numbers[3] + numbers[4]  # all; idle or waiting for a disk
 
     before, idle_before = ticks()
@@ -180,10 +157,23 @@ def planarbend() -> str:
     return built(os.environ.get("PLANARBEND") or f"{ROOT}/out/planarbend", "./planarbend --build")
 
 
+def library() -> Any:
+    """The built library: PLANARBEND_LIBRARY, or that of ./planarbend --build."""
+    from planarbend.layout.library import Library
+
+    return Library(library_file())
+
+
+def library_file(name: str = "libplanarbend.so.2") -> str:
+    """The path of the built library, or of a file beside it."""
+    path = os.environ.get("PLANARBEND_LIBRARY") or f"{ROOT}/out/libplanarbend.so.2"
+    path = os.path.join(os.path.dirname(os.path.abspath(path)), name)
+    return path if os.path.isfile(path) else sys.exit(f"not built: {path}; build it by ./planarbend --build")
+
+
 def of_crate(crate: str, command: str) -> str:
     """The program that `rt` with this command builds in a crate: its tests, or the program that it is."""
-    name = crate + "_tests" if command == "test" else crate
-    return built(f"{ROOT}/crates/{crate}/out/{name}", f"(cd crates/{crate} && rt {command})")
+    return built(f"{ROOT}/crates/{crate}/out/{crate}{'_tests' * (command == 'test')}", f"(cd crates/{crate} && rt {command})")
 
 
 def corpus() -> str:
@@ -202,21 +192,17 @@ def built(program: str, command: str) -> str:
 def module(path: str) -> Any:
     """A script of this repository, as a module; or another Python file, by its full path."""
     name = os.path.basename(path).replace("-", "_").removesuffix(".py")
-    loader = importlib.machinery.SourceFileLoader(name, os.path.join(ROOT, path))
-    spec = importlib.util.spec_from_loader(name, loader)
-    assert spec
-    found = importlib.util.module_from_spec(spec)
-    sys.modules[name] = found
-    loader.exec_module(found)
+    sys.modules[name] = found = types.ModuleType(name)
+    found.__file__ = os.path.join(ROOT, path)
+    importlib.machinery.SourceFileLoader(name, found.__file__).exec_module(found)
     return found
 
 
 def preload(folder: str) -> str:
     """Builds checks/preload.c in a folder and returns the library's path."""
-    library = os.path.join(folder, "preload.so")
-    source = os.path.join(ROOT, "checks/preload.c")
-    subprocess.run(["cc", "-O1", "-shared", "-fPIC", "-o", library, source], check=True)
-    return library
+    made = os.path.join(folder, "preload.so")
+    subprocess.run(["cc", "-O1", "-shared", "-fPIC", "-o", made, os.path.join(ROOT, "checks/preload.c")], check=True)
+    return made
 
 
 def outside(folder: str, source: str = "lemon.cc", *more: str) -> str:
@@ -265,14 +251,10 @@ def copy_crates(folder: str, top: str, root: str = ROOT) -> str:
     uses, found = libraries(root), [top]
     for crate in found:  # which grows
         found += [used for used in uses[crate] if used in uses and used not in found]
-    crates = [crate for crate in uses if crate in found]
-    for crate in crates:
-        for part in ("src", "specs"):
-            source = os.path.join(root, "crates", crate, part)
-            if os.path.isdir(source):
-                shutil.copytree(source, os.path.join(folder, "crates", crate, part))
+        for source in [part for part in ("src", "specs") if os.path.isdir(f"{root}/crates/{crate}/{part}")]:
+            shutil.copytree(f"{root}/crates/{crate}/{source}", f"{folder}/crates/{crate}/{source}")
     shutil.copy(os.path.join(root, "HANDLES"), folder)
-    lines = [f"{crate}: {' '.join(uses[crate])}\n" for crate in crates]
+    lines = [f"{crate}: {' '.join(used)}\n" for crate, used in uses.items() if crate in found]
     Path(folder, "crates.txt").write_text("".join(lines), encoding="utf-8")
     return os.path.join(folder, "crates", top)
 
@@ -310,14 +292,20 @@ def run(words: Sequence[str], stderr: int | None = None) -> Run:
     return Run(seconds, used.ru_utime + used.ru_stime, peak or used.ru_maxrss * 1024, digest.hexdigest())
 
 
+def wait_for(holds: Callable[[], object], text: str, patience: float, pause: float = 0.1) -> None:
+    """Waits until a condition holds."""
+    end = time.monotonic() + patience
+    while not holds():
+        assert time.monotonic() < end, f"not seen in {patience} s: {text}"
+        time.sleep(pause)
+
+
 def peak_of(process: int) -> int:
     """The most memory, in bytes, that a process has had so far; 0 once it has ended."""
-    try:
-        with open(f"/proc/{process}/status", encoding="ascii") as lines:
-            found = [line.split()[1] for line in lines if line.startswith("VmHWM:")]
-    except OSError:
-        return 0
-    return int(found[0]) * 1024 if found else 0
+    with contextlib.suppress(OSError):
+        if found := re.search(rb"^VmHWM: *\t*(\d+)", read(f"/proc/{process}/status"), re.M):
+            return int(found[1]) * 1024
+    return 0
 
 
 def generated(folder: str, kind: str, vertices: int | str, count: int, seed: int | str) -> str:
@@ -365,7 +353,8 @@ def text_of(words: Sequence[str]) -> str:
     return subprocess.run(words, check=True, stdout=subprocess.PIPE, stderr=subprocess.DEVNULL, text=True).stdout
 
 
-def figures(words: Sequence[str]) -> dict[str, int]:
+def figures(words: Sequence[str], given: bytes = b"") -> dict[str, int]:
     """The numbers that a program prints in one line, by name."""
-    pairs = (word.partition("=") for word in text_of(words).split())
+    ran = subprocess.run(words, check=True, input=given, stdout=subprocess.PIPE, stderr=subprocess.DEVNULL)
+    pairs = (word.partition("=") for word in ran.stdout.decode().split())
     return {name: int(figure) for name, _, figure in pairs if figure}

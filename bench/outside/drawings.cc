@@ -66,12 +66,10 @@ struct Drawn {
       darts[d] = edge->adjSource();
       darts[back] = edge->adjTarget();
     }
-    size_t first = 0;
-    for (size_t v = 0; v < vertices.size(); ++v) {
+    for (size_t v = 0, dart = 0; v < vertices.size(); ++v) {
       ogdf::List<ogdf::adjEntry> around;
-      for (size_t i = 0; i < shape.lists[v].size(); ++i) around.pushBack(darts[first + i]);
+      for (size_t i = 0; i < shape.lists[v].size(); ++i) around.pushBack(darts[dart++]);
       plane.sort(vertices[v], around);
-      first += shape.lists[v].size();
     }
   }
 };
@@ -117,27 +115,18 @@ static void print_points(const Shape &shape, const Drawn &drawn, const ogdf::Gri
     left = std::min(left, layout.x(node));
     bottom = std::min(bottom, layout.y(node));
   }
-  const auto print = [&](const std::vector<ogdf::node> &nodes) {
-    const char *between = "";
-    std::cout << '[';
-    for (const ogdf::node one : nodes) {
-      std::cout << between << '[' << layout.x(one) - left << ',' << layout.y(one) - bottom << ']';
-      between = ",";
-    }
-    std::cout << ']';
+  const auto listed = [&](const std::vector<ogdf::node> &nodes) {
+    std::string text;
+    for (const ogdf::node one : nodes)
+      text += (text.empty() ? "[" : ",[") + std::to_string(layout.x(one) - left) + "," + std::to_string(layout.y(one) - bottom) + "]";
+    return "[" + text + "]";
   };
   const auto corners = corners_of(drawn);
-  const char *between = "{\"corners\":[";
+  std::string edges;
   for (int v = 0; v < static_cast<int>(shape.lists.size()); ++v)
-    for (const int w : shape.lists[v]) {
-      if (w < v) continue;
-      std::cout << between;
-      print(corners.at({v, w}));
-      between = ",";
-    }
-  std::cout << "],\"vertices\":";
-  print(drawn.vertices);
-  std::cout << "}\n";
+    for (const int w : shape.lists[v])
+      if (w >= v) edges += (edges.empty() ? "" : ",") + listed(corners.at({v, w}));
+  std::cout << "{\"corners\":[" << edges << "],\"vertices\":" << listed(drawn.vertices) << "}\n";
 }
 
 static void draw(const Shape &shape) {

@@ -27,8 +27,6 @@
 
 Needs Python's standard library alone, and takes a few milliseconds a graph of 250 vertices.
 """
-from __future__ import annotations
-
 import math
 import os
 import random
@@ -56,8 +54,7 @@ def triangulation(corners: int, rng: random.Random) -> Rotation:
     rotation = {0: [1, 2], 1: [2, 0], 2: [0, 1]}
     faces = [(0, 1, 2), (0, 2, 1)]
     for new in range(3, corners):
-        at = rng.randrange(len(faces))
-        a, b, c = faces[at]
+        a, b, c = faces[at := rng.randrange(len(faces))]
         for v, before in ((a, c), (b, a), (c, b)):
             rotation[v].insert(rotation[v].index(before) + 1, new)
         rotation[new] = [a, c, b]
@@ -101,11 +98,10 @@ def grid_part(vertices: int, rng: random.Random) -> Rotation:
     clockwise = ((0, 1), (1, 0), (0, -1), (-1, 0))
     cells, edge = {(0, 0)}, [(0, 0)]
     while len(cells) < vertices:
-        x, y = rng.choice(edge)
-        dx, dy = rng.choice(clockwise)
-        if (x + dx, y + dy) not in cells:
-            cells.add((x + dx, y + dy))
-            edge.append((x + dx, y + dy))
+        (x, y), (dx, dy) = rng.choice(edge), rng.choice(clockwise)
+        if (cell := (x + dx, y + dy)) not in cells:
+            cells.add(cell)
+            edge.append(cell)
     number = {cell: at for at, cell in enumerate(sorted(cells))}
     return {number[(x, y)]: [number[(x + dx, y + dy)] for dx, dy in clockwise if (x + dx, y + dy) in cells]
             for x, y in cells}
@@ -115,10 +111,8 @@ def tree(vertices: int, rng: random.Random) -> Rotation:
     """A random tree."""
     rotation: Rotation = {0: []}
     for new in range(1, vertices):
-        while True:
-            at = rng.randrange(new)
-            if len(rotation[at]) < MOST_DEGREE:
-                break
+        while len(rotation[at := rng.randrange(new)]) == MOST_DEGREE:
+            pass
         rotation[at].insert(rng.randint(0, len(rotation[at])), new)
         rotation[new] = [at]
     return rotation
@@ -172,8 +166,8 @@ def relabelled(rotation: Rotation, rng: random.Random) -> Lists:
     """The lists of neighbours, from 1, of the vertices in a random order."""
     names = list(rotation)
     rng.shuffle(names)
-    place = {v: at for at, v in enumerate(names)}
-    return [[place[w] + 1 for w in rotation[v]] for v in names]
+    place = {v: at for at, v in enumerate(names, 1)}
+    return [[place[w] for w in rotation[v]] for v in names]
 
 
 def random_graphs(kind: str, vertices: int, count: int, seed: int) -> Iterator[Lists]:
@@ -246,14 +240,11 @@ def antiprism(k: int) -> Placed:
 
 def families() -> list[tuple[Placed, int]]:
     """Each graph with its fewest bends."""
-    found = [(grid(n, 1), 0) for n in range(2, 41)]
-    found += [(cycle(n), 1 if n == 3 else 0) for n in range(3, 41)]
-    found += [(star(leaves), 0) for leaves in range(2, 5)]
-    found += [(grid(a, b), 0) for a in range(2, 7) for b in range(2, 7)]
-    found += [(prism(k), 4) for k in range(3, 13)]
-    found += [(antiprism(k), 12 if k == 3 else 2 * k + 4) for k in range(3, 13)]
     places, spokes = star(3)
-    return found + [((places, ring(1, 3) + spokes), 4), (cycle(255), 0)]
+    return [*((grid(n, 1), 0) for n in range(2, 41)), *((cycle(n), int(n == 3)) for n in range(3, 41)),
+            *((star(leaves), 0) for leaves in range(2, 5)), *((grid(a, b), 0) for a in range(2, 7) for b in range(2, 7)),
+            *((prism(k), 4) for k in range(3, 13)), *((antiprism(k), 12 if k == 3 else 2 * k + 4) for k in range(3, 13)),
+            ((places, ring(1, 3) + spokes), 4), (cycle(255), 0)]
 
 
 def drawn(graph: Placed) -> Lists:
@@ -289,10 +280,10 @@ FIXED: dict[str, Callable[[], Iterator[Lists]]] = {
 
 
 def main() -> None:
-    parser = programs.parser_of(__doc__)
-    parser.add_argument("kind", metavar="KIND", choices=[*RANDOM, *FIXED], help=", ".join([*RANDOM, *FIXED]))
-    parser.add_argument("numbers", metavar="NUMBER", type=int, nargs="*", help="of random graphs: VERTICES COUNT SEED")
-    parser.add_argument("--report", action="store_true", help="of families: print the report instead")
+    parser = programs.parser_of(
+        __doc__, ("kind", {"metavar": "KIND", "choices": [*RANDOM, *FIXED], "help": ", ".join([*RANDOM, *FIXED])}),
+        ("numbers", {"metavar": "NUMBER", "type": int, "nargs": "*", "help": "of random graphs: VERTICES COUNT SEED"}),
+        ("--report", {"action": "store_true", "help": "of families: print the report instead"}))
     told = parser.parse_args()
     if len(told.numbers) != (3 if told.kind in RANDOM else 0):
         parser.error("VERTICES, COUNT and SEED go with random graphs")

@@ -8,8 +8,6 @@
 //   many FILES    the fewest bends of the graphs of files, one after another in one process
 //   times FILE N  a line: the nanoseconds of building and solving the networks of all graphs, each the least of N times
 //   turning FILE  a line: how many vertices have degree 2, and how few of them turn in shapes with the fewest bends
-//   lengths       the least lengths of random drawings along one axis (crates/length_tests/src/random.rt)
-//   given         the least length of each drawing along one axis on standard input
 //   costs         the least costs of random networks, `-` if there is no flow (crates/flow_tests/src/flows.rt)
 //   keep FILE     the lines of `planarbend frames`, once all records are gathered, each in a buffer of its own
 //   stream FILE   the same lines, and no record is kept
@@ -18,64 +16,59 @@
 #include <cstdlib>
 #include <cstring>
 #include <iostream>
-#include <lemon/list_graph.h>
-#include <stdexcept>
-#include <utility>
 
 // The fewest bends with whichever face as the outer one.
 static long best_bends(Graph graph) {
-  long best = -1;
-  for (graph.outer = 0; graph.outer < static_cast<int>(graph.degree.size()); ++graph.outer) {
-    const long bends = fewest_bends(graph);
-    if (best < 0 || bends < best) best = bends;
-  }
+  long best = fewest_bends(graph);
+  for (graph.outer = 0; graph.outer < static_cast<int>(graph.degree.size()); ++graph.outer)
+    best = std::min(best, fewest_bends(graph));
   return best;
 }
 
 // The nanoseconds of a network, built and solved: the least of so many times.
 static long least_time(const Graph &graph, int rounds) {
-  long least = -1;
+  long least = 1l << 60;
   for (int round = 0; round < rounds; ++round) {
     const auto begin = std::chrono::steady_clock::now();
-    if (fewest_bends(graph) < 0) return -1;
-    const auto took = std::chrono::steady_clock::now() - begin;
-    const long time = std::chrono::duration_cast<std::chrono::nanoseconds>(took).count();
-    if (least < 0 || time < least) least = time;
+    fewest_bends(graph);
+    const std::chrono::nanoseconds took = std::chrono::steady_clock::now() - begin;
+    least = std::min<long>(least, took.count());
   }
   return least;
 }
 
-static int print_times(const std::string &text, int rounds) {
+// Calls `each` with the graphs of a file, and returns how many there are. Ends the program if one breaks a rule.
+template <class Each>
+static long each_graph(const std::string &text, Each each) {
   size_t at = 15;
   Graph graph;
-  long graphs = 0, sum = 0;
-  while (next_record(text, at, graph)) {
-    if (broken_rule(graph)) return 1;
-    ++graphs;
-    sum += least_time(graph, rounds);
+  long graphs = 0;
+  for (; next_record(text, at, graph); ++graphs) {
+    if (broken_rule(graph)) std::exit(1);
+    each(graph);
   }
-  std::printf("graphs=%ld networks=%ld\n", graphs, sum);
-  return 0;
+  return graphs;
+}
+
+static int print_times(const std::string &text, int rounds) {
+  long sum = 0;
+  const long graphs = each_graph(text, [&](const Graph &graph) { sum += least_time(graph, rounds); });
+  return std::printf("graphs=%ld networks=%ld\n", graphs, sum) < 0;
 }
 
 static int print_turning(const std::string &text) {
   const int bend = 1000;  // more than vertices can turn
-  size_t at = 15;
-  Graph graph;
-  long graphs = 0, two = 0, bends = 0, turning = 0;
-  while (next_record(text, at, graph)) {
-    if (broken_rule(graph)) return 1;
-    ++graphs;
+  long two = 0, bends = 0, turning = 0;
+  const long graphs = each_graph(text, [&](const Graph &graph) {
     for (const auto &neighbours : graph.lists) two += neighbours.size() == 2;
     const long cost = least_cost(graph, bend, 1);
     bends += cost / bend;
     turning += cost % bend;
-  }
-  std::printf("graphs=%ld bends=%ld two=%ld turning=%ld\n", graphs, bends, two, turning);
-  return 0;
+  });
+  return std::printf("graphs=%ld bends=%ld two=%ld turning=%ld\n", graphs, bends, two, turning) < 0;
 }
 
-// What is printed of each file: how far its graphs are taken, and whether totals stand alone.
+// How far the graphs of each file are taken, and whether totals stand alone.
 struct Report {
   bool planes = false, best = false, quiet = false;
 };
@@ -84,31 +77,22 @@ static void print_report(const std::string &text, Report report) {
   size_t at = 15;
   Graph graph;
   long number = 0, accepted = 0, all_faces = 0, all_bends = 0;
-  while (next_record(text, at, graph)) {
-    ++number;
+  for (; next_record(text, at, graph); ++number) {
     const char *rule = broken_rule(graph);
-    if (rule) {
-      if (!report.quiet) std::printf("graph %ld refused %s\n", number, rule);
-      continue;
-    }
-    ++accepted;
-    all_faces += static_cast<long>(graph.degree.size());
+    if (rule && !report.quiet) std::printf("graph %ld refused %s\n", number + 1, rule);
+    if (rule) continue;
+    const int faces = static_cast<int>(graph.degree.size());
     const long bends = report.planes ? 0 : report.best ? best_bends(graph) : fewest_bends(graph);
+    ++accepted;
+    all_faces += faces;
     all_bends += bends;
     if (!report.quiet)
-      std::printf("graph %ld ok n=%d m=%d f=%zu bends=%ld\n", number, graph.vertices, graph.darts() / 2,
-                  graph.degree.size(), bends);
+      std::printf("graph %ld ok n=%d m=%d f=%d bends=%ld\n", number + 1, graph.vertices, graph.darts() / 2, faces, bends);
   }
   std::printf("graphs %ld accepted %ld faces %ld bends %ld\n", number, accepted, all_faces, all_bends);
 }
 
-// ---- Lengths of drawings along one axis.
-//
-// Segments keep their order on each level that two of them share, one unit apart at least: the dual of that linear
-// program sends units from segments where more edges begin to those where more end, over each such pair, and as many
-// as can be. A drawing on standard input is whole numbers: how many segments there are; how many wires, and the
-// segments of each, counted from 0, the lesser coordinate first; how many pairs that are one unit apart at least, and
-// likewise their segments. Wires are pairs too.
+// ---- Random networks, as crates/flow_tests/src/flows.rt makes them.
 
 struct Random {
   uint64_t state;
@@ -117,92 +101,6 @@ struct Random {
     return static_cast<int>((state >> 33) % static_cast<uint64_t>(count));
   }
 };
-
-using Pair = std::pair<int, int>;
-using Pairs = std::vector<Pair>;
-
-// Whether segments share a level, each given by its least and its greatest.
-static bool share_a_level(const Pair &one, const Pair &other) {
-  return std::max(one.first, other.first) <= std::min(one.second, other.second);
-}
-
-static long least_length(int count, const Pairs &wires, const Pairs &apart) {
-  lemon::ListDigraph graph;
-  std::vector<lemon::ListDigraph::Node> nodes;
-  for (int r = 0; r < count; ++r) nodes.push_back(graph.addNode());
-  lemon::ListDigraph::NodeMap<long> supply(graph, 0);
-  lemon::ListDigraph::ArcMap<long> cost(graph, -1);
-  for (const auto &[low, high] : wires) {
-    ++supply[nodes[low]];
-    --supply[nodes[high]];
-  }
-  for (const auto &[low, high] : apart) cost[graph.addArc(nodes[low], nodes[high])] = -1;
-  lemon::NetworkSimplex<lemon::ListDigraph, long, long> simplex(graph);
-  simplex.costMap(cost).supplyMap(supply);
-  if (simplex.run() != simplex.OPTIMAL) throw std::runtime_error("no least length");
-  return -simplex.totalCost<long>();
-}
-
-// Of a drawing with so many segments, on so many levels and each on at most `height`.
-static long least_length(Random &random, int count, int levels, int height) {
-  Pairs segments, wires, apart;
-  for (int r = 0; r < count; ++r) {
-    random.below(3);  // how far behind the segment before it is drawn
-    const int low = random.below(levels);
-    segments.push_back({low, std::min(low + random.below(height), levels - 1)});
-  }
-  for (int tried = 0; tried < 2 * count; ++tried) {
-    const int one = random.below(count), other = random.below(count);
-    if (one == other || !share_a_level(segments[one], segments[other])) continue;
-    wires.push_back({std::min(one, other), std::max(one, other)});
-  }
-  for (int r = 0; r < count; ++r)
-    for (int s = r + 1; s < count; ++s)
-      if (share_a_level(segments[r], segments[s])) apart.push_back({r, s});
-  return least_length(count, wires, apart);
-}
-
-// The next pairs, and as many of them as are said to come.
-static Pairs next_pairs() {
-  int count = 0;
-  std::cin >> count;
-  Pairs pairs(count);
-  for (auto &[low, high] : pairs) std::cin >> low >> high;
-  return pairs;
-}
-
-static int print_given() {
-  std::ios::sync_with_stdio(false);
-  int count = 0;
-  while (std::cin >> count) {
-    const Pairs wires = next_pairs();
-    Pairs apart = next_pairs();
-    if (!std::cin) return 1;
-    apart.insert(apart.end(), wires.begin(), wires.end());
-    std::cout << least_length(count, wires, apart) << "\n";
-  }
-  return 0;
-}
-
-// Of a thousand small drawings the sums of a hundred each, and the lengths of three large ones, after their numbers.
-static int print_lengths() {
-  for (uint64_t first = 0; first < 1000; first += 100) {
-    long total = 0;
-    for (uint64_t drawing = first; drawing < first + 100; ++drawing) {
-      Random random{drawing};
-      const int count = random.below(30) + 2, levels = random.below(12) + 1;
-      total += least_length(random, count, levels, levels);
-    }
-    std::cout << total << "\n";
-  }
-  for (const int count : {300, 600, 1000}) {
-    Random random{static_cast<uint64_t>(count)};
-    std::cout << count << " " << least_length(random, count, 40, 8) << "\n";
-  }
-  return 0;
-}
-
-// ---- Random networks, as crates/flow_tests/src/flows.rt makes them.
 
 static std::string next_cost(Random &random) {
   using Net = lemon::SmartDigraph;
@@ -253,46 +151,42 @@ struct Splitter {
   std::vector<std::vector<unsigned char>> kept;
   std::string out;
 
-  void line(unsigned order, size_t bytes, size_t number) {
+  void line(const std::vector<unsigned char> &record, size_t number) {
     char text[96];
-    int size = snprintf(text, sizeof text, "record %zu n=%u bytes=%zu\n", number, order, bytes);
-    out.append(text, static_cast<size_t>(size));
+    out.append(text, snprintf(text, sizeof text, "record %zu n=%u bytes=%zu\n", number, record[0], record.size()));
     if (out.size() > kPiece) flush();
   }
   void flush() {
     fwrite(out.data(), 1, out.size(), stdout);
     out.clear();
   }
-  void whole() {
-    ++records;
-    if (keep) kept.emplace_back(open);
-    else line(open[0], open.size(), records);
-    open.clear();
+  // Takes a byte of a record; the word of a fault, or null.
+  const char *add(unsigned char byte) {
+    if (open.empty()) {
+      if (records == kMostRecords) return "many";
+      if (byte == 0) return "large";
+      left = byte;
+    } else if (byte != 0 && ++entries > 254) {
+      return "oversize";
+    }
+    const bool ends_list = byte == 0;
+    open.push_back(byte);
+    if (ends_list) entries = 0;
+    if (ends_list && --left == 0) {
+      ++records;
+      if (keep) kept.emplace_back(open);
+      else line(open, records);
+      open.clear();
+    }
+    return nullptr;
   }
   // Takes one piece; the word of a fault, or null.
   const char *feed(const unsigned char *piece, size_t size) {
-    for (size_t i = 0; i < size; ++i) {
-      unsigned char byte = piece[i];
-      if (header_done < kHeaderSize) {
-        if (byte != static_cast<unsigned char>(kHeader[header_done])) return "header";
-        ++header_done;
-      } else if (open.empty()) {
-        if (records == kMostRecords) return "many";
-        if (byte == 0) return "large";
-        open.push_back(byte);
-        left = byte;
-        entries = 0;
-      } else if (byte == 0) {
-        open.push_back(byte);
-        entries = 0;
-        if (--left == 0) whole();
-      } else {
-        if (entries == 254) return "oversize";
-        open.push_back(byte);
-        ++entries;
-      }
-    }
-    return nullptr;
+    const char *fault = nullptr;
+    for (size_t i = 0; i < size && !fault; ++i)
+      if (header_done == kHeaderSize) fault = add(piece[i]);
+      else if (piece[i] != static_cast<unsigned char>(kHeader[header_done++])) fault = "header";
+    return fault;
   }
 };
 
@@ -302,19 +196,16 @@ static int print_frames(const char *name, bool keep) {
   FILE *file = fopen(name, "rb");
   const char *end = file ? nullptr : "io";
   static unsigned char piece[kPiece];
-  while (file && !end) {
-    size_t size = fread(piece, 1, sizeof piece, file);
-    if (size == 0) {
-      end = ferror(file)                          ? "io"
-            : splitter.header_done < kHeaderSize ? "header"
-            : splitter.open.empty()              ? "complete"
-                                                  : "truncated";
-      break;
-    }
-    end = splitter.feed(piece, size);
+  while (!end) {
+    const size_t size = fread(piece, 1, sizeof piece, file);
+    end = size > 0                               ? splitter.feed(piece, size)
+          : ferror(file)                         ? "io"
+          : splitter.header_done < kHeaderSize   ? "header"
+          : splitter.open.empty()                ? "complete"
+                                                 : "truncated";
   }
   size_t number = 0;
-  for (const auto &record : splitter.kept) splitter.line(record[0], record.size(), ++number);
+  for (const auto &record : splitter.kept) splitter.line(record, ++number);
   splitter.flush();
   printf("end %s records=%zu\n", end, splitter.records);
   return strcmp(end, "complete") == 0 ? 0 : 3;
@@ -322,8 +213,6 @@ static int print_frames(const char *name, bool keep) {
 
 int main(int count, char **words) {
   const std::string mode = count > 1 ? words[1] : "";
-  if (mode == "lengths") return print_lengths();
-  if (mode == "given") return print_given();
   if (mode == "costs") return print_costs();
   if (count < 3) return 2;
   if (mode == "keep" || mode == "stream") return print_frames(words[2], mode == "keep");

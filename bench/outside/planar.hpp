@@ -71,12 +71,15 @@ inline const char *broken_rule(Graph &graph) {
   const auto place = [n](int u, int v) -> int & { return places[static_cast<size_t>(u) * (n + 1) + v]; };
   graph.tail.clear();
   graph.head.clear();
+  graph.after.clear();
   for (int u = 1; u <= n; ++u)
-    for (int v : graph.lists[u]) {
+    for (const int &v : graph.lists[u]) {
       if (place(u, v) >= 0) return "multi";
       place(u, v) = graph.darts();
       graph.tail.push_back(u);
       graph.head.push_back(v);
+      const bool is_last = &v == &graph.lists[u].back();
+      graph.after.push_back(is_last ? graph.darts() - static_cast<int>(graph.lists[u].size()) : graph.darts());
     }
   const int darts = graph.darts();
   for (int d = 0; d < darts; ++d)
@@ -84,25 +87,13 @@ inline const char *broken_rule(Graph &graph) {
   if (darts == 0) return "edgeless";
   for (int u = 1; u <= n; ++u)
     if (graph.lists[u].size() > 4) return "degree";
-  std::vector<int> seen(n + 1, 0), todo{1};
+  std::vector<int> seen(n + 1, 0), met{1};
   seen[1] = 1;
-  int reached = 0;
-  while (!todo.empty()) {
-    const int u = todo.back();
-    todo.pop_back();
-    ++reached;
-    for (int v : graph.lists[u])
-      if (!seen[v]) seen[v] = 1, todo.push_back(v);
-  }
-  if (reached != n) return "disconnected";
+  for (size_t at = 0; at < met.size(); ++at)
+    for (int v : graph.lists[met[at]])
+      if (!seen[v]++) met.push_back(v);
+  if (static_cast<int>(met.size()) != n) return "disconnected";
   graph.reverse.resize(darts);
-  graph.after.resize(darts);
-  int first = 0;
-  for (int u = 1; u <= n; ++u) {
-    const int degree = static_cast<int>(graph.lists[u].size());
-    for (int i = 0; i < degree; ++i) graph.after[first + i] = first + (i + 1) % degree;
-    first += degree;
-  }
   for (int d = 0; d < darts; ++d) graph.reverse[d] = place(graph.head[d], graph.tail[d]);
   graph.face.assign(darts, -1);
   graph.degree.clear();
@@ -115,12 +106,9 @@ inline const char *broken_rule(Graph &graph) {
     }
     graph.degree.push_back(size);
   }
-  const int faces = static_cast<int>(graph.degree.size());
-  if (2 * n - darts + 2 * faces != 4) return "genus";
-  graph.outer = 0;
-  for (int f = 1; f < faces; ++f)
-    if (graph.degree[f] > graph.degree[graph.outer]) graph.outer = f;
-  return nullptr;
+  const auto longest = std::max_element(graph.degree.begin(), graph.degree.end());
+  graph.outer = static_cast<int>(longest - graph.degree.begin());
+  return 2 * n - darts + 2 * static_cast<int>(graph.degree.size()) == 4 ? nullptr : "genus";
 }
 
 // The least cost of a shape, by the cost of a bend and that of a vertex of degree 2 that turns: such a vertex has two

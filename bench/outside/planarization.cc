@@ -1,8 +1,7 @@
 // Drawings by OGDF (the Open Graph Drawing Framework): planarization, then an orthogonal layout.
-// Reads a graph from standard input, as whole numbers: how many vertices and edges; the width and height of each vertex; the
-// ends of each edge, counted from 0. The arguments are the number of starts, and 1 if each edge is removed and inserted again
-// after each start, else 0. Prints a line with crossings, bends, width, height and the milliseconds of the processor of
-// planarization and of the whole; then the position of each vertex, and for each edge how many corners it has and these.
+// Reads a graph from standard input, as whole numbers: how many vertices and edges; the side of each vertex, which is a square;
+// the ends of each edge, counted from 0. The arguments are the number of starts, and 1 if each edge is removed and inserted again
+// after each start, else 0. Prints crossings, bends, and the milliseconds of the processor of planarization and of the whole.
 #include <cstdio>
 #include <cstdlib>
 #include <ctime>
@@ -53,7 +52,8 @@ int main(int count, char **words) {
   std::vector<ogdf::edge> edge;
   for (int at = 0; at < vertices; ++at) {
     vertex.push_back(graph.newNode());
-    if (std::scanf("%lf%lf", &drawing.width(vertex[at]), &drawing.height(vertex[at])) != 2) return 2;
+    if (std::scanf("%lf", &drawing.width(vertex[at])) != 1) return 2;
+    drawing.height(vertex[at]) = drawing.width(vertex[at]);
   }
   for (int at = 0; at < edges; ++at) {
     int tail = 0, head = 0;
@@ -72,13 +72,6 @@ int main(int count, char **words) {
   layout.call(drawing);
   int bends = 0;
   for (const ogdf::edge each : edge) bends += bends_of(drawing.bends(each));
-  const double whole = milliseconds() - start;
-  const auto box = drawing.boundingBox();
-  std::printf("%d %d %.0f %.0f %.0f %.0f\n", layout.numberOfCrossings(), bends, box.width(), box.height(), Planarizer::took, whole);
-  for (const ogdf::node each : vertex) std::printf("%.0f %.0f\n", drawing.x(each), drawing.y(each));
-  for (const ogdf::edge each : edge) {
-    std::printf("%d", drawing.bends(each).size());
-    for (const auto &point : drawing.bends(each)) std::printf(" %.0f %.0f", point.m_x, point.m_y);
-    std::printf("\n");
-  }
+  std::printf("crossings=%d bends=%d planarized=%.0f whole=%.0f\n", layout.numberOfCrossings(), bends, Planarizer::took,
+              milliseconds() - start);
 }

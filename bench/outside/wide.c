@@ -10,6 +10,7 @@
  */
 #define _GNU_SOURCE
 #include <malloc.h>
+#include <math.h>
 #include <pthread.h>
 #include <stdio.h>
 #include <stdlib.h>
@@ -32,6 +33,7 @@ static uint16_t record[UINT16_MAX];
 static _Alignas(4096) unsigned char stack[STACK];
 static planarbend *object;
 static planarbend_counts counts;
+static double took;
 
 static double nanoseconds(void) {
     struct timespec now;
@@ -44,37 +46,25 @@ static size_t allocated(void) {
     return seen.uordblks + seen.hblkhd;
 }
 
+/* Calls, and notes how long it took. */
 static void *call(void *request) {
-    double start = nanoseconds(), *took = malloc(sizeof *took);
+    double start = nanoseconds();
     if (planarbend_layout(object, request, &counts, &lists, NULL) != PLANARBEND_OK) exit(3);
-    if (took != NULL) *took = nanoseconds() - start;
-    return took;
+    took = nanoseconds() - start;
+    return NULL;
 }
 
 /* Calls on a stack that was filled, and returns how much of it was written. */
 static size_t stack_of(planarbend_request *request) {
     pthread_t thread;
     pthread_attr_t options;
-    void *took;
+    size_t unused = 0;
     memset(stack, FILLED, STACK);
     pthread_attr_init(&options);
     pthread_attr_setstack(&options, stack, STACK);
-    if (pthread_create(&thread, &options, call, request) != 0 || pthread_join(thread, &took) != 0) exit(2);
-    free(took);
-    size_t unused = 0;
+    if (pthread_create(&thread, &options, call, request) != 0 || pthread_join(thread, NULL) != 0) exit(2);
     while (unused < STACK && stack[unused] == FILLED) unused++;
     return STACK - unused;
-}
-
-static double time_of(planarbend_request *request, int rounds) {
-    double least = 1e18;
-    while (rounds-- > 0) {
-        double *took = call(request);
-        if (took == NULL) exit(2);
-        if (*took < least) least = *took;
-        free(took);
-    }
-    return least;
 }
 
 int main(int count, char **words) {
@@ -83,15 +73,17 @@ int main(int count, char **words) {
     double sum = 0, longest = 0;
     size_t most_stack = 0, before = allocated();
     if (count != 4 || planarbend_new(&object) != PLANARBEND_OK) return 2;
-    for (; fread(&entries, sizeof entries, 1, stdin) == 1; graphs++) {
+    for (int rounds = atoi(words[3]); fread(&entries, sizeof entries, 1, stdin) == 1; graphs++) {
         if (fread(record, sizeof *record, entries, stdin) != entries) return 2;
         planarbend_request request = {.size = sizeof request, .record16 = record, .record16_count = entries,
                                       .outer = atoi(words[1]), .drawing = atoi(words[2])};
-        size_t used = atoi(words[3]) > 0 ? stack_of(&request) : 0;
-        double took = time_of(&request, atoi(words[3]) > 0 ? atoi(words[3]) : 1);
+        size_t used = rounds > 0 ? stack_of(&request) : 0;
+        call(&request);
+        double least = took;
+        for (int round = 1; round < rounds; round++, least = fmin(least, took)) call(&request);
         if (used > most_stack) most_stack = used;
-        if (took > longest) longest = took;
-        sum += took;
+        longest = fmax(longest, least);
+        sum += least;
         bends += counts.bends;
     }
     printf("took=%.0f longest=%.0f bends=%lu stack=%zu memory=%zu\n", sum / (double)graphs, longest, bends, most_stack,

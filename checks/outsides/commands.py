@@ -1,6 +1,4 @@
 """Arguments of the command line, and the command `check`."""
-from __future__ import annotations
-
 import os
 import re
 import shutil
@@ -10,8 +8,7 @@ import time
 from typing import Any
 
 from machine import (
-    AS_NOBODY, broken_pipe, closing, FULL, full_disk, HEADER, is_fault, limits, LONE, Machine, Ran, TRIANGLE, TWICE,
-    TWO, WRITE, Wrong)
+    AS_NOBODY, broken_pipe, closing, FULL, full_disk, HEADER, limits, LONE, Machine, Ran, TRIANGLE, TWICE, TWO, WRITE)
 from outputs import ends_by
 from programs import ROOT, read
 
@@ -25,22 +22,18 @@ NEEDS_JSON = ("error: --drawing needs --json: the report has no drawings\n\nUsag
 def check_words(machine: Machine) -> None:
     """Command lines that are refused, and help."""
     for name, words, text in refused(machine.two):
-        with machine.case("command line", name):
-            is_fault(machine.run(words), 2, text)
+        machine.faulty("command line", name, words, 2, text)
     with machine.case("--help", "is asked for"):
-        ran = machine.run(["--help"])
-        if ran.status != 0 or ran.err or not ran.out:
-            raise Wrong(f"status {ran.status}, {len(ran.out)} bytes of output, {ran.err!r}")
+        ran = machine.ran(["--help"])
+        assert ran.status == 0 and not ran.err and ran.out, ran
     with machine.case("--version", "names the version and the toolchain"):
-        if (ran := machine.run(["--version"])) != Ran(0, version_text(), ""):
-            raise Wrong(f"{ran}")
+        assert (ran := machine.ran(["--version"])) == Ran(0, version_text(), ""), ran
 
 
 def refused(path: str) -> list[tuple[str, list[Any], str | None]]:
     """Command lines that are refused, each with its name and the text of the fault, or None for any text."""
     return [
-        ("no words", [], None), ("no such command", ["draw", path], None),
-        ("frames of no file", ["frames"], None),
+        ("no words", [], None), ("no such command", ["draw", path], None), ("frames of no file", ["frames"], None),
         ("frames of two files", ["frames", path, path], None), ("layout of no file", ["layout"], None),
         ("no such option", ["layout", "--fast", path], None),
         ("no such choice", ["layout", "--outer", "greatest", path], None),
@@ -80,6 +73,7 @@ NOT_OK = b"graph 1 ok bends=0 fewest=0\ngraph 2 drawn=axes edge=2 part=0\nend co
 UNREAD = b"graph 1 line=unread\ngraph 2 line=unread\nend complete graphs=2 surplus=0\n"
 NO_GRAPHS = b"end io graphs=0 surplus=0\n"
 NEVER = "planarbend: {}: {}\n"
+MISSING = "No such file or directory"
 
 
 def check_check(machine: Machine) -> None:
@@ -94,90 +88,74 @@ def check_check(machine: Machine) -> None:
     names_files(machine, two, none)
     reads_long_lines(machine)
     fails_to_write(machine, [two, drawn])
-    ends_by_signals(machine, two)
+    for which in (signal.SIGTERM, signal.SIGINT):
+        with machine.case("check", f"{which.name} while it waits for a FIFO"):
+            with machine.started(["check", two, machine.fifo()]) as child:
+                time.sleep(0.05)
+                ends_by(machine, child, which)
     for name, words, text in [("no file", [], None), ("one file", [two], None),
                               ("three files", [two, drawn, drawn], None), ("standard input twice", ["-", "-"], TWICE),
                               ("--lanes", ["--lanes", "2", two, drawn], None),
                               ("--progress", ["--progress", two, drawn], None)]:
-        with machine.case("check", name):
-            is_fault(machine.run(["check", *words]), 2, text)
+        machine.faulty("check", name, ["check", *words], 2, text)
 
 
-def says(machine: Machine, name: str, words: list[Any], out: bytes, status: int, err: str = "", **how: Any) -> None:
-    """A run with this output, this status and this text on standard error."""
+def says(machine: Machine, name: str, words: list[Any], out: bytes, status: int, err: str = "", pause: float = 0,
+         **how: Any) -> None:
+    """A run with this output, this status and this text on standard error; with a pause, it is given its input byte by
+    byte."""
     with machine.case("check", name):
-        is_said(machine.run(["check", *words], **how), out, status, err)
-
-
-def is_said(ran: Ran, out: bytes, status: int, err: str = "") -> None:
-    if ran != (status, out, err):
-        raise Wrong(f"status {ran.status}, {ran.out[-200:]!r}, {ran.err!r}; not status {status}, {out[-200:]!r},"
-                    f" {err!r}")
+        words = ["check", *words]
+        ran = machine.fed(words, how["given"], pause) if pause else machine.ran(words, **how)
+        assert ran == (status, out, err), f"{ran}; not {Ran(status, out, err)}"
 
 
 def reads_pipes(machine: Machine, two: str, drawn: str) -> None:
-    """Either file as standard input, at once or byte by byte, from `layout --json`, and from a FIFO."""
+    """Either file as standard input, at once or byte by byte, and from `layout --json`."""
     says(machine, "graphs from a pipe", ["-", drawn], OK, 0, given=TWO)
     says(machine, "lines from a pipe", [two, "-"], OK, 0, given=DRAWN)
     says(machine, "lines without a last line end", [two, "-"], OK, 0, given=DRAWN[:-1])
     says(machine, "a line too many", [two, "-"], OK.replace(b"surplus=0", b"surplus=1"), 4, given=DRAWN + b"{}\n")
-    with machine.case("check", "graphs byte by byte"):
-        is_said(machine.fed(["check", "-", drawn], TWO, 0.002), OK, 0)
-    with machine.case("check", "lines byte by byte"):
-        is_said(machine.fed(["check", two, "-"], DRAWN, 0.002), OK, 0)
-    with machine.case("check", "lines of layout --json"):
-        laid_out = machine.run(["layout", "--json", two]).out
-        is_said(machine.run(["check", "--faces", two, "-"], given=laid_out), OK, 0)
+    says(machine, "graphs byte by byte", ["-", drawn], OK, 0, pause=0.002, given=TWO)
+    says(machine, "lines byte by byte", [two, "-"], OK, 0, pause=0.002, given=DRAWN)
+    says(machine, "lines of layout --json", ["--faces", two, "-"], OK, 0, given=machine.ran(["layout", "--json", two]).out)
 
 
 def names_files(machine: Machine, two: str, none: str) -> None:
     """Files that cannot be opened or read: the reason is on standard error, and the rest is checked."""
     forbidden, missing = machine.file(TWO), machine.path()
     os.chmod(forbidden, 0)
-    for name, path, reason, how in [("a missing file", missing, "No such file or directory", {}),
+    for name, path, reason, how in [("a missing file", missing, MISSING, {}),
                                     ("a folder", machine.room, "Is a directory", {}),
                                     ("a file without permission", forbidden, "Permission denied", AS_NOBODY),
-                                    ("- is closed", "-", "Bad file descriptor", {"preexec_fn": closing(0)})]:
+                                    ("- is closed", "-", "Bad file descriptor", closing(0))]:
         said = NEVER.format(path, reason)
         says(machine, f"{name} for the graphs", [path, none], NO_GRAPHS, 3, said, **how)
         says(machine, f"{name} for the lines", [two, path], UNREAD, 3, said, **how)
     both = [missing, missing + "-too"]
-    says(machine, "both missing", both, NO_GRAPHS, 3,
-         "".join(NEVER.format(path, "No such file or directory") for path in both))
+    says(machine, "both missing", both, NO_GRAPHS, 3, "".join(NEVER.format(path, MISSING) for path in both))
 
 
 def reads_long_lines(machine: Machine) -> None:
     """Lines up to the limit and above it, in little memory, and many of them."""
-    lone = machine.file(HEADER + TRIANGLE)
-    line = DRAWN.splitlines()[1]
+    lone, line, room = machine.file(HEADER + TRIANGLE), DRAWN.splitlines()[1], {"preexec_fn": limits(AS=ROOM)}
     for length, said, status in [(LONGEST, b"ok bends=1 fewest=1", 0), (LONGEST + 1, b"line=malformed", 4),
                                  (50 << 20, b"line=malformed", 4)]:
         for end in (b"", b"\n"):
-            says(machine, f"a line of {length} bytes", [lone, "-"],
-                 b"graph 1 " + said + b"\nend complete graphs=1 surplus=0\n", status,
-                 given=line + b" " * (length - len(line)) + end, preexec_fn=limits(AS=ROOM))
+            says(machine, f"a line of {length} bytes", [lone, "-"], b"graph 1 " + said
+                 + b"\nend complete graphs=1 surplus=0\n", status, given=line + b" " * (length - len(line)) + end, **room)
     count = 200_000
     many = machine.file(HEADER + LONE * count)
     with machine.case("check", f"{count} graphs in little memory"):
-        ran = machine.run(["check", many, machine.file(b"{}\n" * count)], preexec_fn=limits(AS=ROOM))
-        if ran.status != 4 or ran.out.count(b" refused edgeless\n") != count:
-            raise Wrong(f"status {ran.status}, {ran.out[-80:]!r}, {ran.err!r}")
+        ran = machine.ran(["check", many, machine.file(b"{}\n" * count)], **room)
+        assert ran.status == 4 and ran.out.count(b" refused edgeless\n") == count, ran
 
 
 def fails_to_write(machine: Machine, paths: list[str]) -> None:
     """Outputs that accept no data."""
     for name, make, said in [("full disk", full_disk, FULL), ("closed pipe", broken_pipe, "")]:
-        with machine.case("check", f"standard output is a {name}"), make() as output:
-            is_said(machine.run(["check", *paths], stdout=output), b"", 1, said)
+        with make() as output:
+            says(machine, f"standard output is a {name}", paths, b"", 1, said, stdout=output)
     says(machine, "standard output closed", paths, b"", 1, WRITE.format("Bad file descriptor"),
-         stdout=subprocess.DEVNULL, preexec_fn=closing(1))
-    says(machine, "standard error closed", paths, OK, 0, preexec_fn=closing(2))
-
-
-def ends_by_signals(machine: Machine, two: str) -> None:
-    """Signals that end a run while it waits for a FIFO."""
-    for which in (signal.SIGTERM, signal.SIGINT):
-        with machine.case("check", f"{which.name} while it waits for a FIFO"):
-            with machine.started(["check", two, machine.fifo()]) as child:
-                time.sleep(0.05)
-                ends_by(machine, child, which)
+         stdout=subprocess.DEVNULL, **closing(1))
+    says(machine, "standard error closed", paths, OK, 0, **closing(2))

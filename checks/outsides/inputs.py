@@ -1,6 +1,4 @@
 """Files of all kinds, good and bad, pipes and standard input."""
-from __future__ import annotations
-
 import bz2
 import contextlib
 import gzip
@@ -19,9 +17,9 @@ from collections.abc import Callable
 from typing import Any
 
 from machine import (
-    AS_NOBODY, both_ends, BULKY, closing, Command, COMMANDS, EDGE, File, FRAMES, IO, is_fault, is_stopped, is_whole,
-    LAYOUT, LAYOUT_JSON, LAYOUTS, LONE, Machine, PATH_OF_10, PATIENCE, place_in, Ran, split, TRIANGLE, TWICE, TWO,
-    wait_for, waiting_bytes, Wrong)
+    AS_NOBODY, both_ends, BULKY, closing, Command, COMMANDS, EDGE, EMPTY, File, FRAMES, IO, is_stopped, is_whole,
+    LAYOUT, LAYOUT_JSON, layout, LAYOUTS, LONE, Machine, PATH_OF_10, PATIENCE, place_in, Ran, split, TRIANGLE, TWICE,
+    TWO, wait_for, waiting_bytes)
 from planarbend.layout.planar_code import HEADER, MOST_RECORDS
 
 
@@ -31,54 +29,40 @@ MOST_FILES = 256
 
 
 def check_files(machine: Machine) -> None:
-    """One file in a run."""
-    address, files = machine.path(), readable(machine)
+    """One file in a run, also cut after each of its bytes."""
+    address, zeros = machine.path(), machine.file(HEADER + EDGE + b"\0" + EDGE)
+    spaced = machine.file(TWO, os.path.join(machine.folder, " a name\nwith\tspaces and lines "))
+    unicode = machine.file(TWO, os.path.join(machine.folder, "größe-图").encode())
+    no_utf8 = machine.file(TWO, os.path.join(machine.folder.encode(), b"\xff\xfe"))
+    files: list[tuple[str, Any, File]] = [
+        ("a socket", address, IO), ("/dev/null", "/dev/null", EMPTY), ("/dev/zero", "/dev/zero", EMPTY),
+        ("an empty file", machine.file(b""), EMPTY), ("a header alone", machine.file(HEADER), File([])),
+        ("a byte 0 for a record", zeros, File([EDGE], "large")),
+        ("a list of 255", machine.file(HEADER + EDGE + b"\1" + 255 * b"\1"), File([EDGE], "oversize")),
+        ("a name with spaces and lines", spaced, split(TWO)), ("a name in UTF-8", unicode, split(TWO)),
+        *((f"two.pc cut after byte {length}", machine.file(TWO[:length]), split(TWO[:length])) for length in range(len(TWO)))]
     with socket.socket(socket.AF_UNIX) as listening:
         listening.bind(address)
         for command in COMMANDS:
-            for name, path, file in [("a socket", address, IO), *files]:
+            for name, path, file in files:
                 machine.whole(command, name, [path], [file])
-    machine.whole(FRAMES, "the longest record", [machine.file(HEADER + BULKY)], [File([BULKY], "complete")])
+    machine.whole(FRAMES, "the longest record", [machine.file(HEADER + BULKY)], [File([BULKY])])
     for command in COMMANDS:
-        with machine.case(command, "a name that is no UTF-8"):
-            path = machine.file(TWO, os.path.join(machine.folder.encode(), b"\xff\xfe"))
-            place = len(command.words) + 1
-            is_fault(machine.run([*command.words, path]), 2,
-                     f"planarbend: argument {place} is not valid UTF-8, as the name of a file must be\n")
-        cut_at_each_byte(machine, command)
-
-
-def readable(machine: Machine) -> list[tuple[str, Any, File]]:
-    """Files that can be read, most of them odd."""
-    spaced = machine.file(TWO, os.path.join(machine.folder, " a name\nwith\tspaces and lines "))
-    unicode = machine.file(TWO, os.path.join(machine.folder, "größe-图").encode())
-    zeros = machine.file(HEADER + EDGE + b"\0" + EDGE)
-    return [("/dev/null", "/dev/null", File([], "header")), ("/dev/zero", "/dev/zero", File([], "header")),
-            ("an empty file", machine.file(b""), File([], "header")),
-            ("a header alone", machine.file(HEADER), File([], "complete")),
-            ("a byte 0 for a record", zeros, File([EDGE], "large")),
-            ("a list of 255", machine.file(HEADER + EDGE + b"\1" + 255 * b"\1"), File([EDGE], "oversize")),
-            ("a name with spaces and lines", spaced, split(TWO)), ("a name in UTF-8", unicode, split(TWO))]
-
-
-def cut_at_each_byte(machine: Machine, command: Command) -> None:
-    """A file that is cut after each of its bytes."""
-    for length in range(len(TWO)):
-        path = machine.file(TWO[:length], machine.two + "-cut")
-        machine.whole(command, f"two.pc cut after byte {length}", [path], [split(TWO[:length])])
+        place = len(command.words) + 1
+        machine.faulty(command, "a name that is no UTF-8", [*command.words, no_utf8], 2,
+                       f"planarbend: argument {place} is not valid UTF-8, as the name of a file must be\n")
 
 
 def check_several(machine: Machine) -> None:
     """Several files in one run."""
-    lone, missing = machine.file(HEADER + LONE), machine.path()
+    lone, missing, two = machine.file(HEADER + LONE), machine.path(), machine.two
     for command in LAYOUTS:
-        machine.whole(command, "the same file twice", [machine.two] * 2, [split(TWO)] * 2)
-        machine.whole(command, f"{MOST_FILES} files", [machine.two] * MOST_FILES, [split(TWO)] * MOST_FILES)
-        machine.whole(command, "a missing file between others", [machine.two, missing, lone],
-                      [split(TWO), IO, File([LONE], "complete")])
-        with machine.case(command, f"{MOST_FILES + 1} files"):
-            ran = machine.run([*command.words, *[machine.two] * (MOST_FILES + 1)])
-            is_fault(ran, 2, f"planarbend: more than {MOST_FILES} files\n")
+        for name, paths, files in [("the same file twice", [two] * 2, [split(TWO)] * 2),
+                                   (f"{MOST_FILES} files", [two] * MOST_FILES, [split(TWO)] * MOST_FILES),
+                                   ("a missing file between others", [two, missing, lone], [split(TWO), IO, File([LONE])])]:
+            machine.whole(command, name, paths, files)
+        machine.faulty(command, f"{MOST_FILES + 1} files", [*command.words, *[two] * (MOST_FILES + 1)], 2,
+                       f"planarbend: more than {MOST_FILES} files\n")
 
 
 # ---- Files and pipes of more than a megabyte, with every value of a byte at the ends of the pieces in which they are
@@ -91,16 +75,14 @@ GRAPHS = 45_000  # whose report leaves in more than 100 writes
 def check_pieces(machine: Machine) -> None:
     """A long file, a pipe that delivers pieces of all sizes, and files with names of each length."""
     text, records = bulky_text(270)
-    machine.whole(FRAMES, "a file of 17 MB", [machine.file(text)], [File(records, "complete")])
+    machine.whole(FRAMES, "a file of 17 MB", [machine.file(text)], [File(records)])
     with machine.case(FRAMES, "a pipe of 1.3 MB in pieces"):
-        text, records = bulky_text(20)
-        in_pieces(machine, FRAMES, text, records, cuts_of(text, 4_000))
+        in_pieces(machine, FRAMES, *bulky_text(20), 4_000)
     with machine.case(LAYOUT, "a pipe of graphs in pieces"):
-        text = HEADER + EDGE * 2_000
-        in_pieces(machine, LAYOUT, text, [EDGE] * 2_000, cuts_of(text, 1_000))
+        in_pieces(machine, LAYOUT, HEADER + EDGE * 2_000, [EDGE] * 2_000, 1_000)
     edges = machine.file(HEADER + EDGE * GRAPHS)
     for command in (LAYOUT, LAYOUT_JSON):
-        machine.whole(command, f"{GRAPHS} graphs", [edges], [File([EDGE] * GRAPHS, "complete")])
+        machine.whole(command, f"{GRAPHS} graphs", [edges], [File([EDGE] * GRAPHS)])
     for command in (FRAMES, LAYOUT):
         with machine.case(command, "names of 1 to 255 bytes"):
             names_of_each_length(machine, command)
@@ -117,21 +99,16 @@ def bulky_text(count: int) -> tuple[bytes, list[bytes]]:
     return bytes(text), [body[place:place + size] for place in range(0, len(body), size)]
 
 
-def cuts_of(text: bytes, pieces: int) -> list[int]:
-    """The places where a text is cut into this many pieces."""
-    places = random.Random(1).sample(range(1, len(text)), pieces - 1)
-    return [0, *sorted(places), len(text)]
-
-
-def in_pieces(machine: Machine, command: Command, text: bytes, records: list[bytes], cuts: list[int]) -> None:
-    """A run over a pipe that delivers each piece after the previous one was read."""
+def in_pieces(machine: Machine, command: Command, text: bytes, records: list[bytes], pieces: int) -> None:
+    """A run over a pipe that delivers a text in this many pieces, each after the previous one was read."""
+    cuts = [0, *sorted(random.Random(1).sample(range(1, len(text)), pieces - 1)), len(text)]
     with machine.started([*command.words, "-"], stdin=subprocess.PIPE, stdout=subprocess.PIPE) as child:
         pipe = child.stdin.fileno()
         for begin, end in zip(cuts, cuts[1:]):
             for place in range(begin, end, PIECE // 2):
                 os.write(pipe, text[place:min(place + PIECE // 2, end)])
                 wait_for(lambda: not waiting_bytes(pipe) or child.poll() is not None, "a read")
-        is_whole(command, machine.ended(child), [File(records, "complete")])
+        is_whole(command, machine.ended(child), [File(records)])
 
 
 def names_of_each_length(machine: Machine, command: Command) -> None:
@@ -139,15 +116,13 @@ def names_of_each_length(machine: Machine, command: Command) -> None:
     for length in range(1, 256):
         name = "n" * length
         path = machine.file(HEADER + EDGE * length, os.path.join(machine.folder, name))
-        ran = machine.run([*command.words, os.path.join("..", name)])
-        is_whole(command, ran, [File([EDGE] * length, "complete")])
+        is_whole(command, machine.ran([*command.words, os.path.join("..", name)]), [File([EDGE] * length)])
         os.remove(path)
 
 
 # ---- Pipes, slow files and standard input, by its path and by its name `-`.
 
 PAUSE = 0.003  # seconds between two bytes of a slow file
-EMPTY = File([], "header")
 
 
 def check_streams(machine: Machine) -> None:
@@ -158,40 +133,37 @@ def check_streams(machine: Machine) -> None:
         machine.whole(command, "/dev/stdin, an empty pipe", ["/dev/stdin"], [EMPTY], given=b"")
         with open(machine.two, "rb") as file:
             machine.whole(command, "/dev/stdin, a file", ["/dev/stdin"], [two], stdin=file)
-        machine.whole(command, "/dev/stdin, closed", ["/dev/stdin"], [IO], preexec_fn=closing(0))
-        machine.whole(command, "a closed standard input", [machine.two], [two], preexec_fn=closing(0))
+        machine.whole(command, "/dev/stdin, closed", ["/dev/stdin"], [IO], **closing(0))
+        machine.whole(command, "a closed standard input", [machine.two], [two], **closing(0))
         named_pipes(machine, command)
     with machine.case(FRAMES, "a pipe that never ends"):
         with machine.started(["frames", "/dev/stdin"], stdin=subprocess.PIPE) as child:
             threading.Thread(target=endless, args=(child.stdin,), daemon=True).start()
             out, status = child.stdout.read(), child.wait(PATIENCE)
-        if status != 3 or not out.endswith(f"\nend many records={MOST_RECORDS}\n".encode()):
-            raise Wrong(f"status {status}, {out[-80:]!r}")
+        end = f"\nend many records={MOST_RECORDS}\n".encode()
+        assert status == 3 and out.endswith(end), f"status {status}, {out[-80:]!r}"
 
 
 def named_pipes(machine: Machine, command: Command) -> None:
     """FIFOs that are slow, end early, stop, or give nothing."""
-    for name, text, pause in [("byte by byte", TWO, PAUSE), ("cut in a record", TWO[:-3], 0)]:
+    for name, text, pause, stop in [("byte by byte", TWO, PAUSE, False), ("cut in a record", TWO[:-3], 0, False),
+                                    ("stopped and continued between bytes", TWO, PAUSE, True)]:
         with machine.case(command, f"a FIFO, {name}"):
-            is_whole(command, slowly(machine, command, text, pause), [split(text)])
-    with machine.case(command, "a FIFO, stopped and continued between bytes"):
-        is_whole(command, slowly(machine, command, TWO, PAUSE, stop=True), [split(TWO)])
-    with machine.case(command, "a FIFO that is opened and closed again"):
-        path = machine.fifo()
-        threading.Thread(target=lambda: os.close(os.open(path, os.O_WRONLY)), daemon=True).start()
-        is_whole(command, machine.run([*command.words, path]), [EMPTY])
+            is_whole(command, slowly(machine, command, text, pause, stop), [split(text)])
+    path = machine.fifo()
+    threading.Thread(target=lambda: os.close(os.open(path, os.O_WRONLY)), daemon=True).start()
+    machine.whole(command, "a FIFO that is opened and closed again", [path], [EMPTY])
 
 
-def slowly(machine: Machine, command: Command, text: bytes, pause: float, stop: bool = False) -> Ran:
+def slowly(machine: Machine, command: Command, text: bytes, pause: float, stop: bool) -> Ran:
     """A run over a FIFO that delivers this text, with a pause after each byte, in which the run may be stopped."""
     path = machine.fifo()
     with both_ends(path) as writer, machine.started([*command.words, path]) as child:
         for byte in text:
             writer.write(bytes([byte]))
             time.sleep(pause)
-            if stop:
-                child.send_signal(signal.SIGSTOP)
-                child.send_signal(signal.SIGCONT)
+            for which in (signal.SIGSTOP, signal.SIGCONT) if stop else ():
+                child.send_signal(which)
         wait_for(lambda: not waiting_bytes(writer.fileno()) or child.poll() is not None, "the end of the FIFO")
         writer.close()
         return machine.ended(child)
@@ -207,7 +179,7 @@ def endless(pipe: Any) -> None:
 
 def check_input(machine: Machine) -> None:
     """Standard input by its name `-`."""
-    two, one = split(TWO), File([LONE], "complete")
+    two, one = split(TWO), File([LONE])
     machine.file(HEADER + LONE, os.path.join(machine.folder, "-"))
     before = machine.file(b"more" + TWO)
     for command in COMMANDS:
@@ -215,46 +187,38 @@ def check_input(machine: Machine) -> None:
         input_is_a_file(machine, command, before)
         with machine.case(command, "- byte by byte"):
             is_whole(command, machine.fed([*command.words, "-"], TWO, PAUSE), [two])
-        input_is_a_folder(machine, command)
-        with machine.case(command, "- twice"):
-            is_fault(machine.run([*command.words, "-", "--", "-"], given=TWO), 2, None if command.frames else TWICE)
+        machine.faulty(command, "- twice", [*command.words, "-", "--", "-"], 2, None if command.frames else TWICE, given=TWO)
     for command in LAYOUTS:
         others = [machine.two, "-", machine.two, "../-"]
         machine.whole(command, "- between files", others, [two, one, two, one], given=HEADER + LONE)
-        machine.whole(command, "- is closed, between files", others, [two, IO, two, one], preexec_fn=closing(0))
-    for command in (Command(["layout", "--lanes", "2"]), Command(["layout", "--lanes", "2", "--json"])):
+        machine.whole(command, "- is closed, between files", others, [two, IO, two, one], **closing(0))
+    for command in (layout(2), layout(2, "--json")):
         with machine.case(command, "- is closed, and no file gets its number"):
             is_whole(command, beside_closed_input(machine, command), [two, two, IO])
 
 
 def input_is_a_pipe(machine: Machine, command: Command) -> None:
     """Standard input that is a pipe, is empty or is closed; and a file that has its name."""
-    machine.whole(command, "- is a pipe", ["-"], [split(TWO)], given=TWO)
-    machine.whole(command, "- behind --", ["--", "-"], [split(TWO)], given=TWO)
-    machine.whole(command, "- is a pipe, cut in a record", ["-"], [split(TWO[:-3])], given=TWO[:-3])
+    two, cut = split(TWO), TWO[:-3]
+    machine.whole(command, "- is a pipe", ["-"], [two], given=TWO)
+    machine.whole(command, "- behind --", ["--", "-"], [two], given=TWO)
+    machine.whole(command, "- is a pipe, cut in a record", ["-"], [split(cut)], given=cut)
     machine.whole(command, "- is an empty pipe", ["-"], [EMPTY], given=b"")
     machine.whole(command, "- is /dev/null", ["-"], [EMPTY])
-    machine.whole(command, "- is closed", ["-"], [IO], preexec_fn=closing(0))
-    machine.whole(command, "a file of the name -", ["../-"], [File([LONE], "complete")], given=TWO)
+    machine.whole(command, "- is closed", ["-"], [IO], **closing(0))
+    machine.whole(command, "a file of the name -", ["../-"], [File([LONE])], given=TWO)
 
 
 def input_is_a_file(machine: Machine, command: Command, before: str) -> None:
-    """Standard input that is a file, one of which four bytes were read before, or one that cannot be read."""
-    with open(machine.two, "rb") as file:
-        machine.whole(command, "- is a file", ["-"], [split(TWO)], stdin=file)
+    """Standard input that is a file, one of which four bytes were read before, one that cannot be read, or a folder."""
     with open(before, "rb", buffering=0) as file:
         file.seek(4)
         machine.whole(command, "- is a file, read before", ["-"], [split(TWO)], stdin=file)
-    with open("/dev/null", "wb") as file:
-        machine.whole(command, "- is open for writing only", ["-"], [IO], stdin=file)
-
-
-def input_is_a_folder(machine: Machine, command: Command) -> None:
-    """Standard input that opens, and every read of which fails."""
-    with machine.case(command, "- is a directory"), contextlib.ExitStack() as opened:
-        folder = os.open(machine.room, os.O_RDONLY)
-        opened.callback(os.close, folder)
-        is_whole(command, machine.run([*command.words, "-"], stdin=folder), [IO])
+    for name, path, how, found in (("a file", machine.two, os.O_RDONLY, split(TWO)), ("a directory", machine.room, os.O_RDONLY, IO),
+                                   ("open for writing only", os.devnull, os.O_WRONLY, IO)):
+        given = os.open(path, how)
+        machine.whole(command, f"- is {name}", ["-"], [found], stdin=given)
+        os.close(given)
 
 
 def beside_closed_input(machine: Machine, command: Command) -> Ran:
@@ -262,10 +226,10 @@ def beside_closed_input(machine: Machine, command: Command) -> Ran:
     once a FIFO has ended."""
     paths = [machine.fifo(), machine.fifo()]
     with both_ends(paths[0]) as one, both_ends(paths[1]) as other, \
-            machine.started([*command.words, *paths, "-"], preexec_fn=closing(0)) as child:
+            machine.started([*command.words, *paths, "-"], **closing(0)) as child:
         wait_for(lambda: child.poll() is not None or all(place_in(child.pid, path) >= 0 for path in paths), "two files")
-        if (first := os.path.realpath(f"/proc/{child.pid}/fd/0")) != "/":
-            raise Wrong(f"{first} has the number of standard input")
+        first = os.path.realpath(f"/proc/{child.pid}/fd/0")
+        assert first == "/", f"{first} has the number of standard input"
         for path, writer in zip(paths, (one, other)):
             writer.write(TWO)
             writer.close()
@@ -288,28 +252,25 @@ def check_changes(machine: Machine) -> None:
         text = HEADER + (BULKY * 400 if command.frames else TRIANGLE * 25_000)
         for name, change in [("shrinks before it is read", shrink), ("is emptied", empty), ("grows", grow)]:
             with machine.case(command, f"a file that {name} while it is read"):
-                changed(machine, command, text, change)
+                assert any(changed(machine, command, text, change) for _ in range(TRIES)), "never seen in the middle"
 
 
-def changed(machine: Machine, command: Command, text: bytes, change: Change) -> None:
-    """A run over a file that changes while it is read."""
-    for _ in range(TRIES):
-        path = machine.file(text)
-        with machine.started([*command.words, path]) as child:
-            place = 0
-            while place <= 0 and child.poll() is None:
-                place = place_in(child.pid, path)
-            child.send_signal(signal.SIGSTOP)
-            wait_for(lambda: child.poll() is not None or is_stopped(child.pid), "a stop")
-            place = place_in(child.pid, path) if child.poll() is None else -1
-            read = change(path, place, text) if 0 < place < len(text) - len(BULKY) else None
-            child.send_signal(signal.SIGCONT)
-            ran = machine.ended(child)
-        os.remove(path)
-        if read is not None:
-            is_whole(command, ran, [split(read)])
-            return
-    raise Wrong("the file was never seen in the middle")
+def changed(machine: Machine, command: Command, text: bytes, change: Change) -> bool:
+    """Whether a file was seen in the middle, and changed, in a run over it."""
+    path, place = machine.file(text), 0
+    with machine.started([*command.words, path]) as child:
+        while place <= 0 and child.poll() is None:
+            place = place_in(child.pid, path)
+        child.send_signal(signal.SIGSTOP)
+        wait_for(lambda: child.poll() is not None or is_stopped(child.pid), "a stop")
+        place = place_in(child.pid, path) if child.poll() is None else -1
+        read = change(path, place, text) if 0 < place < len(text) - len(BULKY) else None
+        child.send_signal(signal.SIGCONT)
+        ran = machine.ended(child)
+    os.remove(path)
+    if read is not None:
+        is_whole(command, ran, [split(read)])
+    return read is not None
 
 
 def shrink(path: str, place: int, text: bytes) -> bytes:
@@ -339,26 +300,35 @@ CLOSED, FAILED = "Bad file descriptor", "Input/output error"
 
 def check_reasons(machine: Machine) -> None:
     """Why a file could not be read, for one file and for several; and what a file looks like."""
-    files, kinds = unreadable(machine), misfits()
+    files = [(name, path, IO, reason) for name, path, reason in unreadable(machine)]
+    files += [(name, machine.file(text), split(text), said) for name, text, said in misfits()]
     for command in COMMANDS:
-        for name, path, reason in files:
-            tells(machine, command, name, path, IO, reason, **(AS_NOBODY if reason == "Permission denied" else {}))
-        tells(machine, command, "- is closed", "-", IO, CLOSED, preexec_fn=closing(0))
-        tells(machine, command, "/dev/stdin, closed", "/dev/stdin", IO, FOLDER, preexec_fn=closing(0))
+        for name, path, file, reason in files:
+            tells(machine, command, name, path, file, reason, **(AS_NOBODY if reason == "Permission denied" else {}))
+        tells(machine, command, "- is closed", "-", IO, CLOSED, **closing(0))
+        tells(machine, command, "/dev/stdin, closed", "/dev/stdin", IO, FOLDER, **closing(0))
         with open("/dev/null", "wb") as null:
             tells(machine, command, "- is open for writing only", "-", IO, CLOSED, stdin=null)
-        fails_in_the_middle(machine, command)
-        for name, text, said in kinds:
-            tells(machine, command, name, machine.file(text), split(text), said)
-    for command in LAYOUTS:
-        tells_in_order(machine, command)
+        master, terminal = pty.openpty()
+        with os.fdopen(master, "rb", buffering=0) as given:  # reads of it fail after this text
+            tty.setraw(terminal)
+            os.write(terminal, TWO)
+            os.close(terminal)
+            tells(machine, command, "a read that fails in the middle", "-", File([EDGE, TRIANGLE], "io"), FAILED, stdin=given)
+    missing = machine.path()
+    paths, reasons = [missing, machine.two, machine.room, "-", missing], [MISSING, None, FOLDER, CLOSED, MISSING]
+    said = "".join(f"planarbend: {path}: {why}\n" for path, why in zip(paths, reasons) if why)
+    for command in LAYOUTS:  # a line for each file that could not be read, in order; a name may occur twice
+        with machine.case(command, "what is said of several files"):
+            ran = machine.ran([*command.words, *paths], **closing(0))
+            is_whole(command, ran, [split(TWO) if why is None else IO for why in reasons], said)
 
 
 def tells(machine: Machine, command: Command, name: str, path: str, file: File, reason: str | None, **how: Any) -> None:
     """One file, with this message about it, or none."""
     with machine.case(command, f"what is said of {name}"):
         said = f"planarbend: {path}: {reason}\n" if reason else ""
-        is_whole(command, machine.run([*command.words, path], **how), [file], said)
+        is_whole(command, machine.ran([*command.words, path], **how), [file], said)
 
 
 def unreadable(machine: Machine) -> list[tuple[str, str, str]]:
@@ -372,18 +342,6 @@ def unreadable(machine: Machine) -> list[tuple[str, str, str]]:
             ("a long name", "a" * 300, "File name too long"), ("a long path", "/a" * 3000, "File name too long"),
             ("a file without permission", forbidden, "Permission denied"),
             ("a read that fails at once", "/proc/self/mem", FAILED)]
-
-
-def fails_in_the_middle(machine: Machine, command: Command) -> None:
-    """A read that fails after two records: the other end of a terminal was closed."""
-    with machine.case(command, "what is said of a read that fails in the middle"):
-        master, terminal = pty.openpty()
-        with os.fdopen(master, "rb", buffering=0) as given:
-            tty.setraw(terminal)
-            os.write(terminal, TWO)
-            os.close(terminal)
-            ran = machine.run([*command.words, "-"], stdin=given)
-        is_whole(command, ran, [File([EDGE, TRIANGLE], "io")], f"planarbend: -: {FAILED}\n")
 
 
 def misfits() -> list[tuple[str, bytes, str | None]]:
@@ -406,14 +364,3 @@ def misfits() -> list[tuple[str, bytes, str | None]]:
         packed = subprocess.run(["zstd", "-q", "-c"], input=TWO, stdout=subprocess.PIPE, check=True).stdout
         cases.append(("zstd", packed, "zstd-compressed: use zstdcat"))
     return cases
-
-
-def tells_in_order(machine: Machine, command: Command) -> None:
-    """A line for each file that could not be read, in the order of the files; a name may occur twice."""
-    with machine.case(command, "what is said of several files"):
-        missing = machine.path()
-        paths = [missing, machine.two, machine.room, "-", missing]
-        reasons = [MISSING, None, FOLDER, CLOSED, MISSING]
-        said = "".join(f"planarbend: {path}: {why}\n" for path, why in zip(paths, reasons) if why)
-        ran = machine.run([*command.words, *paths], preexec_fn=closing(0))
-        is_whole(command, ran, [split(TWO) if why is None else IO for why in reasons], said)

@@ -1,10 +1,8 @@
 """Limits on open files, threads and address space."""
-from __future__ import annotations
-
 import bisect
-import contextlib
 import ctypes
 import os
+import re
 import resource
 import signal
 import subprocess
@@ -12,9 +10,10 @@ from collections.abc import Iterable
 from typing import Any, NamedTuple
 
 from machine import (
-    are_same, AS_NOBODY, both_ends, Command, COMMANDS, events_of, expected_events, File, IO, is_beginning, is_fault,
-    IS_ROOT, is_whole, lacks_memory, LAYOUT, LAYOUT_JSON, LAYOUTS, limits, Machine, NOBODY, Ran, split, TRIANGLE, TWO,
-    wait_for, waiting_bytes, Wrong)
+    are_same, AS_NOBODY, both_ends, Command, COMMANDS, expected_lines, File, IO, is_beginning, is_fault, IS_ROOT,
+    is_whole, LAYOUT, LAYOUT_JSON, LAYOUTS, limits, lines_of, Machine, NOBODY, Ran, split, TRIANGLE, TWO, wait_for,
+    waiting_bytes)
+import programs
 from planarbend.layout.planar_code import HEADER
 from programs import LOST, MEMORY, THREAD
 
@@ -28,32 +27,21 @@ def check_open_files(machine: Machine) -> None:
         paths = [machine.two] * (1 if command.frames else 64)
         files = 3 + 5 * command.lanes
         machine.whole(command, f"{files} open files", paths, [split(TWO)] * len(paths), preexec_fn=limits(NOFILE=files))
-    for command in LAYOUTS:
+    for command in LAYOUTS:  # each of 8 files is whole or `io`
         with machine.case(command, "4 open files, as many as one lane needs"):
-            one_at_a_time(machine, command)
+            ran = machine.ran([*command.words, *[machine.two] * 8], preexec_fn=limits(NOFILE=4))
+            marks = re.findall(r"\bend (\w+) ", "\n".join(lines_of(command, ran.out)[0]))
+            is_whole(command, ran, [split(TWO) if mark == "complete" else IO for mark in marks])
+            assert len(marks) == 8, f"{len(marks)} files in the report, not 8"
     for command in (LAYOUT, LAYOUT_JSON):
         with machine.case(command, "no more open files from the second file on"):
-            is_whole(command, without_files(machine, command), [split(TWO), IO])
-
-
-def one_at_a_time(machine: Machine, command: Command) -> None:
-    """A run over 8 files that may have one of them open: each is whole or `io`."""
-    ran = machine.run([*command.words, *[machine.two] * 8], preexec_fn=limits(NOFILE=4))
-    marks = [text.split()[1] for _, text in events_of(command, ran.out)[0] if text.startswith("end ")]
-    is_whole(command, ran, [split(TWO) if mark == "complete" else IO for mark in marks])
-    if len(marks) != 8:
-        raise Wrong(f"{len(marks)} files in the report, not 8")
-
-
-def without_files(machine: Machine, command: Command) -> Ran:
-    """A run over a FIFO and a file, which may open no more files once it reads the FIFO."""
-    path = machine.fifo()
-    with both_ends(path) as writer, machine.started([*command.words, path, machine.two]) as child:
-        writer.write(TWO)
-        wait_for(lambda: not waiting_bytes(writer.fileno()), "a read")
-        resource.prlimit(child.pid, resource.RLIMIT_NOFILE, (3, 3))
-        writer.close()
-        return machine.ended(child)
+            path = machine.fifo()
+            with both_ends(path) as writer, machine.started([*command.words, path, machine.two]) as child:
+                writer.write(TWO)
+                wait_for(lambda: not waiting_bytes(writer.fileno()), "a read")
+                resource.prlimit(child.pid, resource.RLIMIT_NOFILE, (3, 3))
+                writer.close()
+                is_whole(command, machine.ended(child), [split(TWO), IO])
 
 
 # ---- Limits on threads: besides its first thread, a run has four threads for each lane, and `frames` one.
@@ -65,7 +53,7 @@ def check_threads(machine: Machine) -> None:
         enough = 2 if command.frames else 1 + 4 * command.lanes
         for most in range(1, enough + 2):
             with machine.case(command, f"ulimit -u {most} as {'nobody' if IS_ROOT else 'this user'}"):
-                ran = machine.run([*command.words, machine.two], preexec_fn=limits(NPROC=most), **AS_NOBODY)
+                ran = machine.ran([*command.words, machine.two], preexec_fn=limits(NPROC=most), **AS_NOBODY)
                 if ran.status == 0 and most > 1 or most >= enough and alone:
                     is_whole(command, ran, [split(TWO)])
                 else:
@@ -74,11 +62,7 @@ def check_threads(machine: Machine) -> None:
 
 def is_in_use(user: int) -> bool:
     """Whether a process of this user runs."""
-    for name in filter(str.isdecimal, os.listdir("/proc")):
-        with contextlib.suppress(OSError):
-            if os.stat(f"/proc/{name}").st_uid == user:
-                return True
-    return False
+    return bool(programs.text_of(["find", "/proc", "-maxdepth", "1", "-user", str(user)]))
 
 
 # ---- Limits on address space, in steps from too little to enough.
@@ -97,9 +81,6 @@ class Climb(NamedTuple):
     steps: Iterable[int]
     environment: dict[str, str]
 
-    def words(self) -> list[str]:
-        return [*self.command.words, self.path]
-
 
 def check_memory(machine: Machine) -> None:
     """Steps for two graphs; for many graphs, so that memory runs out during the work; and for many with one heap for
@@ -107,7 +88,7 @@ def check_memory(machine: Machine) -> None:
     least = loaded_from(machine)
     steps = [*range(least, least + 1024, 64), *range(least + 1024, least + 12_288, 512),
              *range(least + 12_288, 150_000, 2048), *(step << 10 for step in (192, 256, 384, 512, 768, 4096, 8192))]
-    few, many = File([TRIANGLE] * 1000, "complete"), File([TRIANGLE] * 4000, "complete")
+    few, many = File([TRIANGLE] * 1000), File([TRIANGLE] * 4000)
     thousand, thousands = (machine.file(HEADER + b"".join(file.records)) for file in (few, many))
     for command in COMMANDS:
         stacks = least + 8192 * (1 if command.frames else 4 * command.lanes)
@@ -120,12 +101,9 @@ def check_memory(machine: Machine) -> None:
 
 def loaded_from(machine: Machine) -> int:
     """The least address space, in kB, with which the system's loader brings the program to its start."""
-    def is_enough(space: int) -> bool:
-        traced = {"LD_TRACE_LOADED_OBJECTS": "1"}  # the loader ends where the program would start
-        return machine.run([], environment=traced, preexec_fn=limits(AS=space << 10)).status == 0
-
-    steps = range(0, MOST_TO_LOAD, 4)
-    return steps[bisect.bisect_left(steps, True, key=is_enough)]
+    steps, traced = range(0, MOST_TO_LOAD, 4), {"LD_TRACE_LOADED_OBJECTS": "1"}  # it ends where the program would start
+    return steps[bisect.bisect_left(steps, True, key=lambda space: machine.ran(
+        [], environment=traced, preexec_fn=limits(AS=space << 10)).status == 0)]
 
 
 def climb(machine: Machine, runs: Climb) -> None:
@@ -136,9 +114,8 @@ def climb(machine: Machine, runs: Climb) -> None:
         each_ends_by_name(machine, runs, answers)
         is_whole(runs.command, answers[max(answers)], [runs.file])
     with machine.case(runs.command, f"ulimit -v, {runs.name}: the error says what was missing"):
-        if lost := [step for step, ran in answers.items() if ran.err == LOST]:
-            raise Wrong(f"at {len(lost)} of {len(answers)} steps, from {lost[0]} to {lost[-1]} kB, {LOST!r}, not "
-                        f"{THREAD!r} or {MEMORY!r}")
+        lost = [step for step, ran in answers.items() if ran.err == LOST]
+        assert not lost, f"at {len(lost)} of {len(answers)} steps, from {lost[0]} to {lost[-1]} kB, {LOST!r}"
     served = [step for step, ran in answers.items() if ran.status == 0]
     refused = max((step for step, ran in answers.items() if ran.status != 0), default=0)
     print(f"{runs.command}, {runs.name}: {min(served, default=None)} kB of address space sufficed, and each step from "
@@ -149,17 +126,16 @@ def each_ends_by_name(machine: Machine, runs: Climb, answers: dict[int, Ran]) ->
     """Fills in how the run ends at each step. If the system refuses a page for the stack, there is no answer."""
     wrong: list[str] = []
     for step in runs.steps:
-        ran = machine.run(runs.words(), environment=runs.environment, preexec_fn=limits(AS=step << 10))
+        ran = machine.ran([*runs.command.words, runs.path], environment=runs.environment, preexec_fn=limits(AS=step << 10))
         answers[step] = ran
         if ran.status == -signal.SIGSEGV and lacks_stack(machine, runs, step):
             print(f"{runs.command}, {runs.name}: {step} kB of address space: the stack may not grow", flush=True)
             continue
         try:
             wants_memory(runs.command, ran, [runs.file])
-        except Wrong as reason:
+        except (AssertionError, ValueError) as reason:
             wrong.append(f"{step} kB: {reason}")
-    if wrong:
-        raise Wrong(f"{len(wrong)} of {len(answers)} steps, first {wrong[0]}")
+    assert not wrong, f"{len(wrong)} of {len(answers)} steps, first {wrong[0]}"
 
 
 def wants_memory(command: Command, ran: Ran, files: list[File]) -> None:
@@ -168,16 +144,12 @@ def wants_memory(command: Command, ran: Ran, files: list[File]) -> None:
     if ran.status == 1 and ran.err in (MEMORY, THREAD, LOST):
         is_beginning(command, ran.out, files, scarce=True)
         return
-    events, rest = events_of(command, ran.out)
-    told = list(files)
-    for number, text in events:
-        if text.startswith("end memory ") and number <= len(files):
-            told[number - 1] = File(files[number - 1].records[:int(text.partition("=")[2])], "memory")
-    expected = expected_events(command, told)
-    lacking = any(lacks_memory(event) for event in events)
-    status = 3 if lacking or any(file.mark != "complete" for file in told) else 0
-    if ran.status != status or rest or not are_same(events, expected, scarce=True) or ran.err:
-        raise Wrong(f"status {ran.status}, {ran.err[:200]!r}, end of output {ran.out[-60:]!r}")
+    lines, rest = lines_of(command, ran.out)
+    ends = re.findall(r"\bend (\w+) \w+=(\d+)", "\n".join(lines))
+    told = [File(file.records[:int(count)], mark) if mark == "memory" else file for file, (mark, count) in zip(files, ends)]
+    status = 3 if any(line.endswith(" memory") for line in lines) or any(file.mark != "complete" for file in told) else 0
+    is_right = len(ends) == len(files) and not rest and are_same(lines, expected_lines(command, told), scarce=True)
+    assert ran.status == status and is_right and not ran.err, ran
 
 
 def lacks_stack(machine: Machine, runs: Climb, step: int) -> bool:
@@ -188,23 +160,13 @@ def lacks_stack(machine: Machine, runs: Climb, step: int) -> bool:
         LIBC.ptrace(TRACEME, 0, None, None)
         limits(AS=step << 10)()
     quiet: dict[str, Any] = {"stdout": subprocess.DEVNULL, "stderr": subprocess.DEVNULL, "preexec_fn": prepare}
-    with machine.started(runs.words(), environment=runs.environment, **quiet) as child:
-        status = os.waitpid(child.pid, 0)[1]
-        while os.WIFSTOPPED(status) and os.WSTOPSIG(status) != signal.SIGSEGV:
+    with machine.started([*runs.command.words, runs.path], environment=runs.environment, **quiet) as child:
+        while os.WIFSTOPPED(status := os.waitpid(child.pid, 0)[1]) and os.WSTOPSIG(status) != signal.SIGSEGV:
             LIBC.ptrace(CONTINUE, child.pid, None, None)
-            status = os.waitpid(child.pid, 0)[1]
         if not os.WIFSTOPPED(status):
             return False
-        low, high = stack_of(child.pid)
-        with open(f"/proc/{child.pid}/syscall", encoding="ascii") as line:
-            pointer = int(line.read().split()[1], 16)
+        stack = re.search(rb"^(\w+)-(\w+) .*\[stack\]$", programs.read(f"/proc/{child.pid}/maps"), re.M)
+        (low, high), pointer = stack.groups(), programs.read(f"/proc/{child.pid}/syscall").split()[1]
         os.kill(child.pid, signal.SIGKILL)
         os.waitpid(child.pid, 0)
-    return pointer < low and high - low < 1 << 20
-
-
-def stack_of(process: int) -> tuple[int, int]:
-    """Where what is mapped of a process's stack begins and ends."""
-    with open(f"/proc/{process}/maps", encoding="ascii") as lines:
-        low, high = next(line for line in lines if line.endswith("[stack]\n")).split()[0].split("-")
-    return int(low, 16), int(high, 16)
+    return int(pointer, 16) < int(low, 16) and int(high, 16) - int(low, 16) < 1 << 20

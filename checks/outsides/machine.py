@@ -1,7 +1,5 @@
 """Shared by the groups of cases: the program's input and expected answers, the content of report lines, how a run may
 end, the use of Linux, and the folder in which the program runs."""
-from __future__ import annotations
-
 import array
 import contextlib
 import fcntl
@@ -16,6 +14,8 @@ import time
 from collections.abc import Callable, Iterable, Iterator
 from typing import Any, NamedTuple
 
+import harness
+import programs
 from planarbend.layout import planar_code, reports
 from planarbend.layout.planar_code import HEADER
 from programs import EDGE, LONE, TRIANGLE
@@ -40,16 +40,12 @@ FULL = WRITE.format("No space left on device")
 TWICE = ("error: '-' (standard input) may be given only once\n\n"
          "Usage: planarbend <COMMAND>\n\nFor more information, try '--help'.\n")
 
-Event = tuple[int, str]  # the number of a file, and a line of its report; of JSON Lines that of the same report
-
-
-class Wrong(Exception):
-    """An answer that differs from these pages."""
 
 
 class Command(NamedTuple):
     """A command with its form and its number of lanes."""
     words: list[str]
+    lanes: int = 1
 
     @property
     def frames(self) -> bool:
@@ -59,27 +55,27 @@ class Command(NamedTuple):
     def json(self) -> bool:
         return "--json" in self.words
 
-    @property
-    def lanes(self) -> int:
-        return int(self.words[self.words.index("--lanes") + 1]) if "--lanes" in self.words else 1
-
     def __str__(self) -> str:
         return " ".join(self.words)
 
 
-FRAMES, LAYOUT, LAYOUT_JSON = Command(["frames"]), Command(["layout"]), Command(["layout", "--json"])
-LAYOUTS = [LAYOUT, Command(["layout", "--lanes", "4"]), LAYOUT_JSON, Command(["layout", "--json", "--lanes", "4"]),
-           Command(["layout", "--outer", "best", "--lanes", "8"])]
+def layout(lanes: int, *words: str) -> Command:
+    """The command `layout` with these options."""
+    return Command(["layout", *words, *["--lanes", str(lanes)] * (lanes > 1)], lanes)
+
+
+FRAMES, LAYOUT, LAYOUT_JSON = Command(["frames"]), layout(1), layout(1, "--json")
+LAYOUTS = [LAYOUT, layout(4), LAYOUT_JSON, layout(4, "--json"), layout(8, "--outer", "best")]
 COMMANDS = [FRAMES, *LAYOUTS]
 
 
 class File(NamedTuple):
     """What a file has: its records and how it ends."""
     records: list[bytes]
-    mark: str
+    mark: str = "complete"
 
 
-IO = File([], "io")
+IO, EMPTY = File([], "io"), File([], "header")
 
 
 def split(text: bytes) -> File:
@@ -87,60 +83,36 @@ def split(text: bytes) -> File:
     return File(*planar_code.split(text))
 
 
-def expected_events(command: Command, files: Iterable[File]) -> list[Event]:
-    """The content of a whole report, line by line."""
-    events: list[Event] = []
+def expected_lines(command: Command, files: Iterable[File]) -> list[str]:
+    """The lines of a whole report; of JSON Lines those of the same report, each after the number of its file."""
+    found: list[str] = []
     for number, file in enumerate(files, 1):
         lines: list[object] = [] if command.frames or command.json else [reports.File(number)]
-        for place, record in enumerate(file.records, 1):
-            lines.append(reports.Record(place, record[0], len(record)) if command.frames
-                         else f"graph {place} {ANSWERS.get(record, '?')}")
+        lines += [reports.Record(place, record[0], len(record)) if command.frames
+                  else f"graph {place} {ANSWERS.get(record, '?')}" for place, record in enumerate(file.records, 1)]
         lines.append(reports.End(file.mark, len(file.records), "records" if command.frames else "graphs"))
-        events += [(number, str(line)) for line in lines]
-    return events
+        found += [f"{number}: {line}" if command.json else str(line) for line in lines]
+    return found
 
 
-# ---- The content of report lines. A line that does not belong to such a report is wrong.
-
-def events_of(command: Command, text: bytes) -> tuple[list[Event], str]:
-    """The content of the complete lines of a report, and the rest after the last of them."""
+def lines_of(command: Command, text: bytes) -> tuple[list[str], str]:
+    """The complete lines of a report, in the form of `expected_lines`, and the rest after the last of them."""
     *lines, rest = text.decode("ascii", "replace").split("\n")
-    events: list[Event] = []
-    for line in lines:
-        number = events[-1][0] if events else int(command.frames)
-        try:
-            events.append(event_of_json(line) if command.json else event_of_text(command, line, number))
-        except reports.NoLine as why:
-            raise Wrong(f"{why}") from None
-    return events, rest
+    return [line_of_json(line) if command.json else line for line in lines], rest
 
 
-def event_of_text(command: Command, text: str, number: int) -> Event:
-    """The content of a line of a report of `frames` or `layout`, in file `number`."""
-    found = reports.line_of(text)
-    of_frames = isinstance(found, reports.Record) or isinstance(found, reports.End) and found.of == "records"
-    if str(found) != text or of_frames != command.frames:
-        raise Wrong(f"not a line of such a report: {text!r}")
-    return found.number if isinstance(found, reports.File) else number, text
-
-
-def event_of_json(text: str) -> Event:
-    """The content of a JSON line. It is compact, with the keys of docs/JSON.md in order."""
+def line_of_json(text: str) -> str:
+    """The content of a JSON line. It is compact, with the keys of docs/JSON.md in order; the lists of a graph have as many
+    members as docs/JSON.md says, and the turns are the bends."""
     line = reports.json_line(text)
-    if json.dumps(line, sort_keys=True, separators=(",", ":")) != text:
-        raise Wrong(f"not compact, or its keys not in order: {text[:80]}")
+    assert json.dumps(line, sort_keys=True, separators=(",", ":")) == text, f"not compact or in order: {text[:80]}"
     if line.get("status") == "ok":
-        look_at_lists(line)
-    return line["file"], str(reports.of_json(line))
-
-
-def look_at_lists(line: dict[str, Any]) -> None:
-    """The lists of a graph have as many members as docs/JSON.md says, and the turns are the bends."""
-    n, m, f, turns = line["n"], line["m"], line["f"], line["turns"]
-    lists = [(line["angles"], 2 * m), (turns, 2 * m), (line["prices"]["faces"], f), (line["prices"]["vertices"], n),
-             (line["points"]["vertices"], n), (line["points"]["corners"], m)]
-    if any(len(members) != length for members, length in lists) or len("".join(turns)) != 2 * line["bends"]:
-        raise Wrong(f"lists of other lengths: {line}")
+        n, m, f, turns = line["n"], line["m"], line["f"], line["turns"]
+        lists = [line["angles"], turns, *(line[key][part] for key, parts in (
+            ("prices", ("faces", "vertices")), ("points", ("vertices", "corners"))) for part in parts)]
+        assert list(map(len, lists)) == [2 * m, 2 * m, f, n, n, m], f"lists of other lengths: {line}"
+        assert len("".join(turns)) == 2 * line["bends"], f"other bends than turns: {line}"
+    return f"{line['file']}: {reports.of_json(line)}"
 
 
 # ---- How a run may end: with a whole report, with a beginning of one, or with a fault.
@@ -150,6 +122,9 @@ class Ran(NamedTuple):
     status: int
     out: bytes
     err: str
+
+    def __str__(self) -> str:
+        return f"status {self.status}, {len(self.out)} bytes of output to {self.out[-80:]!r}, error {self.err[:200]!r}"
 
 
 # The marks of files of which a line on standard error may say what they look like.
@@ -161,50 +136,32 @@ def is_whole(command: Command, ran: Ran, files: list[File], said: str | None = N
     given, there is a line for each file that could not be read, and one or none for each that is not planar_code."""
     least = sum(file.mark == "io" for file in files)
     most = least + sum(file.mark in MISFITS for file in files)
-    told = said if said is not None else ran.err
-    if ran.err != told or not least <= ran.err.count("planarbend: ") <= most:
-        raise Wrong(f"status {ran.status}, on standard error {ran.err!r}, not {said!r}")
-    events, rest = events_of(command, ran.out)
-    expected = expected_events(command, files)
-    if events != expected or rest:
-        place = next((i for i, pair in enumerate(zip(events, expected)) if pair[0] != pair[1]), len(events))
-        raise Wrong(f"status {ran.status}, line {place + 1} of the report: {events[place:place + 1] or rest}, not "
-                    f"{expected[place:place + 1]}")
-    status = 0 if all(file.mark == "complete" for file in files) else 3
-    if ran.status != status:
-        raise Wrong(f"status {ran.status}, not {status}")
+    assert said in (None, ran.err) and least <= ran.err.count("planarbend: ") <= most, f"{ran}, not {said!r}"
+    (lines, rest), expected = lines_of(command, ran.out), expected_lines(command, files)
+    place = next((at for at, pair in enumerate(zip(lines, expected)) if pair[0] != pair[1]), len(lines))
+    assert lines == expected and not rest, f"{ran}; line {place + 1}: {lines[place:][:1]}, not {expected[place:][:1]}"
+    assert ran.status == (0 if all(file.mark == "complete" for file in files) else 3), ran
 
 
-def lacks_memory(event: Event) -> bool:
-    """Whether it is a graph for which memory ran out."""
-    return re.fullmatch(r"graph \d+ memory", event[1]) is not None
-
-
-def are_same(events: list[Event], expected: list[Event], scarce: bool) -> bool:
+def are_same(lines: list[str], expected: list[str], scarce: bool) -> bool:
     """Whether these are the expected lines; if memory is scarce, a graph may be `memory` instead."""
-    return len(events) == len(expected) and all(
-        event == other or scarce and lacks_memory(event)
-        and (event[0], event[1].split()[:2]) == (other[0], other[1].split()[:2])
-        for event, other in zip(events, expected))
+    return len(lines) == len(expected) and all(
+        line == other or scarce and line == re.sub(r"(graph \d+) .*", r"\1 memory", other) for line, other in zip(lines, expected))
 
 
 def is_beginning(command: Command, out: bytes, files: list[File], scarce: bool = False) -> None:
     """What was written is a prefix of the whole report of these files; if memory is scarce, with graphs that
     are `memory`."""
-    events, rest = events_of(command, out)
-    expected = expected_events(command, files)
-    if not are_same(events, expected[:len(events)], scarce):
-        raise Wrong(f"no beginning of the report: {out[-80:]!r}")
-    following = [text for _, text in expected[len(events):len(events) + 1]]
-    if rest and not (following and (command.json or following[0].startswith(rest))):
-        raise Wrong(f"no beginning of the report: {rest!r}")
+    (lines, rest), expected = lines_of(command, out), expected_lines(command, files)
+    following = expected[len(lines):len(lines) + 1]
+    assert are_same(lines, expected[:len(lines)], scarce) and (
+        not rest or following and (command.json or following[0].startswith(rest))), f"no beginning: {out[-80:]!r}"
 
 
 def is_fault(ran: Ran, status: int, text: str | None) -> None:
     """This status with nothing on standard output, and this text on standard error (any text if it is None)."""
-    if ran.status != status or ran.out or (not ran.err if text is None else ran.err != text):
-        raise Wrong(f"status {ran.status}, {len(ran.out)} bytes of output, {ran.err[:200]!r}; not status {status}, "
-                    f"{'a text' if text is None else repr(text)}")
+    is_said = bool(ran.err) if text is None else ran.err == text
+    assert ran.status == status and not ran.out and is_said, f"{ran}; not status {status}, {text!r}"
 
 
 # ---- What the cases ask of Linux: limits and closed descriptors for the process that becomes the program, outputs
@@ -224,12 +181,9 @@ def limits(**which: int) -> Callable[[], None]:
     return set_limits
 
 
-def closing(*descriptors: int) -> Callable[[], None]:
-    """A function that closes these in the process that becomes the program."""
-    def close() -> None:
-        for descriptor in descriptors:
-            os.close(descriptor)
-    return close
+def closing(*descriptors: int) -> dict[str, Any]:
+    """The option by which these are closed in the process that becomes the program."""
+    return {"preexec_fn": lambda: [os.close(descriptor) for descriptor in descriptors]}
 
 
 def broken_pipe() -> Any:
@@ -251,11 +205,7 @@ def both_ends(fifo: str) -> Any:
 
 def wait_for(holds: Callable[[], object], text: str) -> None:
     """Waits until a condition holds."""
-    end = time.monotonic() + PATIENCE
-    while not holds():
-        if time.monotonic() > end:
-            raise Wrong(f"not seen in {PATIENCE} s: {text}")
-        time.sleep(0.001)
+    programs.wait_for(holds, text, PATIENCE, 0.001)
 
 
 def waiting_bytes(pipe: int) -> int:
@@ -269,9 +219,9 @@ def is_stopped(process: int) -> bool:
     """Whether all threads of a process are idle."""
     states = []
     for task in os.listdir(f"/proc/{process}/task"):
-        with contextlib.suppress(OSError), open(f"/proc/{process}/task/{task}/stat", encoding="ascii") as line:
-            states.append(line.read().rpartition(")")[2].split()[0])
-    return set(states) == {"T"}
+        with contextlib.suppress(OSError):
+            states.append(programs.read(f"/proc/{process}/task/{task}/stat").rpartition(b")")[2].split()[0])
+    return set(states) == {b"T"}
 
 
 def place_in(process: int, path: str) -> int:
@@ -279,24 +229,22 @@ def place_in(process: int, path: str) -> int:
     for number in os.listdir(f"/proc/{process}/fd"):
         with contextlib.suppress(OSError):
             if os.readlink(f"/proc/{process}/fd/{number}") == path:
-                with open(f"/proc/{process}/fdinfo/{number}", encoding="ascii") as lines:
-                    return int(lines.readline().split()[1])
+                return int(programs.read(f"/proc/{process}/fdinfo/{number}").split()[1])
     return -1
 
 
-# ---- The folder in which the program runs, and what counts the cases.
+# ---- The folder in which the program runs.
 
-class Machine:
-    """A folder with the program and files, and what counts the cases."""
+class Machine(harness.Checks):
+    """A folder with the program and files."""
 
-    def __init__(self, program: str, folder: str) -> None:
-        self.folder, self.passed, self.failed, self.named = folder, 0, 0, 0
-        os.chmod(folder, 0o755)
-        self.room = os.path.join(folder, "room")
+    def setUp(self) -> None:
+        super().setUp()
+        self.named, self.room = 0, os.path.join(self.folder, "room")
         os.mkdir(self.room)
-        os.chmod(self.room, 0o777)
-        self.program = shutil.copy(program, os.path.join(folder, "planarbend"))
-        os.chmod(self.program, 0o755)
+        self.program = shutil.copy(programs.planarbend(), os.path.join(self.folder, "planarbend"))
+        for path, mode in ((self.folder, 0o755), (self.room, 0o777), (self.program, 0o755)):
+            os.chmod(path, mode)
         self.two = self.file(TWO)
 
     def path(self) -> str:
@@ -332,20 +280,13 @@ class Machine:
 
     def ended(self, child: subprocess.Popen[bytes], given: bytes | None = None) -> Ran:
         """How a run ends. It leaves nothing behind."""
-        try:
-            out, err = child.communicate(given, timeout=PATIENCE)
-        except subprocess.TimeoutExpired:
-            child.kill()
-            raise Wrong(f"did not end in {PATIENCE} s") from None
-        if left := os.listdir(self.room):
-            raise Wrong(f"left behind: {left}")
+        out, err = child.communicate(given, timeout=PATIENCE)
+        assert not os.listdir(self.room), f"left behind: {os.listdir(self.room)}"
         return Ran(child.returncode, out or b"", (err or b"").decode("utf-8", "replace"))
 
-    def run(self, words: list[Any], given: bytes | None = None, **how: Any) -> Ran:
+    def ran(self, words: list[Any], given: bytes | None = None, **how: Any) -> Ran:
         """One run of the program to its end."""
-        if given is not None:
-            how["stdin"] = subprocess.PIPE
-        with self.started(words, **how) as child:
+        with self.started(words, **({} if given is None else {"stdin": subprocess.PIPE}) | how) as child:
             return self.ended(child, given)
 
     def fed(self, words: list[Any], text: bytes, pause: float, **how: Any) -> Ran:
@@ -357,17 +298,12 @@ class Machine:
                 time.sleep(pause)
             return self.ended(child)
 
-    @contextlib.contextmanager
-    def case(self, command: object, name: str) -> Iterator[None]:
-        """One case: it passes if nothing in it is wrong."""
-        try:
-            yield
-            self.passed += 1
-        except (Wrong, OSError, subprocess.SubprocessError, LookupError, TypeError, ValueError) as wrong:
-            self.failed += 1
-            print(f"FAILED {command}: {name}: {wrong}", flush=True)
-
     def whole(self, command: Command, name: str, paths: list[Any], files: list[File], **how: Any) -> None:
         """A case that ends with the whole report of these files."""
         with self.case(command, name):
-            is_whole(command, self.run([*command.words, *paths], **how), files)
+            is_whole(command, self.ran([*command.words, *paths], **how), files)
+
+    def faulty(self, command: object, name: str, words: list[Any], status: int, text: str | None, **how: Any) -> None:
+        """A case that ends with this status, nothing on standard output, and this text on standard error."""
+        with self.case(command, name):
+            is_fault(self.ran(words, **how), status, text)

@@ -1,7 +1,5 @@
 """What a run writes, and when: outputs that are closed or full, signals, sources that become silent, lines of progress,
 and how far later files are read."""
-from __future__ import annotations
-
 import contextlib
 import os
 import pty
@@ -16,9 +14,9 @@ from collections.abc import Iterator
 from typing import Any
 
 from machine import (
-    both_ends, broken_pipe, closing, Command, COMMANDS, EDGE, Event, events_of, expected_events, File, FRAMES, FULL,
-    full_disk, IO, is_beginning, is_fault, is_whole, LAYOUT, LAYOUTS, limits, LONG, Machine, MANY, PATIENCE, place_in,
-    Ran, split, TRIANGLE, TWO, wait_for, waiting_bytes, WRITE, Wrong)
+    both_ends, broken_pipe, closing, Command, COMMANDS, EDGE, expected_lines, File, FRAMES, FULL, full_disk, IO,
+    is_beginning, is_whole, LAYOUT, LAYOUTS, limits, lines_of, LONG, Machine, MANY, PATIENCE, place_in, Ran, split,
+    TRIANGLE, TWO, wait_for, waiting_bytes, WRITE)
 from planarbend.layout.planar_code import HEADER
 
 
@@ -32,7 +30,6 @@ def check_outputs(machine: Machine) -> None:
     two, long = [split(TWO)], machine.file(LONG)
     for command in COMMANDS:
         output_is_closed(machine, command)
-        output_is_gone(machine, command)
         nobody_reads(machine, command, long)
         with machine.case(command, "a file that may not grow, SIGXFSZ ignored"):
             takes_no_more(command, to_a_short_file(machine, [*command.words, machine.two]), two,
@@ -41,63 +38,44 @@ def check_outputs(machine: Machine) -> None:
     for name, make, said in [("closed pipe", broken_pipe, ""), ("full disk", full_disk, FULL)]:
         for word in ("--help", "--version"):
             with machine.case(word, f"standard output is a {name}"), make() as output:
-                takes_no_more(FRAMES, machine.run([word], stdout=output), two, said)
+                takes_no_more(FRAMES, machine.ran([word], stdout=output), two, said)
 
 
 def takes_no_more(command: Command, ran: Ran, files: list[File], said: str) -> None:
     """The error of standard output that accepts no more data, with a beginning of the report. If the reader is gone,
     there is no message."""
-    if (ran.status, ran.err) != (1, said):
-        raise Wrong(f"status {ran.status}, {ran.err!r}; not status 1, {said!r}")
+    assert (ran.status, ran.err) == (1, said), f"{ran}; not status 1, {said!r}"
     is_beginning(command, ran.out, files)
 
 
 def output_is_closed(machine: Machine, command: Command) -> None:
-    """Standard output that is full, is closed, or cannot be written to."""
-    words, two, nowhere = [*command.words, machine.two], [split(TWO)], subprocess.DEVNULL
-    bad = WRITE.format("Bad file descriptor")
-    with machine.case(command, "standard output on /dev/full"), full_disk() as full:
-        takes_no_more(command, machine.run(words, stdout=full), two, FULL)
-    with machine.case(command, "standard output closed"):
-        takes_no_more(command, machine.run(words, stdout=nowhere, preexec_fn=closing(1)), two, bad)
-    with machine.case(command, "standard input and output closed"):
-        takes_no_more(command, machine.run(words, stdout=nowhere, preexec_fn=closing(0, 1)), two, bad)
-    with machine.case(command, "standard output open for reading only"), open("/dev/null", "rb") as null:
-        takes_no_more(command, machine.run(words, stdout=null), two, bad)
-
-
-def output_is_gone(machine: Machine, command: Command) -> None:
-    """Standard output whose reader has closed it."""
-    words, two = [*command.words, machine.two], [split(TWO)]
-    with machine.case(command, "standard output on a terminal that is gone"):
-        master, terminal = pty.openpty()
-        os.close(master)
-        with open(terminal, "wb", buffering=0) as output:
-            takes_no_more(command, machine.run(words, stdout=output), two, WRITE.format("Input/output error"))
-    with machine.case(command, "standard output on a socket that is gone"):
-        near, far = socket.socketpair()
-        near.close()
-        with far:
-            takes_no_more(command, machine.run(words, stdout=far), two, "")
+    """Standard output that is full, is closed, cannot be written to, or whose reader has closed it."""
+    nowhere, bad = {"stdout": subprocess.DEVNULL}, WRITE.format("Bad file descriptor")
+    (master, terminal), (near, far) = pty.openpty(), socket.socketpair()
+    os.close(master)
+    near.close()
+    with full_disk() as full, open("/dev/null", "rb") as null, open(terminal, "wb", buffering=0) as gone, far:
+        for name, how, said in [
+                ("on /dev/full", {"stdout": full}, FULL), ("closed", {**nowhere, **closing(1)}, bad),
+                ("closed, and standard input", {**nowhere, **closing(0, 1)}, bad),
+                ("open for reading only", {"stdout": null}, bad),
+                ("on a terminal that is gone", {"stdout": gone}, WRITE.format("Input/output error")),
+                ("on a socket that is gone", {"stdout": far}, "")]:
+            with machine.case(command, f"standard output {name}"):
+                takes_no_more(command, machine.ran([*command.words, machine.two], **how), [split(TWO)], said)
 
 
 def nobody_reads(machine: Machine, command: Command, long: str) -> None:
     """Standard output is a pipe that nobody reads, from the beginning or after the first line."""
-    many = [File([EDGE, TRIANGLE] * MANY, "complete")]
+    many = [File([EDGE, TRIANGLE] * MANY)]
     for name, how in [("", {}), (", SIGPIPE ignored", IGNORED)]:
         with machine.case(command, f"standard output is a closed pipe{name}"), broken_pipe() as pipe:
-            takes_no_more(command, machine.run([*command.words, machine.two], stdout=pipe, **how), [split(TWO)], "")
-        with machine.case(command, f"| head -1{name}"):
-            takes_no_more(command, first_line(machine, [*command.words, long], how), many, "")
-
-
-def first_line(machine: Machine, words: list[Any], how: dict[str, Any]) -> Ran:
-    """A run whose reader closes the pipe after the first line."""
-    with machine.started(words, **how) as child:
-        line = child.stdout.readline()
-        child.stdout.close()
-        child.stdout = None
-        return machine.ended(child)._replace(out=line)
+            takes_no_more(command, machine.ran([*command.words, machine.two], stdout=pipe, **how), [split(TWO)], "")
+        with machine.case(command, f"| head -1{name}"), machine.started([*command.words, long], **how) as child:
+            line = child.stdout.readline()
+            child.stdout.close()
+            child.stdout = None
+            takes_no_more(command, machine.ended(child)._replace(out=line), many, "")
 
 
 def to_a_short_file(machine: Machine, words: list[Any]) -> Ran:
@@ -105,29 +83,30 @@ def to_a_short_file(machine: Machine, words: list[Any]) -> Ran:
     def prepare() -> None:
         signal.signal(signal.SIGXFSZ, signal.SIG_IGN)
         limits(FSIZE=16)()
-    path = machine.path()
-    with open(path, "w+b") as file:
-        ran = machine.run(words, stdout=file, preexec_fn=prepare)
+    with open(machine.path(), "w+b") as file:
+        ran = machine.ran(words, stdout=file, preexec_fn=prepare)
         file.seek(0)
         return ran._replace(out=file.read())
 
 
 def check_errors(machine: Machine) -> None:
     """Standard error that is closed or full changes no status."""
-    closed = {"preexec_fn": closing(2)}
-    with full_disk() as full, broken_pipe() as broken:
-        for name, how in [("full", {"stderr": full}), ("a closed pipe", {"stderr": broken}), ("closed", closed)]:
+    with full_disk() as full:
+        for name, how in bad_errors(full):
             for command in COMMANDS:
                 words = [*command.words, machine.two]
                 machine.whole(command, f"standard error {name}", [machine.two], [split(TWO)], **how)
-                with machine.case(command, f"standard error {name}, standard output full"):
-                    is_fault(machine.run(words, stdout=full, **how), 1, "")
-                with machine.case(command, f"standard error {name}, command line refused"):
-                    is_fault(machine.run(command.words, **how), 2, "")
+                machine.faulty(command, f"standard error {name}, standard output full", words, 1, "", stdout=full, **how)
+                machine.faulty(command, f"standard error {name}, command line refused", command.words, 2, "", **how)
     for command in COMMANDS:
-        with machine.case(command, "all three closed"):
-            words = [*command.words, machine.two]
-            is_fault(machine.run(words, stdout=subprocess.DEVNULL, preexec_fn=closing(0, 1, 2)), 1, "")
+        machine.faulty(command, "all three closed", [*command.words, machine.two], 1, "", stdout=subprocess.DEVNULL,
+                       **closing(0, 1, 2))
+
+
+def bad_errors(full: Any) -> Iterator[tuple[str, dict[str, Any]]]:
+    """Kinds of standard error that accept no data, each with the option for it."""
+    with broken_pipe() as broken:
+        yield from [("full", {"stderr": full}), ("a closed pipe", {"stderr": broken}), ("closed", closing(2))]
 
 
 # ---- Signals that end a run while it waits for a file, reads or writes.
@@ -136,7 +115,7 @@ FULL_PIPE = 30_000  # bytes, more than which a pipe holds once a run waits to wr
 
 
 def check_signals(machine: Machine) -> None:
-    """Both signals that ask a run to end."""
+    """Both signals that ask a run to end, while it waits for a FIFO, has read a part of one, or waits to write."""
     long = machine.file(LONG)
     for command in COMMANDS:
         for which in (signal.SIGTERM, signal.SIGINT):
@@ -144,29 +123,23 @@ def check_signals(machine: Machine) -> None:
                 with machine.started([*command.words, machine.fifo()]) as child:
                     time.sleep(0.05)
                     ends_by(machine, child, which)
-            with machine.case(command, f"{which.name} while it reads"):
-                ends_while_it_reads(machine, command, which)
+            path = machine.fifo()
+            with machine.case(command, f"{which.name} while it reads"), both_ends(path) as writer:
+                with machine.started([*command.words, path]) as child:
+                    writer.write(TWO + EDGE[:2])
+                    wait_for(lambda: not waiting_bytes(writer.fileno()), "a read")
+                    ends_by(machine, child, which)
             with machine.case(command, f"{which.name} while it writes"):
                 with machine.started([*command.words, long]) as child:
                     wait_for(lambda: waiting_bytes(child.stdout.fileno()) > FULL_PIPE, "a full pipe")
                     ends_by(machine, child, which, writes=True)
 
 
-def ends_while_it_reads(machine: Machine, command: Command, which: signal.Signals) -> None:
-    """The run has read a part of a FIFO, and waits for the rest."""
-    path = machine.fifo()
-    with both_ends(path) as writer, machine.started([*command.words, path]) as child:
-        writer.write(TWO + EDGE[:2])
-        wait_for(lambda: not waiting_bytes(writer.fileno()), "a read")
-        ends_by(machine, child, which)
-
-
 def ends_by(machine: Machine, child: subprocess.Popen[bytes], which: signal.Signals, writes: bool = False) -> None:
     """The run ends by this signal, and had written nothing unless it was writing."""
     child.send_signal(which)
     ran = machine.ended(child)
-    if ran.status != -which or ran.err or (ran.out and not writes):
-        raise Wrong(f"status {ran.status}, {len(ran.out)} bytes of output, {ran.err!r}; not the end by {which.name}")
+    assert ran.status == -which and not ran.err and (writes or not ran.out), f"{ran}; not the end by {which.name}"
 
 
 # ---- Slow and silent sources: lines are written within a second, and a waiting run takes hardly any processor time.
@@ -186,7 +159,6 @@ def check_silence(machine: Machine) -> None:
             falls_silent(machine, command, machine.fifo())
         with machine.case(command, "a graph a second"):
             comes_slowly(machine, command)
-    for command in LAYOUTS:
         if command.lanes > 1:
             with machine.case(command, "a silent file before one that ends"):
                 is_before_another(machine, command)
@@ -195,19 +167,15 @@ def check_silence(machine: Machine) -> None:
 class Fed:
     """A run, the end of the pipe that feeds it, and what it has written so far."""
 
-    def __init__(self, child: subprocess.Popen[bytes], pipe: Any) -> None:
-        self.child, self.pipe, self.out = child, pipe, b""
+    def __init__(self, child: subprocess.Popen[bytes], pipe: Any, command: Command) -> None:
+        self.child, self.pipe, self.command, self.out = child, pipe, command, b""
 
-    def tells(self, command: Command, expected: list[Event], patience: float) -> None:
-        """It has written these lines within this many seconds, and no others."""
-        end = time.monotonic() + patience
-        while True:
-            events, rest = events_of(command, self.out)
-            if events == expected and not rest:
-                return
+    def tells(self, records: list[bytes]) -> None:
+        """It has written the lines of these records within a second, and no others."""
+        end, expected = time.monotonic() + SECOND, expected_lines(self.command, [File(records)])[:-1]
+        while lines_of(self.command, self.out) != (expected, ""):
             left = end - time.monotonic()
-            if left <= 0 or not select.select([self.child.stdout], [], [], left)[0]:
-                raise Wrong(f"{len(events)} lines after {patience} s, not {len(expected)}")
+            assert left > 0 and select.select([self.child.stdout], [], [], left)[0], f"not {len(expected)} lines in time"
             self.out += os.read(self.child.stdout.fileno(), 65_536)
 
     def busy(self) -> float:
@@ -218,11 +186,11 @@ class Fed:
                 spent += int(numbers.read().split()[0])
         return spent / 1e9
 
-    def ends(self, machine: Machine, command: Command, files: list[File]) -> None:
-        """The pipe is closed, and the run ends with the whole report of these files."""
+    def ends(self, machine: Machine, *records: list[bytes]) -> None:
+        """The pipe is closed, and the run ends with the whole report of files with these records."""
         self.pipe.close()
         ran = machine.ended(self.child)
-        is_whole(command, ran._replace(out=self.out + ran.out), files)
+        is_whole(self.command, ran._replace(out=self.out + ran.out), list(map(File, records)))
 
 
 @contextlib.contextmanager
@@ -235,12 +203,7 @@ def feeding(machine: Machine, command: Command, path: str, *more: str) -> Iterat
         ends = open(os.devnull, "rb"), both_ends(path)
     with ends[0] as reader, ends[1] as writer, machine.started([*command.words, path, *more], stdin=reader) as child:
         reader.close()
-        yield Fed(child, writer)
-
-
-def begun(command: Command, records: list[bytes]) -> list[Event]:
-    """What a report contains of a file with these records that has not ended."""
-    return expected_events(command, [File(records, "complete")])[:-1]
+        yield Fed(child, writer, command)
 
 
 def falls_silent(machine: Machine, command: Command, path: str) -> None:
@@ -248,16 +211,15 @@ def falls_silent(machine: Machine, command: Command, path: str) -> None:
     records = [EDGE, TRIANGLE] * (AT_ONCE // 2)
     with feeding(machine, command, path) as fed:
         fed.pipe.write(HEADER + b"".join(records))
-        fed.tells(command, begun(command, records), SECOND)
+        fed.tells(records)
         time.sleep(SECOND / 2)
         before = fed.busy()
         time.sleep(REST)
         took = (fed.busy() - before) / REST
-        if took > PART:
-            raise Wrong(f"{took:.2%} of a core while nothing comes")
+        assert took <= PART, f"{took:.2%} of a core while nothing comes"
         fed.pipe.write(EDGE)
-        fed.tells(command, begun(command, [*records, EDGE]), SECOND)
-        fed.ends(machine, command, [File([*records, EDGE], "complete")])
+        fed.tells([*records, EDGE])
+        fed.ends(machine, [*records, EDGE])
 
 
 def comes_slowly(machine: Machine, command: Command) -> None:
@@ -269,24 +231,21 @@ def comes_slowly(machine: Machine, command: Command) -> None:
         for record in [EDGE, TRIANGLE, EDGE, EDGE]:
             records.append(record)
             fed.pipe.write(record)
-            fed.tells(command, begun(command, records), SECOND)
+            fed.tells(records)
             time.sleep(max(0.0, start + len(records) * SECOND - time.monotonic()))
-            if len(records) == 1:  # the run has begun
-                before = fed.busy()
+            before = before or fed.busy()  # once the run has begun
         took = (fed.busy() - before) / (len(records) - 1)
-        if took > PART:
-            raise Wrong(f"{took:.2%} of a core while a graph comes a second")
-        fed.ends(machine, command, [File(records, "complete")])
+        assert took <= PART, f"{took:.2%} of a core while a graph comes a second"
+        fed.ends(machine, records)
 
 
 def is_before_another(machine: Machine, command: Command) -> None:
     """The lines of a silent file are written, although a later file, whose lines are buffered, has ended."""
-    records = [TRIANGLE] * 3
-    other = machine.file(HEADER + EDGE * 2_000)
-    with feeding(machine, command, "-", other) as fed:
+    records, others = [TRIANGLE] * 3, [EDGE] * 2_000
+    with feeding(machine, command, "-", machine.file(HEADER + b"".join(others))) as fed:
         fed.pipe.write(HEADER + b"".join(records))
-        fed.tells(command, begun(command, records), SECOND)
-        fed.ends(machine, command, [File(records, "complete"), File([EDGE] * 2_000, "complete")])
+        fed.tells(records)
+        fed.ends(machine, records, others)
 
 
 # ---- Lines of progress: where, how often, and that they change nothing else.
@@ -294,7 +253,7 @@ def is_before_another(machine: Machine, command: Command) -> None:
 def check_progress(machine: Machine) -> None:
     """The option `--progress`, given once or twice."""
     for command in LAYOUTS:
-        once, twice = (Command([*command.words, *["--progress"] * count]) for count in (1, 2))
+        once, twice = (command._replace(words=[*command.words, *["--progress"] * count]) for count in (1, 2))
         tells_nothing(machine, once)
         for few, name in [(command, "without the option"), (once, "once"), (twice, "twice")]:
             with machine.case(few, f"standard error is a terminal, {name}"):
@@ -312,21 +271,18 @@ def tells_nothing(machine: Machine, command: Command) -> None:
     """Given once, the option writes nothing if standard error is not a terminal."""
     machine.whole(command, "standard error is a pipe", [machine.two], [split(TWO)])
     with machine.case(command, "standard error is a file"), open(machine.path(), "w+b") as file:
-        is_whole(command, machine.run([*command.words, machine.two], stderr=file), [split(TWO)])
-        if os.fstat(file.fileno()).st_size:
-            raise Wrong("lines in the file")
+        is_whole(command, machine.ran([*command.words, machine.two], stderr=file), [split(TWO)])
+        assert not os.fstat(file.fileno()).st_size, "lines in the file"
 
 
 def tells_on_a_terminal(machine: Machine, command: Command, wanted: bool) -> None:
     """On a terminal the line is overwritten, and ended at the end of the run; it is shown only if requested."""
     ran, shown = on_a_terminal(machine, command, 100, "stderr")
-    is_whole(command, ran, [File([EDGE] * 100, "complete")])
+    is_whole(command, ran, [File([EDGE] * 100)])
     if wanted:
-        if not shown.startswith("\r") or not shown.endswith("\r\n") or "\n" in shown[:-1]:
-            raise Wrong(f"not one line that is written over: {shown!r}")
+        assert shown.startswith("\r") and shown.endswith("\r\n") and "\n" not in shown[:-1], f"not one line: {shown!r}"
         tells(shown[1:-2].replace("\r", "\n") + "\n", 1, 100, 100)
-    elif shown:
-        raise Wrong(f"shown: {shown!r}")
+    assert wanted or not shown, f"shown: {shown!r}"
 
 
 def shares_a_terminal(machine: Machine, command: Command) -> None:
@@ -334,7 +290,7 @@ def shares_a_terminal(machine: Machine, command: Command) -> None:
     ran, shown = on_a_terminal(machine, command, 200, "stdout", "stderr")
     *report, last = screen_of(shown)
     text = "".join(line + "\n" for line in report).encode()
-    is_whole(command, ran._replace(out=text), [File([EDGE] * 200, "complete")], "")
+    is_whole(command, ran._replace(out=text), [File([EDGE] * 200)], "")
     tells(last + "\n", 1, 200, 1)
 
 
@@ -362,19 +318,14 @@ def reads_all(master: int, parts: list[bytes]) -> None:
 
 def screen_of(shown: str) -> list[str]:
     """The lines on a screen after this text, which returns the cursor and clears to the end of the line."""
-    lines, column = [""], 0
-    for word in re.findall(r"\x1b\[K|\r|\n|[^\x1b\r\n]+", shown):
-        if word == "\n":
-            lines.append("")
-            column = 0
-        elif word == "\r":
-            column = 0
-        elif word == "\x1b[K":
-            lines[-1] = lines[-1][:column]
-        else:
-            lines[-1] = lines[-1][:column] + word + lines[-1][column + len(word):]
-            column += len(word)
-    return [line.rstrip(" ") for line in lines[:-1]]
+    screen = []
+    for text in shown.split("\n")[:-1]:
+        line = ""
+        for part in text.split("\r"):  # each begins at the left again
+            kept, *rest = part.split("\x1b[K")
+            line = kept + ("".join(rest) if rest else line[len(kept):])
+        screen.append(line.rstrip(" "))
+    return screen
 
 
 def tells_in_time(machine: Machine, command: Command) -> None:
@@ -382,15 +333,14 @@ def tells_in_time(machine: Machine, command: Command) -> None:
     start = time.monotonic()
     ran = machine.fed([*command.words, "-"], HEADER + EDGE * 300, 0.001)
     passed = time.monotonic() - start
-    is_whole(command, ran._replace(err=""), [File([EDGE] * 300, "complete")])
-    if tells(ran.err, 1, 300, 4 * passed + 1) < 3:
-        raise Wrong(f"fewer than 3 lines in {passed:.1f} s: {ran.err!r}")
+    is_whole(command, ran._replace(err=""), [File([EDGE] * 300)])
+    assert tells(ran.err, 1, 300, 4 * passed + 1) >= 3, f"fewer than 3 lines in {passed:.1f} s: {ran.err!r}"
 
 
 def tells_of_files(machine: Machine, command: Command) -> None:
     """A file that does not open is counted as begun."""
     start, missing = time.monotonic(), machine.path()
-    ran = machine.run([*command.words, machine.two, missing, machine.two])
+    ran = machine.ran([*command.words, machine.two, missing, machine.two])
     said = f"planarbend: {missing}: No such file or directory\n"
     is_whole(command, ran._replace(err=ran.err[-len(said):]), [split(TWO), IO, split(TWO)], said)
     tells(ran.err.removesuffix(said), 3, 4, 4 * (time.monotonic() - start) + 1)
@@ -401,28 +351,23 @@ def tells(text: str, files: int, graphs: int, most: float) -> int:
     files and graphs. Returns the number of lines."""
     lines = [re.fullmatch(r"file (\d+) of (\d+): ([\d,]+) graphs, [\d,]+/s", line.rstrip(" "))
              for line in text.splitlines()]
-    if not lines or None in lines or len(lines) > most or not text.endswith("\n"):
-        raise Wrong(f"not 1 to {most} lines of progress: {text!r}")
+    assert lines and None not in lines and len(lines) <= most and text.endswith("\n"), f"not 1 to {most} lines: {text!r}"
     counts = [(int(line[1]), int(line[3].replace(",", ""))) for line in lines if line]
     named = {int(line[2]) for line in lines if line}
-    if counts != sorted(counts) or counts[-1] != (files, graphs) or named != {files}:
-        raise Wrong(f"not up to {files} files and {graphs} graphs: {text!r}")
+    assert counts == sorted(counts) and counts[-1] == (files, graphs) and named == {files}, \
+        f"not up to {files} files and {graphs} graphs: {text!r}"
     return len(lines)
 
 
 def changes_nothing_else(machine: Machine, command: Command) -> None:
     """With lines of progress, report, status and faults are what they are without."""
-    two, words = split(TWO), [*command.words, machine.two]
-    with full_disk() as full, broken_pipe() as broken:
-        closed = {"preexec_fn": closing(2)}
-        for name, how in [("full", {"stderr": full}), ("a closed pipe", {"stderr": broken}), ("closed", closed)]:
-            machine.whole(command, f"standard error {name}", [machine.two], [two], **how)
+    with full_disk() as full:
+        for name, how in bad_errors(full):
+            machine.whole(command, f"standard error {name}", [machine.two], [split(TWO)], **how)
         with machine.case(command, "standard output full"):
-            ran = machine.run(words, stdout=full)
-            if ran.status != 1 or not ran.err.endswith("/s\n" + FULL):
-                raise Wrong(f"status {ran.status}, {ran.err!r}")
-    with machine.case(command, "257 files"):
-        is_fault(machine.run([*command.words, *[machine.two] * 257]), 2, "planarbend: more than 256 files\n")
+            ran = machine.ran([*command.words, machine.two], stdout=full)
+            assert ran.status == 1 and ran.err.endswith("/s\n" + FULL), ran
+    machine.faulty(command, "257 files", [*command.words, *[machine.two] * 257], 2, "planarbend: more than 256 files\n")
 
 
 # ---- How far a later file is read while the first is held, by `--waiting`; and how many files are open at once, by
@@ -454,8 +399,7 @@ def pauses(machine: Machine, words: list[str], later: str, wanted: int) -> None:
     path = machine.fifo()
     with both_ends(path), machine.started(["layout", "--lanes", "2", *words, path, later]) as child:
         place = place_where_it_pauses(child, later, wanted // 2)
-    if not wanted // 2 <= place <= wanted + ON_THE_WAY:
-        raise Wrong(f"{place} bytes were read, not {wanted // 2} to {wanted + ON_THE_WAY}")
+    assert wanted // 2 <= place <= wanted + ON_THE_WAY, f"{place} bytes were read, not about {wanted}"
 
 
 def place_where_it_pauses(child: subprocess.Popen[bytes], path: str, least: int) -> int:
@@ -483,8 +427,7 @@ def opens(machine: Machine, words: list[str], lanes: int) -> None:
         wait_for(lambda: count_open(child.pid, paths) >= lanes, f"{lanes} open files")
         time.sleep(0.1)
         found = count_open(child.pid, paths)
-    if found != lanes:
-        raise Wrong(f"{found} files were open, not {lanes}")
+    assert found == lanes, f"{found} files were open, not {lanes}"
 
 
 def count_open(process: int, paths: list[str]) -> int:

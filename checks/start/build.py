@@ -1,5 +1,5 @@
 #!/usr/bin/env python3
-"""Proves and builds the program and the library for C in out/, and shows its progress and an estimate of the time left.
+"""Proves and builds the program and the library for C in out/, and shows its progress.
 Proved crates are kept, so a build that was stopped continues from them. The exit status is 0 if both are built,
 otherwise 1.
 
@@ -9,7 +9,8 @@ kit's compiler is called directly. Its output is kept where rt looks for librari
 finds there. A file next to each library records its sources, and those of all libraries below.
 
 A file next to the program records its sources: their checksums, as `sha256sum` writes them, and as comments their lines
-of crates.txt. With it, `planarbend` detects whether a source has changed. `planarbend --build` starts this script.
+of crates.txt and the kit. With it, `planarbend` detects whether a source has changed. Another one next to the library
+for C does the same. `planarbend --build` starts this script.
 """
 import concurrent.futures
 import contextlib
@@ -27,8 +28,8 @@ from pathlib import Path
 
 sys.dont_write_bytecode = True
 from common import (
-    BUILD_MINUTES, CRATE, PROGRAM, ROOT, START, alone, end_on_signals, free_memory, look_at_machine, replace_text, say,
-    stop, write_error)
+    BUILD_MINUTES, CRATE, PROGRAM, ROOT, START, alone, end_on_signals, free_memory, locked, look_at_machine, replace_text,
+    say, stop, write_error)
 
 sys.path.append(os.path.join(ROOT, "c"))
 import make
@@ -61,8 +62,7 @@ class Crates:
             self.uses[name] = [used for used in all_crates[name] if used in all_crates]
             waiting += [used for used in self.uses[name] if used not in self.uses]
         self.users = {name: [user for user in self.uses if name in self.uses[user]] for name in self.uses}
-        self.of_kit = {name: ["std", *[used for used in all_crates[name] if used not in all_crates]]
-                       for name in self.uses}
+        self.of_kit = {name: ["std", *[used for used in all_crates[name] if used not in all_crates]] for name in self.uses}
         self.sums_of_crates = {name: self.sum_of_texts(name) for name in self.uses}
         self.libraries = [name for name in self.uses if name != "planarbend"]
         self.lines = [line for line in text.splitlines() if re.split(r"\W", line)[0] in self.uses]
@@ -70,8 +70,7 @@ class Crates:
 
     def below(self, name):
         """The crates below this one."""
-        found = set(self.uses[name])
-        return found.union(*map(self.below, found))
+        return set(self.uses[name]).union(*map(self.below, self.uses[name]))
 
     def sum_of_texts(self, name):
         """A checksum of the sources of a crate and of what it uses."""
@@ -101,8 +100,7 @@ class Crates:
             place = os.path.dirname(library_of(name))
             if os.path.isdir(place) and not self.is_built(name):
                 if OUTDATED:
-                    os.makedirs(OUTDATED, exist_ok=True)
-                    shutil.move(place, os.path.join(OUTDATED, name))
+                    put(place, os.path.join(OUTDATED, name))
                 else:
                     shutil.rmtree(place)
 
@@ -115,15 +113,15 @@ class Crates:
         for name in names - new:
             old, place = os.path.join(OUTDATED, name), os.path.dirname(library_of(name))
             if os.path.exists(os.path.join(old, MARK)) or not new.intersection(self.below(name)):
-                shutil.rmtree(place, ignore_errors=True)
-                os.makedirs(os.path.dirname(place), exist_ok=True)
-                shutil.move(old, place)
+                put(old, place)
         shutil.rmtree(OUTDATED)
 
-    def sums(self):
-        """The record next to the program: first its checksum, then its sources."""
-        lines = [f"#kit {sum_of_file(os.path.join(KIT, 'WHAT'))}", *(f"#crates.txt {line}" for line in self.lines)]
-        sums = {PROGRAM: sum_of_file(PROGRAM)} | self.files
+    def sums(self, made=(PROGRAM,), more=()):
+        """The record next to what was made, by default the program: first its checksums, then those of its sources. `more`
+        are sources that are not Rattle, with their checksums."""
+        lines = [f"#kit {sum_of_file(os.path.join(KIT, 'WHAT'))}", f"#kit-id {read(os.path.join(KIT, 'KIT-ID')).strip()}",
+                 *(f"#crates.txt {line}" for line in self.lines)]
+        sums = {path: sum_of_file(path) for path in made} | self.files | dict(more)
         lines += [f"{found}  {os.path.relpath(path, ROOT)}" for path, found in sums.items()]
         return "".join(f"{line}\n" for line in lines)
 
@@ -147,8 +145,8 @@ class Crates:
         """The command that proves a crate and builds it, in the crate's folder, without the output file."""
         root = "main" if name == "planarbend" else "lib"
         words = [f"{KIT}/bin/rattle", "build", "--crate-name", name, f"src/{root}.rt", "--links", f"{name}="]
-        places = {used: f"{KIT}/rlibs/{used}.rlib" for used in self.of_kit[name]}
-        for used, place in (places | {used: library_of(used) for used in self.uses[name]}).items():
+        for used in [*self.of_kit[name], *self.uses[name]]:
+            place = library_of(used) if used in self.uses[name] else f"{KIT}/rlibs/{used}.rlib"
             words += ["--extern", f"{used}={place}"]
         for folder in [f"{KIT}/rlibs", *[os.path.dirname(library_of(used)) for used in self.below(name)]]:
             words += ["-L", f"dependency={folder}"]
@@ -159,8 +157,7 @@ class Crates:
 def git_folder():
     """The folder in which git keeps the state of this checkout, or None. A worktree names it in a file."""
     path = os.path.join(ROOT, ".git")
-    if os.path.isfile(path):
-        path = os.path.join(ROOT, read(path).strip().removeprefix("gitdir: "))
+    path = os.path.join(ROOT, read(path).strip().removeprefix("gitdir: ")) if os.path.isfile(path) else path
     return path if os.path.isdir(path) else None
 
 
@@ -197,6 +194,13 @@ def stamp_of(name):
     return os.path.join(os.path.dirname(library_of(name)), MARK)
 
 
+def put(old, place):
+    """Moves a folder to a place, and removes what is there."""
+    shutil.rmtree(place, ignore_errors=True)
+    os.makedirs(os.path.dirname(place), exist_ok=True)
+    shutil.move(old, place)
+
+
 def read(path):
     return Path(path).read_text(encoding="utf-8")
 
@@ -218,9 +222,7 @@ def take_back():
                 old, here = os.path.join(aside, name, part), os.path.join(folder_of(name), "out", part)
                 is_new = os.path.exists(os.path.join(here, mark))
                 if os.path.isdir(old) and os.path.isdir(folder_of(name)) and not is_new:
-                    shutil.rmtree(here, ignore_errors=True)
-                    os.makedirs(os.path.dirname(here), exist_ok=True)
-                    shutil.move(old, here)
+                    put(old, here)
         shutil.rmtree(aside, ignore_errors=True)
         Crates(*listed()).put_outdated_back()
     say("put back the libraries that a stopped test had set aside")
@@ -236,53 +238,6 @@ def seconds_of(crates):
     lines = re.findall(r"^(\w+) (\d+)( alone)?$", read(SECONDS), re.M)
     known = {name: int(seconds) for name, seconds, _ in lines}
     return {name: known.get(name, OTHER_SECONDS) for name in crates}, {name for name, _, is_alone in lines if is_alone}
-
-
-class Work:
-    """The crates that are still to be proved, and how long they may take."""
-
-    TRUST = 0.15  # the share of the whole whose usual time counts, beside the time that this build has taken
-    COMPILING = 0.12  # how long this takes, relative to the time of the proofs
-
-    def __init__(self, crates, at_once):
-        self.users = crates.users
-        self.at_once = at_once
-        self.left, self.alone = seconds_of(self.users)
-        self.compiling = 0
-        self.compiling = self.COMPILING * self.size()
-        self.whole = self.at_first = self.size()
-        self.started = time.monotonic()
-
-    def chains(self):
-        """The seconds of the longest chain of crates that wait for one another, from each crate up."""
-        @functools.lru_cache(None)
-        def chain(name):
-            return self.left.get(name, 0) + max(map(chain, self.users[name]), default=0)
-
-        return {name: chain(name) for name in self.users}
-
-    def size(self):
-        """The work that is left, in seconds: the mean of the longest chain and of each processor's share of all, since
-        either may limit a build, and some for compiling."""
-        return (max(self.chains().values()) + sum(self.left.values()) / self.at_once) / 2 + self.compiling
-
-    def drop(self, name, stood):
-        """Removes a proved crate from the work; if it was proved before, it does not count as done by this build."""
-        before = self.size()
-        self.left.pop(name, None)
-        if stood:
-            self.at_first -= before - self.size()
-
-    def minutes(self):
-        return (time.monotonic() - self.started) / 60
-
-    def minutes_left(self):
-        trusted = self.TRUST * self.whole
-        pace = (self.TRUST * BUILD_MINUTES + self.minutes()) / (trusted + self.at_first - self.size())
-        return pace * self.size()
-
-    def tell(self, what):
-        tell_state(f"{what}, {self.minutes():.0f} min, about {max(1, self.minutes_left()):.0f} min left")
 
 
 def clear_line():
@@ -301,15 +256,7 @@ def kept_out(names):
     """Locks the folders of these crates against rt and other builds, and returns the locks. They hold as long as a
     process that has them runs, even if this script was killed."""
     with contextlib.ExitStack() as held:
-        folders = [os.open(folder_of(name), os.O_RDONLY) for name in sorted(names)]
-        for folder in folders:
-            held.callback(os.close, folder)
-            try:
-                fcntl.flock(folder, fcntl.LOCK_EX | fcntl.LOCK_NB)
-            except BlockingIOError:
-                tell_state("waiting for another rt or build in this checkout")
-                fcntl.flock(folder, fcntl.LOCK_EX)
-        yield folders
+        yield [held.enter_context(locked(folder_of(name), "rt or build")) for name in sorted(names)]
 
 
 def start(words, name, held):
@@ -328,12 +275,11 @@ def end(process):
 class Proofs:
     """The running proofs. They end when this object ends, in any way."""
 
-    def __init__(self, crates, work, held):
-        self.crates = crates
-        self.work = work
-        self.held = held
+    def __init__(self, crates, held):
+        self.crates, self.held, self.at_once = crates, held, processors()
+        self.seconds, self.alone = seconds_of(crates.users)
         self.running = {}  # names, processes, and the number of processors that each keeps busy, by output file
-        self.pool = concurrent.futures.ThreadPoolExecutor(work.at_once)
+        self.pool = concurrent.futures.ThreadPoolExecutor(self.at_once)
 
     def __enter__(self):
         return self
@@ -343,11 +289,31 @@ class Proofs:
             end(process)
         self.pool.shutdown()
 
-    def idle(self):
-        return self.work.at_once - sum(busy for _, _, busy in self.running.values())
+    def chains(self, proved):
+        """The seconds of the longest chain of unproved crates that wait for one another, from each crate up."""
+        @functools.cache
+        def chain(name):
+            return self.seconds[name] * (name not in proved) + max(map(chain, self.crates.users[name]), default=0)
+
+        return {name: chain(name) for name in self.crates.users}
+
+    def begin_ready(self, waiting, proved):
+        """Starts the proofs of libraries for which all lower ones are proved, as long as a processor is idle: first those
+        on which the longest chain depends. Several jobs share a proof if that leaves a processor for each other proof, and
+        the first proof if its chain is the longest of all or nearly so."""
+        chains = self.chains(proved)
+        ready = sorted((name for name in waiting if proved.issuperset(self.crates.uses[name])), key=chains.get, reverse=True)
+        for at, name in enumerate(ready):
+            idle = self.at_once - sum(busy for _, _, busy in self.running.values())
+            if not idle:
+                break
+            is_first = at == 0 and chains[name] > NEARLY * max(chains.values())
+            others = 0 if is_first else len(ready) - at - 1
+            waiting.remove(name)
+            self.begin(name, is_shared=name not in self.alone and idle >= others + BUSY)
 
     def begin(self, name, is_shared):
-        jobs, busy = (min(JOBS, self.work.at_once), BUSY) if is_shared else (1, 1)
+        jobs, busy = (min(JOBS, self.at_once), BUSY) if is_shared else (1, 1)
         for user in self.crates.libraries:
             if name in self.crates.below(user):  # built over the library that stood here
                 shutil.rmtree(os.path.dirname(library_of(user)), ignore_errors=True)
@@ -368,57 +334,39 @@ class Proofs:
                 yield name, process.returncode, output.result()[0]
 
 
-def begin_ready(proofs, waiting, proved):
-    """Starts the proofs of libraries for which all lower ones are proved, as long as a processor is idle: first those
-    on which the longest chain depends. Several jobs share a proof if that leaves a processor for each other proof, and
-    the first proof if its chain is the longest of all or nearly so."""
-    uses, chains = proofs.crates.uses, proofs.work.chains()
-    ready = sorted((name for name in waiting if proved.issuperset(uses[name])), key=chains.get, reverse=True)
-    for at, name in enumerate(ready):
-        idle = proofs.idle()
-        if not idle:
-            break
-        is_first = at == 0 and chains[name] > NEARLY * max(chains.values())
-        others = 0 if is_first else len(ready) - at - 1
-        waiting.remove(name)
-        proofs.begin(name, is_shared=name not in proofs.work.alone and idle >= others + BUSY)
-
-
 def stop_failed(log):
     clear_line()
     write_error("".join(log.splitlines(keepends=True)[-LOG_LINES:]).encode())
     stop("the build failed")
 
 
-def prove(crates, work, held):
+def prove(crates, held):
     """Proves the libraries."""
     proved = set()
     for name in sorted(crates.libraries, key=lambda name: len(crates.below(name))):
         if proved.issuperset(crates.uses[name]) and crates.is_built(name):
             proved.add(name)
-            work.drop(name, stood=True)
     waiting = set(crates.libraries) - proved
     if proved:
         tell_state(f"{len(proved)} of {len(crates.libraries)} libraries are already proved")
-    with Proofs(crates, work, held) as proofs:
-        begin_ready(proofs, waiting, proved)
+    with Proofs(crates, held) as proofs:
+        proofs.begin_ready(waiting, proved)
         while proofs.running:
             for name, status, log in proofs.ended():
                 if status:
                     stop_failed(log)
                 crates.keep(name)
                 proved.add(name)
-                work.drop(name, stood=False)
-                work.tell(f"{name} is proved ({len(proved)} of {len(crates.libraries)})")
-            begin_ready(proofs, waiting, proved)
+                tell_state(f"{name} is proved ({len(proved)} of {len(crates.libraries)})")
+            proofs.begin_ready(waiting, proved)
 
 
-def compile_proved(crates, work, held):
+def compile_proved(crates, held):
     """Proves the program over its libraries, and compiles and links it."""
     made, toolchain = "out/planarbend.o", ["--toolchain", f"{KIT}/toolchain"]
     linked = [f"{KIT}/c/libos_c.a", f"{KIT}/c/liblibc_c.a"]
     for words in [
-        [*crates.command("planarbend", min(JOBS, work.at_once)), *toolchain, "--backend", "llvm", "-o", made],
+        [*crates.command("planarbend", min(JOBS, processors())), *toolchain, "--backend", "llvm", "-o", made],
         [f"{KIT}/bin/rattle-link", "--target", TARGET, *toolchain, "-o", LINKED, made, *linked],
     ]:
         process = start(words, "planarbend", held)
@@ -437,20 +385,19 @@ def processors():
 
 
 def build(crates):
-    both = Crates("planarbend", LIBRARY)
-    work = Work(both, processors())
+    both, started = Crates("planarbend", LIBRARY), time.monotonic()
     say(f"proving and building: about {BUILD_MINUTES} minutes on 4 idle cores from scratch; if this is stopped, the"
         " next --build continues")
     with kept_out(both.uses) as held:
-        prove(both, work, held)
-        work.tell("proving and compiling the program itself")
+        prove(both, held)
+        tell_state("proving and compiling the program itself")
         os.makedirs(os.path.dirname(LINKED), exist_ok=True)
-        compile_proved(crates, work, held)
+        compile_proved(crates, held)
         crates.keep_program()
     clear_line()
     if not crates.is_program_built():
         stop("a source was changed during the build: start --build again")
-    say(f"proved and built the program in {work.minutes():.0f} min")
+    say(f"proved and built the program in {(time.monotonic() - started) / 60:.0f} min")
 
 
 def make_library():
@@ -459,8 +406,11 @@ def make_library():
     if not all(map(crates.is_built, crates.libraries)):
         say("proving and compiling the library for C")
         with kept_out(crates.uses) as held:
-            prove(crates, Work(crates, processors()), held)
+            prove(crates, held)
+    sums = {path: sum_of_file(path) for path in make.SOURCES}
     make.make(Path(library_of(LIBRARY)))
+    if all(map(crates.is_built, crates.libraries)):
+        replace_text(make.RECORD, crates.sums([make.OUT / name for name in make.LIBRARIES], sums))
 
 
 def give_to_rt():

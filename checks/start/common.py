@@ -6,6 +6,7 @@ import re
 import shutil
 import signal
 import sys
+from typing import NoReturn
 
 START = os.path.dirname(os.path.abspath(__file__))
 ROOT = os.path.dirname(os.path.dirname(START))
@@ -15,19 +16,19 @@ PROGRAM = os.path.join(ROOT, "out", "planarbend")  # of --build or --test; `rt c
 BUILD_MINUTES = 37  # from nothing, on 4 free cores
 
 
-def write_error(text):
+def write_error(text: bytes) -> None:
     """Writes bytes to standard error, and ignores errors."""
     with contextlib.suppress(OSError):
         while text:
             text = text[os.write(2, text):]
 
 
-def say(*lines):
+def say(*lines: str) -> None:
     for line in lines:
         write_error(os.fsencode(f"planarbend: {line}\n"))
 
 
-def stop(*lines, status=1):
+def stop(*lines: str, status: int = 1) -> NoReturn:
     """Prints these lines and exits with this status."""
     say(*lines)
     sys.exit(status)
@@ -52,7 +53,7 @@ def look_at_machine(what, memory, disk, folder):
 SIGNALS = (signal.SIGINT, signal.SIGTERM, signal.SIGHUP)  # that end a program
 
 
-def end_on_signals():
+def end_on_signals() -> None:
     """Makes these signals raise SystemExit, so that processes are ended and temporary files removed."""
     for number in SIGNALS:
         signal.signal(number, lambda number, _: sys.exit(128 + number))
@@ -64,20 +65,25 @@ def ignore_signals():
 
 
 @contextlib.contextmanager
-def alone():
-    """Waits for other builds, tests and installations in this checkout, and keeps later ones waiting."""
-    folder = os.open(ROOT, os.O_RDONLY)
+def locked(path, other):
+    """Locks a folder, and yields its descriptor; says so if it waits for another process, unless the file system has no
+    locks."""
+    folder = os.open(path, os.O_RDONLY)
     try:
-        try:
-            fcntl.flock(folder, fcntl.LOCK_EX | fcntl.LOCK_NB)
-        except BlockingIOError:
-            say("waiting for another --build, --test or --install in this checkout")
-            fcntl.flock(folder, fcntl.LOCK_EX)
-        except OSError:
-            pass  # some file systems have no locks
-        yield
+        with contextlib.suppress(OSError):
+            try:
+                fcntl.flock(folder, fcntl.LOCK_EX | fcntl.LOCK_NB)
+            except BlockingIOError:
+                say(f"waiting for another {other} in this checkout")
+                fcntl.flock(folder, fcntl.LOCK_EX)
+        yield folder
     finally:
         os.close(folder)
+
+
+def alone():
+    """Waits for other builds, tests and installations in this checkout, and keeps later ones waiting."""
+    return locked(ROOT, "--build, --test or --install")
 
 
 def replace_text(path, text):

@@ -1,7 +1,8 @@
 #!/usr/bin/env python3
 """Copies what --build has made to folders below PREFIX: the program and planarbend-draw to bin, the library to lib, its
-header to include, the man pages to share/man/man1, and the Python package to the folder below PREFIX where this version
-of Python looks for packages. The list of all these files is share/planarbend/files.
+header to include, the man pages to share/man/man1, completions for bash to share/bash-completion/completions, and the
+Python package to the folder below PREFIX where this version of Python looks for packages. The list of all these files
+is share/planarbend/files.
 
 All files are first written next to their places under temporary names, and then renamed, so that each is complete at
 any time. If one cannot be written or renamed, all are as they were before. Files that only an earlier installation has
@@ -25,6 +26,10 @@ import make
 
 TOP = Path(ROOT)
 LIST = "share/planarbend/files"
+COMMANDS = ("planarbend", "planarbend-draw")
+# The man pages and completions, by their paths below PREFIX and in the checkout.
+SHARED = {f"share/man/man1/{name}.1": f"docs/{name}.1" for name in COMMANDS} | {
+    f"share/bash-completion/completions/{name}": f"docs/{name}.bash" for name in COMMANDS}
 NEW, OLD = ".planarbend-new", ".planarbend-old"  # endings of temporary names
 DRAW = """#!{python}
 import sys
@@ -39,7 +44,7 @@ sys.exit(run())
 def files_of(prefix):
     """What each path below PREFIX gets: a file, a text, or for a link its target, each with its mode."""
     found = {"bin/planarbend": (Path(PROGRAM), 0o755),
-             **{f"share/man/man1/{name}": (TOP / "docs" / name, 0o644) for name in ("planarbend.1", "planarbend-draw.1")}}
+             **{path: (TOP / source, 0o644) for path, source in SHARED.items()}}
     if (make.OUT / make.SONAME).is_file():
         found |= {"lib/libplanarbend.a": (make.OUT / "libplanarbend.a", 0o644),
                   f"lib/{make.SONAME}": (make.OUT / make.SONAME, 0o755), "lib/libplanarbend.so": (make.SONAME, None),
@@ -59,11 +64,8 @@ def files_of(prefix):
 
 def listed(place):
     """The files that earlier installations have put here, and the folders that they have made, which end in a slash."""
-    found = []
-    for path in (place / LIST, beside(place / LIST, NEW)):  # the second of one that was killed
-        with contextlib.suppress(OSError):
-            found += path.read_text(encoding="utf-8").splitlines()
-    return list(dict.fromkeys(found))
+    paths = (place / LIST, beside(place / LIST, NEW))  # the second of one that was killed
+    return list(dict.fromkeys(name for path in paths if path.is_file() for name in path.read_text(encoding="utf-8").splitlines()))
 
 
 def beside(path, ending):
@@ -75,12 +77,9 @@ def write(path, content, mode):
     path.unlink(missing_ok=True)
     if mode is None:
         path.symlink_to(content)
-        return
-    if isinstance(content, Path):
-        shutil.copyfile(content, path)
     else:
-        path.write_text(content, encoding="utf-8")
-    path.chmod(mode)
+        path.write_bytes(content.read_bytes() if isinstance(content, Path) else content.encode())
+        path.chmod(mode)
 
 
 def make_folders(path, made):
@@ -152,24 +151,19 @@ def install(prefix, place):
     say(f"installed {len(files)} files below {place}; --uninstall {prefix} removes them")
 
 
-def uninstall(prefix, place):
-    names = listed(place)
-    if not names:
-        stop(f"nothing is installed below {place}: there is no {LIST}")
-    remove(place, names)
-    say(f"removed what was installed below {place}")
-
-
 def main(what, folder):
     prefix = Path(os.path.abspath(folder))
     place = Path(os.environ.get("DESTDIR", "") + str(prefix))
-    is_new = what == "--install"
     end_on_signals()
     with alone():
-        if is_new and not os.path.isfile(PROGRAM):
-            stop("there is no proved program here yet", "planarbend --build proves and builds it")
         try:
-            (install if is_new else uninstall)(prefix, place)
+            if what == "--uninstall":
+                remove(place, listed(place) or stop(f"nothing is installed below {place}: there is no {LIST}"))
+                say(f"removed what was installed below {place}")
+            elif os.path.isfile(PROGRAM):
+                install(prefix, place)
+            else:
+                stop("there is no proved program here yet", "planarbend --build proves and builds it")
         except OSError as error:
             stop(f"cannot {what[2:]} below {place}: {error.filename}: {error.strerror}")
 

@@ -9,8 +9,6 @@ What `rt ci` proves is kept for `planarbend --build`. What was built stays, also
 The package's tests are run by the first of this Python and Debian's that has networkx, NumPy and SciPy, otherwise by the
 first that has networkx. Those that need one of these, Graphviz or rsvg-convert are skipped, by name, if it is missing. `planarbend --test` starts this script.
 """
-from __future__ import annotations
-
 import contextlib
 import os
 import re
@@ -48,11 +46,10 @@ def counts(name: str, folder: Path, *words: str, look: Callable[[str], None] = l
     found = ENDING.fullmatch(last.strip())
     print(f"{name}: {last.strip()}" if found else last, flush=True)
     passed, failed, skipped = (int(count or 0) for count in found.groups()) if found else (0, 0, 0)
-    if not found or child.returncode:
-        failed = max(failed, 1)
-        without = "" if found else " and without its last line"
-        print(f"{name} ended with status {child.returncode}{without}", flush=True)
-    return passed, failed, skipped
+    if found and not child.returncode:
+        return passed, failed, skipped
+    print(f"{name} ended with status {child.returncode}{'' if found else ' and without its last line'}", flush=True)
+    return passed, max(failed, 1), skipped
 
 
 def program() -> str:

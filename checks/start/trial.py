@@ -6,6 +6,7 @@ run-time checks, proves nothing, and runs the compiled program in its own folder
 output is written only after the trial has ended successfully; the exit status is then that of the program. If a trial
 cannot answer, a message says why and what to do, and the exit status is 1.
 """
+import contextlib
 import os
 import re
 import stat
@@ -47,30 +48,21 @@ class Trial:
     """A trial run in its own folder, which has a copy of each file of the caller under a separate name."""
 
     def __init__(self, words, called, folder):
-        self.folder = folder
-        self.words = list(words)
-        self.files = places_of_files(words)
-        self.way_out = (f"{called} --build proves and builds the program, in about {BUILD_MINUTES} minutes on"
-                        " 4 idle cores")
-        self.room = INPUT
-        self.data = []
-        self.names = {}
+        self.folder, self.words, self.files = folder, list(words), places_of_files(words)
+        self.way_out = f"{called} --build proves and builds the program, in about {BUILD_MINUTES} minutes on 4 idle cores"
+        self.room, self.data, self.names = INPUT, [], {}
 
     def path(self, name):
         return os.path.join(self.folder, name)
 
-    def refuse(self, why):
+    def refuse(self, why=f"its files and standard input have more than {INPUT >> 10} KiB in total"):
         stop(f"a trial run cannot answer this: {why}", self.way_out)
 
     def look_at_sizes(self):
         """Refuses at once input that is known to be too large: files have sizes, and so has standard input if it is a
         file."""
-        sizes = [size_of(0 if self.words[place] == "-" else self.words[place]) for place in self.files]
-        if sum(sizes) > self.room:
-            self.refuse_input()
-
-    def refuse_input(self):
-        self.refuse(f"its files and standard input have more than {INPUT >> 10} KiB in total")
+        if sum(size_of(0 if self.words[place] == "-" else self.words[place]) for place in self.files) > self.room:
+            self.refuse()
 
     def take_input(self):
         """Copies the caller's files and standard input. A file that cannot be read is missing in the trial too, and
@@ -96,7 +88,7 @@ class Trial:
             return False
         self.room -= len(content)
         if self.room < 0:
-            self.refuse_input()
+            self.refuse()
         Path(copied).write_bytes(content)
         return True
 
@@ -104,8 +96,8 @@ class Trial:
         """Runs the trial, and returns its standard error; its standard output is kept in the folder."""
         words = ["rt", "try", "--seconds", str(SECONDS), *self.data, "--", *self.words]
         with open(self.path("stdin"), "rb") as given, open(self.path("stdout"), "wb") as out:
-            streams = {"stdin": given, "stdout": out, "stderr": subprocess.PIPE}
-            process = subprocess.Popen(words, cwd=CRATE, env={**os.environ, "TMPDIR": self.folder}, **streams)
+            process = subprocess.Popen(words, cwd=CRATE, env={**os.environ, "TMPDIR": self.folder}, stdin=given, stdout=out,
+                                       stderr=subprocess.PIPE)
             try:
                 return process.communicate()[1]
             finally:
@@ -142,11 +134,10 @@ class Trial:
 
 def size_of(file):
     """The size of a regular file in bytes, or 0 if a file does not exist or has no size in advance."""
-    try:
+    with contextlib.suppress(OSError, ValueError):
         found = os.stat(file)
-    except (OSError, ValueError):
-        return 0
-    return found.st_size if stat.S_ISREG(found.st_mode) else 0
+        return found.st_size * stat.S_ISREG(found.st_mode)
+    return 0
 
 
 def first_not_utf8(words):

@@ -36,9 +36,9 @@ node-link JSON or graph6; a KiCad netlist or board; or planar_code, of which eac
 (then --outer takes first or best, and shades the outer face). The content determines the format, unless --format is given.
 
 networkx (Debian: python3-networkx) tests which graphs are planar, and reads GraphML, GML and graph6. DOT is read by
-Graphviz (graphviz). rsvg-convert (librsvg2-bin) makes PNG and PDF. Layouts are computed by libplanarbend of this
-checkout or the system; or by the program planarbend: the one that PLANARBEND names, that of this checkout, or the one
-on the path. Schematics need the library (./planarbend --build makes it), NumPy and SciPy (python3-numpy, python3-scipy).
+Graphviz (graphviz). rsvg-convert (librsvg2-bin) makes PNG and PDF. Layouts are computed by libplanarbend of this checkout,
+this package or the system; or by the program planarbend: the one that PLANARBEND names, that of this checkout or this
+package, or the one on the path. Schematics need the library, NumPy and SciPy (python3-numpy, python3-scipy).
 
 exit status: 0; 1 if the graph cannot be read or drawn (standard error says why, and nothing is written); 2 if the
 command line is wrong; 3 if a page was written, but its planar_code does not end complete
@@ -286,7 +286,8 @@ def run() -> int:
     except (ReadError, DrawError, PlanarbendError, NoConverter) as fault:
         print(f"planarbend-draw: {fault}", file=sys.stderr)
     except ModuleNotFoundError as error:
-        print(f"planarbend-draw: needs the Python library {error.name} (Debian: python3-{error.name})", file=sys.stderr)
+        print(f"planarbend-draw: needs the Python library {error.name} (Debian: python3-{error.name};"
+              f" pip install {error.name})", file=sys.stderr)
     except OSError as error:
         print(f"planarbend-draw: {error.filename or words.output}: {error.strerror}", file=sys.stderr)
     return 1

@@ -3,10 +3,13 @@ from __future__ import annotations
 
 import os
 
-ROOT = os.path.dirname(os.path.dirname(os.path.dirname(os.path.abspath(__file__))))
+FOLDER = os.path.dirname(os.path.abspath(__file__))
+ROOT = os.path.dirname(os.path.dirname(FOLDER))
 BUILT = os.path.join(ROOT, "out/planarbend")
 SCRIPT = os.path.join(ROOT, "planarbend")
-INSTALLED = os.path.join(os.path.dirname(os.path.dirname(ROOT)), "bin/planarbend")  # where --install puts it
+INSTALLED = [  # where --install and pip put it, and `pip install --target`
+    os.path.join(os.path.dirname(os.path.dirname(ROOT)), "bin/planarbend"),
+    os.path.join(os.path.dirname(FOLDER), "bin/planarbend")]
 
 
 class PlanarbendError(Exception):
@@ -38,7 +41,7 @@ def program() -> str:
         There is none.
     """
     named = os.environ.get("PLANARBEND")
-    for path in [named] if named else [BUILT, SCRIPT, INSTALLED]:
+    for path in [named] if named else [BUILT, SCRIPT, *INSTALLED]:
         if path and is_program(path):
             return os.path.abspath(path)
     if not named:

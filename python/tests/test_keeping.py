@@ -17,7 +17,7 @@ from planarbend.drawing.numbering import Contraction, conditions_of, form_of, ou
 from planarbend.layout.planar_code import MOST_VERTICES, Lists, record_of
 from planarbend.drawing.planarize import planarize
 from planarbend.drawing.plans import Plan
-from planes import Plane
+from oracle import Plane
 
 HUBS = [(hub, leaf) for hub in (0, 1) for leaf in range(2, 9)]  # two vertices of degree 7
 

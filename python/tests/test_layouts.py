@@ -22,7 +22,7 @@ import planarbend
 from planarbend.layout import laid_out, library
 from planarbend.layout.engine import Conditions, Conflict, Cut, NotKept
 from planarbend.layout.planar_code import split
-from planes import Plane
+from oracle import Plane
 
 # The fewest bends of all graphs of a file, with the longest outer face and with the best one, by LEMON.
 BENDS = {"cubic60.pc": (176, 169), "medial60.pc": (1102, 1082), "planar_d4_n6.pc": (217, 216),

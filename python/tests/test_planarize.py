@@ -19,7 +19,7 @@ from planarbend.drawing.planarization import LinkedEmbedding, Planarization
 from planarbend.drawing.planarize import (TooManyCrossings, _embedded, _least, _Starts, needed_by_cycles,
                                           needed_crossings, planarize)
 from planarbend.drawing.reinsert import FIXED, Reinsertion, growth, one_of
-from planes import Plane
+from oracle import Plane
 
 try:
     import networkx

@@ -42,17 +42,17 @@ class Found(unittest.TestCase):
 
     def test_the_first_of_those_that_exist(self) -> None:
         places = ["lib/planarbend/out/planarbend", "lib/planarbend/planarbend", "bin/planarbend",
-                  "path/planarbend"]
+                  "lib/planarbend/python/bin/planarbend", "path/planarbend"]
         path = f"{self.root / 'path'}:{os.environ['PATH']}"
         paths = self.made(*places)
         for found in paths:
             self.assertEqual(self.asked(PATH=path)[0], str(found))
             found.chmod(0o644)  # no longer a program
         self.assertIn("is not installed", self.asked(PATH=path)[0])
-        paths[3].chmod(0o755)
+        paths[4].chmod(0o755)
         paths[0].unlink()
         paths[0].mkdir()
-        self.assertEqual(self.asked(PATH=path)[0], str(paths[3]))
+        self.assertEqual(self.asked(PATH=path)[0], str(paths[4]))
 
     def test_the_program_that_is_named(self) -> None:
         program, other = self.made("lib/planarbend/planarbend", "some/program")
@@ -63,7 +63,8 @@ class Found(unittest.TestCase):
 
     def test_libraries(self) -> None:
         self.made("lib/planarbend/planarbend")
-        places = [self.root / "lib/planarbend/out/libplanarbend.so.2", self.root / "lib/libplanarbend.so.2"]
+        places = [self.root / "lib/planarbend/out/libplanarbend.so.2", self.package / "libplanarbend.so.2",
+                  self.root / "lib/libplanarbend.so.2"]
         none = self.asked()[1]
         for place in reversed(places):
             place.parent.mkdir(exist_ok=True)

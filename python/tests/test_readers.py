@@ -203,7 +203,7 @@ class Networks(Case):
             for text in ("<graphml/>", "graph [ node [ id 1 ] ]", ">>graph6<<@"):
                 status, _, errors = support.said(["draw", "-", "-o", "-"], text)
                 self.assertEqual(status, 1)
-                self.assertIn("needs the Python library networkx (Debian: python3-networkx)", errors)
+                self.assertIn("needs the Python library networkx (Debian: python3-networkx; pip install networkx)", errors)
 
 
 class Json(Case):

@@ -21,7 +21,7 @@ from planarbend.schematics.parts import EAST, NORTH, SOUTH, WEST, Kind, Net, Par
 from planarbend.schematics.routing import Routing
 from planarbend.schematics.wiring import Wiring, pose
 from planarbend.schematics.wirings import components, hanging, part_of_sheet, wirings_of
-from planes import Plane
+from oracle import Plane
 
 if has_scipy:
     import numpy

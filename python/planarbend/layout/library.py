@@ -17,13 +17,14 @@ from typing import Any
 
 from planarbend.layout.engine import Answer, Conditions, Cut, Dart, GridPoint, NotKept, Refusal, Representation
 from planarbend.layout.planar_code import MOST_VERTICES, MOST_WIDE, Lists, record_of, wide_record_of
-from planarbend.programs import ROOT, NoProgram, PlanarbendError
+from planarbend.programs import FOLDER, ROOT, NoProgram, PlanarbendError
 
 OUTER = {"first": 0, "best": 1}
 DRAWING = {"none": 0, "quick": 1, "short": 2}
 OK, NOT_A_RECORD, MEMORY, FULL, ARGUMENT, NO_SHAPE, WIDE, LARGE, CONFLICT = 0, 9, 10, 11, 12, 13, 16, 17, 18
 NAME = "libplanarbend.so.2"
-PLACES = [os.path.join(ROOT, "out", NAME), os.path.join(os.path.dirname(ROOT), NAME)]  # built, and installed
+PLACES = [  # built, in a wheel, and installed
+    os.path.join(ROOT, "out", NAME), os.path.join(FOLDER, NAME), os.path.join(os.path.dirname(ROOT), NAME)]
 
 
 class Counts(ctypes.Structure):
@@ -77,7 +78,7 @@ def path() -> str | None:
     """Return the path of the library, or None if there is none.
 
     It is PLANARBEND_LIBRARY, where an empty value means none. If that is not set, it is the first that exists of: the library
-    built in this checkout, the one installed with this package, and the system's.
+    built in this checkout, the one in this package, the one installed with it, and the system's.
     """
     named = os.environ.get("PLANARBEND_LIBRARY")
     if named is not None:
