@@ -92,11 +92,9 @@ def bulky_text(count: int) -> tuple[bytes, list[bytes]]:
     """This many of the longest records: each value from 1 to 255 occurs as an entry at the end of a piece."""
     text = bytearray(HEADER + BULKY * count)
     for piece, end in enumerate(range(PIECE, len(text), PIECE)):
-        for place in (end - 1, end):
-            if text[place] == 1:
-                text[place] = piece % 255 + 1
-    size, body = len(BULKY), bytes(text[len(HEADER):])
-    return bytes(text), [body[place:place + size] for place in range(0, len(body), size)]
+        for place in [place for place in (end - 1, end) if text[place] == 1]:
+            text[place] = piece % 255 + 1
+    return bytes(text), [bytes(text[place:place + len(BULKY)]) for place in range(len(HEADER), len(text), len(BULKY))]
 
 
 def in_pieces(machine: Machine, command: Command, text: bytes, records: list[bytes], pieces: int) -> None:
