@@ -212,6 +212,14 @@ def outside(folder: str, source: str = "lemon.cc", *more: str) -> str:
     return program
 
 
+def speed(folder: str) -> str:
+    """Builds c/tests/speed.c, which times the library, in a folder, and returns its path."""
+    made = os.path.join(folder, "speed")
+    subprocess.run(["cc", "-std=c11", "-O2", "-pthread", f"-I{ROOT}/c", f"{ROOT}/c/tests/speed.c",
+                    library_file("libplanarbend.a"), "-o", made], check=True)
+    return made
+
+
 def toolchain(name: str = "rt") -> Any:
     """The toolchain's command `rt` as a module, or the module `rtlib` next to it, which reads crates."""
     command = os.path.realpath(shutil.which("rt") or sys.exit("the Rattle kit's command rt is not on the path"))
