@@ -145,11 +145,10 @@ def busy_cores() -> float:
 
 def commit() -> str:
     """The commit of the checkout that holds the program, or of this one."""
-    for folder in (os.path.dirname(os.path.abspath(os.environ.get("PLANARBEND") or RESULTS)), ROOT):
-        ran = subprocess.run(["git", "-C", folder, "log", "-1", "--format=%h"], capture_output=True, text=True)
-        if ran.stdout:
-            return ran.stdout.strip()
-    return "unknown"
+    folders = (os.path.dirname(os.path.abspath(os.environ.get("PLANARBEND") or RESULTS)), ROOT)
+    found = (subprocess.run(["git", "-C", folder, "log", "-1", "--format=%h"], capture_output=True, text=True).stdout.strip()
+             for folder in folders)
+    return next(filter(None, found), "unknown")
 
 
 def planarbend() -> str:
