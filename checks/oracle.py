@@ -190,12 +190,12 @@ class Seen:
         for word, found, count in (("vertices", vertices, plane.vertices), ("edges", corners, len(plane.lesser))):
             if len(found) != count:
                 raise Wrong(f"drawn={word}")
-        places = [((f"vertex={vertex}",), point) for vertex, point in enumerate(vertices, 1)]
-        places += [((f"edge={edge}", f"corner={corner}"), point) for edge, between in enumerate(corners)
+        places = [(f"vertex={vertex}", point) for vertex, point in enumerate(vertices, 1)]
+        places += [(f"edge={edge} corner={corner}", point) for edge, between in enumerate(corners)
                    for corner, point in enumerate(between)]
         for place, point in places:
             if max(point) > GRID_END:
-                raise Wrong("drawn=grid", *place)
+                raise Wrong("drawn=grid", place)
         self.paths = paths_of(plane, line)
         directions = [directions_of(edge, path) for edge, path in enumerate(self.paths)]
         self.turns, self.leaving = [""] * len(plane.darts), [(0, 0)] * len(plane.darts)

@@ -145,11 +145,10 @@ def busy_cores() -> float:
 
 def commit() -> str:
     """The commit of the checkout that holds the program, or of this one."""
-    for folder in (os.path.dirname(os.path.abspath(os.environ.get("PLANARBEND") or RESULTS)), ROOT):
-        ran = subprocess.run(["git", "-C", folder, "log", "-1", "--format=%h"], capture_output=True, text=True)
-        if ran.stdout:
-            return ran.stdout.strip()
-    return "unknown"
+    folders = (os.path.dirname(os.path.abspath(os.environ.get("PLANARBEND") or RESULTS)), ROOT)
+    found = (subprocess.run(["git", "-C", folder, "log", "-1", "--format=%h"], capture_output=True, text=True).stdout.strip()
+             for folder in folders)
+    return next(filter(None, found), "unknown")
 
 
 def planarbend() -> str:
@@ -210,6 +209,14 @@ def outside(folder: str, source: str = "lemon.cc", *more: str) -> str:
     program = os.path.join(folder, os.path.basename(source).removesuffix(".cc"))
     subprocess.run(["g++", *FAST, "-o", program, os.path.join(OUTSIDE, source), *more], check=True)
     return program
+
+
+def speed(folder: str) -> str:
+    """Builds c/tests/speed.c, which times the library, in a folder, and returns its path."""
+    made = os.path.join(folder, "speed")
+    subprocess.run(["cc", "-std=c11", "-O2", "-pthread", f"-I{ROOT}/c", f"{ROOT}/c/tests/speed.c",
+                    library_file("libplanarbend.a"), "-o", made], check=True)
+    return made
 
 
 def toolchain(name: str = "rt") -> Any:

@@ -92,11 +92,9 @@ def bulky_text(count: int) -> tuple[bytes, list[bytes]]:
     """This many of the longest records: each value from 1 to 255 occurs as an entry at the end of a piece."""
     text = bytearray(HEADER + BULKY * count)
     for piece, end in enumerate(range(PIECE, len(text), PIECE)):
-        for place in (end - 1, end):
-            if text[place] == 1:
-                text[place] = piece % 255 + 1
-    size, body = len(BULKY), bytes(text[len(HEADER):])
-    return bytes(text), [body[place:place + size] for place in range(0, len(body), size)]
+        for place in [place for place in (end - 1, end) if text[place] == 1]:
+            text[place] = piece % 255 + 1
+    return bytes(text), [bytes(text[place:place + len(BULKY)]) for place in range(len(HEADER), len(text), len(BULKY))]
 
 
 def in_pieces(machine: Machine, command: Command, text: bytes, records: list[bytes], pieces: int) -> None:
@@ -242,20 +240,22 @@ def beside_closed_input(machine: Machine, command: Command) -> Ran:
 TRIES = 20  # to see a file while it is read
 MORE = EDGE * 3
 
-# A change of the file with this path and text, of which this many bytes were read; returns all that can then be read.
-Change = Callable[[str, int, bytes], bytes]
+# Changes of a file of which this many bytes were read: to how many bytes it is cut, if at all, and what is added.
+CHANGES: dict[str, tuple[Callable[[int], int | None], bytes]] = {
+    "shrinks before it is read": (lambda place: place + 7, b""), "is emptied": (lambda place: 0, b""),
+    "grows": (lambda place: None, MORE)}
 
 
 def check_changes(machine: Machine) -> None:
     """Each change for each command, in a file that is long enough to be seen while it is read."""
     for command in COMMANDS:
         text = HEADER + (BULKY * 400 if command.frames else TRIANGLE * 25_000)
-        for name, change in [("shrinks before it is read", shrink), ("is emptied", empty), ("grows", grow)]:
+        for name, change in CHANGES.items():
             with machine.case(command, f"a file that {name} while it is read"):
-                assert any(changed(machine, command, text, change) for _ in range(TRIES)), "never seen in the middle"
+                assert any(changed(machine, command, text, *change) for _ in range(TRIES)), "never seen in the middle"
 
 
-def changed(machine: Machine, command: Command, text: bytes, change: Change) -> bool:
+def changed(machine: Machine, command: Command, text: bytes, cut: Callable[[int], int | None], more: bytes) -> bool:
     """Whether a file was seen in the middle, and changed, in a run over it."""
     path, place = machine.file(text), 0
     with machine.started([*command.words, path]) as child:
@@ -264,32 +264,17 @@ def changed(machine: Machine, command: Command, text: bytes, change: Change) -> 
         child.send_signal(signal.SIGSTOP)
         wait_for(lambda: child.poll() is not None or is_stopped(child.pid), "a stop")
         place = place_in(child.pid, path) if child.poll() is None else -1
-        read = change(path, place, text) if 0 < place < len(text) - len(BULKY) else None
+        if is_seen := 0 < place < len(text) - len(BULKY):
+            with open(path, "ab") as file:
+                os.truncate(path, len(text) if (end := cut(place)) is None else end)
+                file.write(more)
+            text = text[:None if end is None else max(end, place)] + more  # all that can then be read
         child.send_signal(signal.SIGCONT)
         ran = machine.ended(child)
     os.remove(path)
-    if read is not None:
-        is_whole(command, ran, [split(read)])
-    return read is not None
-
-
-def shrink(path: str, place: int, text: bytes) -> bytes:
-    """The file ends soon."""
-    os.truncate(path, place + 7)
-    return text[:place + 7]
-
-
-def empty(path: str, place: int, text: bytes) -> bytes:
-    """The file ends before the place up to which it was read."""
-    os.truncate(path, 0)
-    return text[:place]
-
-
-def grow(path: str, place: int, text: bytes) -> bytes:
-    """The file has more records."""
-    with open(path, "ab") as file:
-        file.write(MORE)
-    return text + MORE
+    if is_seen:
+        is_whole(command, ran, [split(text)])
+    return is_seen
 
 
 # ---- The lines on standard error that say why a file could not be read, or what it looks like, compared completely.

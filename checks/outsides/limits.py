@@ -7,7 +7,7 @@ import resource
 import signal
 import subprocess
 from collections.abc import Iterable
-from typing import Any, NamedTuple
+from typing import NamedTuple
 
 from machine import (
     are_same, AS_NOBODY, both_ends, Command, COMMANDS, expected_lines, File, IO, is_beginning, is_fault, IS_ROOT,
@@ -159,8 +159,8 @@ def lacks_stack(machine: Machine, runs: Climb, step: int) -> bool:
     def prepare() -> None:
         LIBC.ptrace(TRACEME, 0, None, None)
         limits(AS=step << 10)()
-    quiet: dict[str, Any] = {"stdout": subprocess.DEVNULL, "stderr": subprocess.DEVNULL, "preexec_fn": prepare}
-    with machine.started([*runs.command.words, runs.path], environment=runs.environment, **quiet) as child:
+    with machine.started([*runs.command.words, runs.path], environment=runs.environment, stdout=subprocess.DEVNULL,
+                         stderr=subprocess.DEVNULL, preexec_fn=prepare) as child:
         while os.WIFSTOPPED(status := os.waitpid(child.pid, 0)[1]) and os.WSTOPSIG(status) != signal.SIGSEGV:
             LIBC.ptrace(CONTINUE, child.pid, None, None)
         if not os.WIFSTOPPED(status):

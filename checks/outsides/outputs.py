@@ -67,7 +67,6 @@ def output_is_closed(machine: Machine, command: Command) -> None:
 
 def nobody_reads(machine: Machine, command: Command, long: str) -> None:
     """Standard output is a pipe that nobody reads, from the beginning or after the first line."""
-    many = [File([EDGE, TRIANGLE] * MANY)]
     for name, how in [("", {}), (", SIGPIPE ignored", IGNORED)]:
         with machine.case(command, f"standard output is a closed pipe{name}"), broken_pipe() as pipe:
             takes_no_more(command, machine.ran([*command.words, machine.two], stdout=pipe, **how), [split(TWO)], "")
@@ -75,7 +74,7 @@ def nobody_reads(machine: Machine, command: Command, long: str) -> None:
             line = child.stdout.readline()
             child.stdout.close()
             child.stdout = None
-            takes_no_more(command, machine.ended(child)._replace(out=line), many, "")
+            takes_no_more(command, machine.ended(child)._replace(out=line), [File([EDGE, TRIANGLE] * MANY)], "")
 
 
 def to_a_short_file(machine: Machine, words: list[Any]) -> Ran:
@@ -289,8 +288,7 @@ def shares_a_terminal(machine: Machine, command: Command) -> None:
     """On a terminal that also gets the report, each of its lines is complete, and the last line of progress follows."""
     ran, shown = on_a_terminal(machine, command, 200, "stdout", "stderr")
     *report, last = screen_of(shown)
-    text = "".join(line + "\n" for line in report).encode()
-    is_whole(command, ran._replace(out=text), [File([EDGE] * 200)], "")
+    is_whole(command, ran._replace(out="\n".join([*report, ""]).encode()), [File([EDGE] * 200)], "")
     tells(last + "\n", 1, 200, 1)
 
 
@@ -300,12 +298,10 @@ def on_a_terminal(machine: Machine, command: Command, graphs: int, *outputs: str
     parts: list[bytes] = []
     reader = threading.Thread(target=reads_all, args=(master, parts), daemon=True)
     reader.start()
-    try:
+    with os.fdopen(master, "rb"):
         with os.fdopen(terminal, "wb", buffering=0) as screen:
             ran = machine.fed([*command.words, "-"], HEADER + EDGE * graphs, 0.001, **dict.fromkeys(outputs, screen))
         reader.join(PATIENCE)
-    finally:
-        os.close(master)
     return ran, b"".join(parts).decode()
 
 
@@ -384,13 +380,13 @@ def check_waiting(machine: Machine) -> None:
     later = machine.file(HEADER + EDGE * RECORDS)
     for most in (1, 8):
         for words in (["--waiting", str(most)], [f"--waiting={most}"]):
-            with machine.case(Command(["layout", *words]), "a later file pauses"):
+            with machine.case("layout", *words, "a later file pauses"):
                 pauses(machine, words, later, most * 1_000_000 // LINE * len(EDGE))
     with machine.case(LAYOUT, "a later file that may wait whole"):
         pauses(machine, [], later, len(EDGE) * RECORDS)
     for lanes in range(1, 9):
         for words in (["--lanes", str(lanes)], [f"--lanes={lanes}"]):
-            with machine.case(Command(["layout", *words]), "files that are open at once"):
+            with machine.case("layout", *words, "files that are open at once"):
                 opens(machine, words, lanes)
 
 
@@ -426,8 +422,7 @@ def opens(machine: Machine, words: list[str], lanes: int) -> None:
         child = opened.enter_context(machine.started(["layout", *words, *paths]))
         wait_for(lambda: count_open(child.pid, paths) >= lanes, f"{lanes} open files")
         time.sleep(0.1)
-        found = count_open(child.pid, paths)
-    assert found == lanes, f"{found} files were open, not {lanes}"
+        assert count_open(child.pid, paths) == lanes, f"not {lanes} files were open"
 
 
 def count_open(process: int, paths: list[str]) -> int:

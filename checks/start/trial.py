@@ -32,15 +32,14 @@ def places_of_files(words):
     nor its value; after `--` all arguments are files."""
     if words[0] not in ("layout", "frames", "check"):
         return []
-    places, all_are, is_value = [], False, False
-    for place, word in enumerate(words[1:], 1):
-        if is_value:
-            is_value = False
-        elif all_are or word == "-" or not word.startswith("-"):
+    places, rest = [], iter(enumerate(words[1:], 1))
+    for place, word in rest:
+        if word == "--":
+            return places + [place for place, _ in rest]
+        if word in ("--lanes", "--outer", "--waiting", "--drawing"):
+            next(rest, None)
+        elif word == "-" or not word.startswith("-"):
             places.append(place)
-        else:
-            all_are = word == "--"
-            is_value = word in ("--lanes", "--outer", "--waiting", "--drawing")
     return places
 
 
