@@ -23,7 +23,7 @@ from programs import ROOT
 PAGES = ["README.md", "CONTRIBUTING.md", "docs/*.md", "bench/*.md"]
 COUNTED = [*PAGES, "CHANGELOG.md", "examples/README.md"]
 MOST = {"README.md": 1_000, "CONTRIBUTING.md": 900, "CHANGELOG.md": 600, "docs/CHECK.md": 500, "docs/CLUSTER.md": 750,
-        "all pages": 13_100}  # words
+        "all pages": 13_000}  # words
 WRITTEN = {"bench/RESULTS.md", "docs/COUNTS.md"}  # by scripts, and so not counted
 NO_TREE = {"bench/RESULTS.md"}  # quotes what ran
 NUMBER = re.compile(r"([\d,]*\d) (crates|proofs|edits|attacks|tests)\b")
