@@ -200,11 +200,10 @@ class Seen:
         directions = [directions_of(edge, path) for edge, path in enumerate(self.paths)]
         self.turns, self.leaving = [""] * len(plane.darts), [(0, 0)] * len(plane.darts)
         for edge, (dart, along) in enumerate(zip(plane.lesser, directions)):
-            back = plane.back[dart]
+            back, (x, y) = plane.back[dart], along[-1]
             self.turns[dart] = turns_along(edge, along)
             self.turns[back] = self.turns[dart][::-1].translate(EXCHANGED)
-            self.leaving[dart], (x, y) = along[0], along[-1]
-            self.leaving[back] = (-x, -y)
+            self.leaving[dart], self.leaving[back] = along[0], (-x, -y)
         self.bends = sum(map(len, self.turns)) // 2
         self.angles = self._angles()
         self.outer = self._outer()
@@ -218,17 +217,15 @@ class Seen:
         """The angle of each dart: the number of quarter turns to the left from the next dart of its face to the reverse
         dart."""
         plane, angles = self.plane, []
+        around: collections.Counter[int] = collections.Counter()
         for dart, after in enumerate(plane.next):
             (x, y), angle = self.leaving[after], 0
             while angle == 0 or (x, y) != self.leaving[plane.back[dart]]:
                 x, y, angle = -y, x, angle + 1
             angles.append(angle)
-        around: collections.Counter[int] = collections.Counter()
-        for dart, angle in enumerate(angles):
             around[plane.darts[dart][1]] += angle
-        for vertex in range(1, plane.vertices + 1):
-            if around[vertex] != 4:
-                raise Wrong("embedding", f"vertex={vertex}")
+        if wrong := [vertex for vertex in range(1, plane.vertices + 1) if around[vertex] != 4]:
+            raise Wrong("embedding", f"vertex={wrong[0]}")
         return angles
 
     def _outer(self) -> int:
@@ -345,10 +342,10 @@ class Program:
         rows = numpy.array([head - 1 for _, head in plane.darts])
         faces = plane.vertices + numpy.array(plane.face)
         number = numpy.arange(count)
-        entries = [(rows, number, 1), (faces, number, -1), (faces, count + number, 1), (faces[plane.back], count + number, -1)]
-        where = tuple(numpy.concatenate([entry[part] for entry in entries]) for part in (0, 1))
-        values = numpy.concatenate([numpy.full(count, entry[2]) for entry in entries])
-        self.matrix = sparse.csr_matrix((values, where), shape=(plane.vertices + plane.faces, 2 * count))
+        where = (numpy.concatenate([rows, faces, faces, faces[plane.back]]),
+                 numpy.concatenate([number, number, count + number, count + number]))
+        self.matrix = sparse.csr_matrix((numpy.repeat([1, -1, 1, -1], count), where),
+                                        shape=(plane.vertices + plane.faces, 2 * count))
         self.cost = numpy.concatenate([numpy.zeros(count), numpy.ones(count)])
 
     def fewest(self, outer: int, asked: Asked = Asked()) -> int | None:

@@ -119,7 +119,8 @@ def lost_names(tree, page, text):
     """The names in backticks that are not in the tree."""
     lost = []
     for name, context in spans(page, text):
-        crates = [crate for crate in re.findall(r"`(\w+)(?=::|`)", context or "") if crate in tree.crates] if context else tree.crates
+        named = [crate for crate in re.findall(r"`(\w+)(?=::|`)", context or "") if crate in tree.crates]
+        crates = named if context else tree.crates
         if tree.has_path(name) or (crates == tree.crates and name in tree.all):
             continue
         first = name.split("::")[0]

@@ -118,7 +118,8 @@ static void print_points(const Shape &shape, const Drawn &drawn, const ogdf::Gri
   const auto listed = [&](const std::vector<ogdf::node> &nodes) {
     std::string text;
     for (const ogdf::node one : nodes)
-      text += (text.empty() ? "[" : ",[") + std::to_string(layout.x(one) - left) + "," + std::to_string(layout.y(one) - bottom) + "]";
+      text += (text.empty() ? "[" : ",[") + std::to_string(layout.x(one) - left) + "," +
+              std::to_string(layout.y(one) - bottom) + "]";
     return "[" + text + "]";
   };
   const auto corners = corners_of(drawn);

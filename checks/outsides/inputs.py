@@ -212,7 +212,8 @@ def input_is_a_file(machine: Machine, command: Command, before: str) -> None:
     with open(before, "rb", buffering=0) as file:
         file.seek(4)
         machine.whole(command, "- is a file, read before", ["-"], [split(TWO)], stdin=file)
-    for name, path, how, found in (("a file", machine.two, os.O_RDONLY, split(TWO)), ("a directory", machine.room, os.O_RDONLY, IO),
+    for name, path, how, found in (("a file", machine.two, os.O_RDONLY, split(TWO)),
+                                   ("a directory", machine.room, os.O_RDONLY, IO),
                                    ("open for writing only", os.devnull, os.O_WRONLY, IO)):
         given = os.open(path, how)
         machine.whole(command, f"- is {name}", ["-"], [found], stdin=given)

@@ -275,8 +275,7 @@ class Machine(harness.Checks):
             try:
                 yield child
             finally:
-                if child.poll() is None:
-                    child.kill()
+                child.kill()  # which does nothing once it was waited for
 
     def ended(self, child: subprocess.Popen[bytes], given: bytes | None = None) -> Ran:
         """How a run ends. It leaves nothing behind."""

@@ -13,6 +13,7 @@ import time
 from collections.abc import Iterator
 from typing import Any
 
+import programs
 from machine import (
     both_ends, broken_pipe, closing, Command, COMMANDS, EDGE, expected_lines, File, FRAMES, FULL, full_disk, IO,
     is_beginning, is_whole, LAYOUT, LAYOUTS, limits, lines_of, LONG, Machine, MANY, PATIENCE, place_in, Ran, split,
@@ -181,8 +182,8 @@ class Fed:
         """How many seconds of processor time its threads have taken."""
         spent = 0
         for task in os.listdir(f"/proc/{self.child.pid}/task"):
-            with contextlib.suppress(OSError), open(f"/proc/{self.child.pid}/task/{task}/schedstat", "rb") as numbers:
-                spent += int(numbers.read().split()[0])
+            with contextlib.suppress(OSError):
+                spent += int(programs.read(f"/proc/{self.child.pid}/task/{task}/schedstat").split()[0])
         return spent / 1e9
 
     def ends(self, machine: Machine, *records: list[bytes]) -> None:

@@ -65,7 +65,8 @@ def files_of(prefix):
 def listed(place):
     """The files that earlier installations have put here, and the folders that they have made, which end in a slash."""
     paths = (place / LIST, beside(place / LIST, NEW))  # the second of one that was killed
-    return list(dict.fromkeys(name for path in paths if path.is_file() for name in path.read_text(encoding="utf-8").splitlines()))
+    names = (name for path in paths if path.is_file() for name in path.read_text(encoding="utf-8").splitlines())
+    return list(dict.fromkeys(names))
 
 
 def beside(path, ending):
