@@ -2,6 +2,7 @@
 from __future__ import annotations
 
 import json
+import random
 import unittest
 from fractions import Fraction
 
@@ -10,6 +11,9 @@ from dot_grammar import PortGrammar
 from planarbend.draw import draw
 from planarbend.drawing.drawn import Drawing
 from planarbend.drawing.field_items import in_order
+from planarbend.drawing.linked import NONE
+from planarbend.drawing.nest_search import NestSearch
+from planarbend.drawing.nesting import nesting_of
 from planarbend.drawing.sites import Sites, rectangles
 from planarbend.layout.library import LibraryEngine
 from planarbend.ports import Compass, End, Field, Side, Span
@@ -24,6 +28,8 @@ STRUCTS = """digraph { node [shape=record]; s1 [label="<f0> left|<f1> middle|<f2
 COMPASS = "digraph { a:n -> b:s; b:e -> c:w; c:ne -> a:sw; a -> c; b:n -> b:w; d [shape=circle]; d:se -> c:n; d -> a:w }"
 TABLE = """graph { t [shape=none, label=<<table><tr><td port="a">x</td><td port="b">y</td><td port="c">z</td></tr><tr><td port="d">1</td>
   <td port="m">2</td><td port="e">3</td></tr><tr><td port="f" colspan="3">long</td></tr></table>>]; u -- t:m; v -- t:m:n; w -- t:f; u -- v; w -- t:d:e }"""
+LOOPS = """graph { node [shape=record]; a [label="<p> x|<q> y"]; a:p -- a; a -- a:q:n; a:q:n -- a:p:s; b -- a:p; b -- a:q; c -- a:p; c -- a:q
+  b -- c; d [label="<u> 1|<v> 2"]; d:u:w -- d:v:e; d -- b; d -- c; d -- a }"""
 BOTH = """digraph { compound=true; node [shape=record]; subgraph cluster_a { label=A; r [label="{<p> x|<q> y}"]; s } subgraph cluster_b { label=B;
   t [label="<u> 1|<v> 2|<w> 3"] } r:p:e -> t:u; r:q -> t:w; t:v:n -> s; s -> r:p; s -> t [lhead=cluster_b]; t:u -> t:w }"""
 
@@ -57,6 +63,25 @@ class Places(unittest.TestCase):
         """Coordinates keep their order as far as constraints allow; a cycle does not stop this."""
         self.assertEqual(in_order([0, 1, 2, 3], [(3, 1, 1.0), (1, 0, 1.0)]), [2, 3, 1, 0])
         self.assertEqual(sorted(in_order([0, 1, 2], [(0, 1, 1.0), (1, 0, 1.0)])), [0, 1, 2])
+
+
+@support.needs_graphviz
+class Embedded(unittest.TestCase):
+    def test_loops(self) -> None:
+        """A loop goes from one site to another, also if it crosses the edges between them."""
+        graph = read(LOOPS.encode(), "it.gv", "dot")
+        loops = [number for number, edge in enumerate(graph.edges) if edge.tail == edge.head]
+        for seed in range(30):
+            search = NestSearch(nesting_of(graph), random.Random(seed))
+            search.put_all()
+            search.improve(3, 100_000)
+            search.finish()
+            for loop in loops:
+                tail, head = search.embedding.ends[loop]
+                self.assertNotEqual(search.embedding.start[loop], NONE, (seed, loop))
+                self.assertIn(tail, search.embedding.places_of(loop, False))
+                self.assertIn(head, search.embedding.places_of(loop, True))
+                self.assertNotEqual(tail, head)
 
 
 @support.needs_graphviz
@@ -116,7 +141,7 @@ class Drawn(unittest.TestCase):
             self.assertEqual(self.judged(FILES[name]).crossings, [], name)
 
     def test_random(self) -> None:
-        for seed in (2, 3, 4, 6, 7, 26):
+        for seed in (2, 3, 4, 6, 7, 26, 507):
             self.judged(PortGrammar(seed).file())
 
     def test_no_library(self) -> None:
