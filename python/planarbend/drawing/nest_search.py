@@ -133,7 +133,7 @@ class NestSearch:
         tails, heads = (self.embedding.places_of(edge, is_head) for is_head in (False, True))
         is_loop = self.nesting.ends[edge][0] == self.nesting.ends[edge][1]
         ways = []
-        for tail in [(one,) for one in tails] if is_loop else [tails]:
+        for tail in [[one] for one in tails] if is_loop else [list(tails)]:
             others = [one for one in heads if one not in tail]
             distance, goals = self.distances(edge, False, tail)[0], self.faces_at(others)
             ways.append((min((distance[goal] for goal in goals), default=FAR), tail, others, distance, goals))
