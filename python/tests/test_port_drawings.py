@@ -127,6 +127,17 @@ class Drawn(unittest.TestCase):
         self.assertTrue(x in (left, right) or y in (top, bottom))
         self.assertNotEqual(made.meets[0, True], (x, y))
 
+    def test_middles(self) -> None:
+        """With room on all sides lines end at the middles of fields, and at corners a quarter of their length from these."""
+        made = self.judged("""digraph { node [shape=record]; t [label="{<a> 1|<b> 2|<c> 3}"]; u [label="<d> left|<e> right"]; v [label="<f> of one|<g> of two"];
+          node [shape=box]; t:c -> w; u:d:n -> x:s; v:g:se -> y }""")
+        for (edge, is_head), at in made.meets.items():
+            one, end = made.graph.edges[edge], made.graph.ends[edge, is_head]
+            left, top, right, bottom = (made.field_boxes.get(one.head if is_head else one.tail) or [made.boxes[one.head]])[end.field or 0]
+            far = ((at[0] - left) / (right - left), (at[1] - top) / (bottom - top))
+            share = next(part for part in far if 0.01 < part < 0.99)
+            self.assertAlmostEqual(min(share, 1 - share), 0.25 if end.compass is Compass.SOUTH_EAST else 0.5, delta=0.03)
+
     def test_with_clusters(self) -> None:
         self.judged(BOTH)
 

@@ -3,10 +3,12 @@ from __future__ import annotations
 
 import heapq
 from collections.abc import Iterator, Sequence
+from dataclasses import dataclass
 from typing import TYPE_CHECKING
 
 from planarbend.drawing.nesting import is_port
 from planarbend.drawing.sites import halves_of
+from planarbend.drawing.solver import Solver
 from planarbend.drawing.texts import FONT, LINE_HEIGHT, lines_of, text_size
 from planarbend.ports import End, Field
 from planarbend.style import NodeLook
@@ -18,8 +20,21 @@ if TYPE_CHECKING:
 PAD = (5.0, 3.0)  # pixels between the text of a field and its border
 LEAST = (14.0, 16.0)  # pixels, of a field
 END = 4.0  # pixels from the end of an edge to the corners of its field
+MIDDLE = 0.5  # of a field
 
 Place = tuple[list[int], list[int]]  # of a field: the coordinates at which it begins, and at which it ends
+
+
+@dataclass(frozen=True, slots=True)
+class PortEnd:
+    """An end of an edge at a field: its coordinate along an axis, those between which the field lies, and where between them it
+    should be: a quarter of the way from one to the other at a corner, otherwise half of it."""
+
+    axis: int
+    low: int
+    coordinate: int
+    high: int
+    share: float
 
 
 def field_size(one: Field, look: NodeLook | None) -> tuple[float, float]:
@@ -79,25 +94,37 @@ def hold_end(sheet: Sheet, edge: int, is_head: bool, axis: int, coordinate: int)
     one = sheet.graph.edges[edge]
     low, high = sheet.fields[one.head if is_head else one.tail][end.field or 0]
     sheet.within[axis].extend([(low[axis], coordinate, END), (coordinate, high[axis], END)])
-    if any(halves_of(end, axis)):
-        sheet.halves.append((axis, low[axis], coordinate, high[axis], halves_of(end, axis)[0]))
+    is_low, is_high = halves_of(end, axis)
+    sheet.port_ends.append(PortEnd(axis, low[axis], coordinate, high[axis], MIDDLE - is_low / 4 + is_high / 4))
 
 
 def hold_halves(sheet: Sheet) -> bool:
     """Demand that ends at corners lie in the halves of their fields beside these. Return whether some did not."""
     found = False
-    for axis, low, coordinate, high, is_low in sheet.halves:
-        value, find = sheet.axes[axis].value, sheet.axes[axis].same.find
-        low, coordinate, high = find(low), find(coordinate), find(high)
+    for end in sheet.port_ends:
+        value, find = sheet.axes[end.axis].value, sheet.axes[end.axis].same.find
+        low, coordinate, high = find(end.low), find(end.coordinate), find(end.high)
         middle = (value[low] + value[high]) / 2
-        if is_low and value[coordinate] > middle:
-            sheet.within[axis].append((coordinate, high, value[coordinate] - value[low] + 1))
-        elif not is_low and value[coordinate] < middle:
-            sheet.within[axis].append((low, coordinate, value[high] - value[coordinate] + 1))
+        if end.share < MIDDLE and value[coordinate] > middle:
+            sheet.within[end.axis].append((coordinate, high, value[coordinate] - value[low] + 1))
+        elif end.share > MIDDLE and value[coordinate] < middle:
+            sheet.within[end.axis].append((low, coordinate, value[high] - value[coordinate] + 1))
         else:
             continue
         found = True
     return found
+
+
+def centre_ends(sheet: Sheet, axis: int, solver: Solver) -> None:
+    """Move ends of edges towards the middles of their fields, or of the halves at their corners, as far as nothing else moves."""
+    value, find = solver.value, sheet.axes[axis].same.find
+    wanted: dict[int, list[float]] = {}
+    for end in sheet.port_ends:
+        if end.axis == axis:
+            low, high = value[find(end.low)], value[find(end.high)]
+            wanted.setdefault(find(end.coordinate), []).append(low + (high - low) * end.share)
+    for coordinate, places in wanted.items():
+        solver.move_to(coordinate, sum(places) / len(places))
 
 
 def field_boxes(sheet: Sheet, vertex: int) -> list[Box]:
