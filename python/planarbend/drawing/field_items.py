@@ -78,8 +78,7 @@ def _placed(sheet: Sheet, vertex: int, whole: Field, at: Place) -> Iterator[Plac
         low, high = along.value[first], along.value[last]
         inner = [along.add(low + (high - low) * place / count, -1 + 2 * place / count) for place in range(1, count)]
         lines.append([first, *inner, last])
-        for line, after in zip(lines[axis], lines[axis][1:]):
-            sheet.within[axis].append((line, after, 1.0))
+        sheet.within[axis].extend((line, following, 1.0) for line, following in zip(lines[axis], lines[axis][1:]))
     for one in whole.fields:
         span = one.at
         yield from _placed(sheet, vertex, one, (

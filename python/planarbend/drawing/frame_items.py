@@ -5,6 +5,7 @@ from itertools import pairwise
 from typing import TYPE_CHECKING
 
 from planarbend.drawing.extents import BOX, LABEL, PIECE, UNIT, Item, item_at
+from planarbend.drawing.frame_picture import STROKE
 from planarbend.drawing.nested import NestedPlanarization
 from planarbend.drawing.shape import Shape, rect_of
 from planarbend.drawing.solver import Solver
@@ -19,7 +20,6 @@ if TYPE_CHECKING:
 
 PAD = (8.0, 4.0)  # pixels between a label and its frame
 LEAST = (30.0, 22.0)  # pixels, of a frame with nothing in it
-STROKE = 1.1  # pixels, of the line of a frame
 GLUE = 2.0  # the weight of the distance of a label from its side, to that of a line's length
 WEIGHT = 1.0  # of the length of a side
 

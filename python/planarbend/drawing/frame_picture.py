@@ -2,11 +2,11 @@
 from __future__ import annotations
 
 from planarbend.drawing.drawn import Drawing
-from planarbend.drawing.frame_items import STROKE
 from planarbend.drawing.ink import lettered, painted, stroked, wrapped
 from planarbend.drawing.symbols import ROUND, rectangle
 from planarbend.drawing.texts import FAMILY, FONT, LINE_HEIGHT, lines_of, text_lines
 
+STROKE = 1.1  # pixels, of the line of a frame
 
 
 def frame_elements(drawing: Drawing, line: str, ink: str, theme: str) -> list[str]:
