@@ -151,6 +151,19 @@ class Drawn(unittest.TestCase):
         for name in ("machine", "gates", "empties", "hash_5", "search_2"):
             self.assertEqual(self.judged(FILES[name]).crossings, [], name)
 
+    def test_sides_of_fields(self) -> None:
+        """All lists begin and go on to the east of a field, straight, but for the line from one list to another."""
+        self.assertLessEqual(self.judged(FILES["hash_5"]).bends, 1)
+
+    def test_beside_texts(self) -> None:
+        """A line to a field in the middle passes the short text of the field below it."""
+        made = self.judged(STRUCTS.replace("<here> d", "<here> wide"))
+        boxes, at = made.field_boxes[2], made.meets[1, True]
+        place = made.graph.ends[1, True].field
+        assert place is not None
+        share = (at[0] - boxes[place][0]) / (boxes[place][2] - boxes[place][0])
+        self.assertGreater(abs(share - 0.5), 0.2)
+
     def test_random(self) -> None:
         for seed in (2, 3, 4, 6, 7, 26, 507):
             self.judged(PortGrammar(seed).file())

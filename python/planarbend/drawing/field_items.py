@@ -7,7 +7,7 @@ from dataclasses import dataclass
 from typing import TYPE_CHECKING
 
 from planarbend.drawing.nesting import is_port
-from planarbend.drawing.sites import halves_of
+from planarbend.drawing.sites import halves_of, rim_of, sides_of
 from planarbend.drawing.solver import Solver
 from planarbend.drawing.texts import FONT, LINE_HEIGHT, lines_of, text_size
 from planarbend.ports import End, Field
@@ -20,21 +20,22 @@ if TYPE_CHECKING:
 PAD = (5.0, 3.0)  # pixels between the text of a field and its border
 LEAST = (14.0, 16.0)  # pixels, of a field
 END = 4.0  # pixels from the end of an edge to the corners of its field
-MIDDLE = 0.5  # of a field
+MIDDLE, BESIDE = 0.5, 0.8  # of a field: where an end of an edge should be, and where the line to it passes texts in the middle
 
 Place = tuple[list[int], list[int]]  # of a field: the coordinates at which it begins, and at which it ends
 
 
 @dataclass(frozen=True, slots=True)
 class PortEnd:
-    """An end of an edge at a field: its coordinate along an axis, those between which the field lies, and where between them it
-    should be: a quarter of the way from one to the other at a corner, otherwise half of it."""
+    """An end of an edge at a field: its coordinate along an axis, those between which the field lies, which share of the way
+    from one to the other it should be, and whether it has to be in that half."""
 
     axis: int
     low: int
     coordinate: int
     high: int
     share: float
+    is_held: bool
 
 
 def field_size(one: Field, look: NodeLook | None) -> tuple[float, float]:
@@ -91,10 +92,13 @@ def hold_end(sheet: Sheet, edge: int, is_head: bool, axis: int, coordinate: int)
     if end is None or not is_port(end):
         return
     one = sheet.graph.edges[edge]
-    low, high = sheet.fields[one.head if is_head else one.tail][end.field or 0]
+    vertex = one.head if is_head else one.tail
+    low, high = sheet.fields[vertex][end.field or 0]
     sheet.within[axis].extend([(low[axis], coordinate, END), (coordinate, high[axis], END)])
-    is_low, is_high = halves_of(end, axis)
-    sheet.port_ends.append(PortEnd(axis, low[axis], coordinate, high[axis], MIDDLE - is_low / 4 + is_high / 4))
+    (is_low, is_high), whole = halves_of(end, axis), sheet.graph.fields.get(vertex, Field())
+    share = MIDDLE if sides_of(whole, end) & rim_of(whole, end) else BESIDE
+    share = 0.25 if is_low else 0.75 if is_high else share
+    sheet.port_ends.append(PortEnd(axis, low[axis], coordinate, high[axis], share, is_low or is_high))
 
 
 def hold_halves(sheet: Sheet) -> bool:
@@ -103,10 +107,10 @@ def hold_halves(sheet: Sheet) -> bool:
     for end in sheet.port_ends:
         value, find = sheet.axes[end.axis].value, sheet.axes[end.axis].same.find
         low, coordinate, high = find(end.low), find(end.coordinate), find(end.high)
-        middle = (value[low] + value[high]) / 2
-        if end.share < MIDDLE and value[coordinate] > middle:
+        middle, is_low = (value[low] + value[high]) / 2, end.share < MIDDLE
+        if end.is_held and is_low and value[coordinate] > middle:
             sheet.within[end.axis].append((coordinate, high, value[coordinate] - value[low] + 1))
-        elif end.share > MIDDLE and value[coordinate] < middle:
+        elif end.is_held and not is_low and value[coordinate] < middle:
             sheet.within[end.axis].append((low, coordinate, value[high] - value[coordinate] + 1))
         else:
             continue
@@ -115,7 +119,8 @@ def hold_halves(sheet: Sheet) -> bool:
 
 
 def centre_ends(sheet: Sheet, axis: int, solver: Solver) -> None:
-    """Move ends of edges towards the middles of their fields, or of the halves at their corners, as far as nothing else moves."""
+    """Move ends of edges towards the middles of their fields, or of the halves at their corners, or beside texts that lie on the
+    way, as far as nothing else moves."""
     value, find = solver.value, sheet.axes[axis].same.find
     wanted: dict[int, list[float]] = {}
     for end in sheet.port_ends:

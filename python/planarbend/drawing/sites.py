@@ -42,13 +42,15 @@ def rectangles(whole: Field, at: Rectangle = ((Fraction(0), Fraction(1)),) * 2) 
         yield from rectangles(one, ((left, right), (top, bottom)))
 
 
+def rim_of(whole: Field, end: End) -> frozenset[Side]:
+    """Return the sides at which the field of an end is at the border of the whole."""
+    return next(sides for place, (_, sides) in enumerate(whole.walk()) if place == (end.field or 0))
+
+
 def sides_of(whole: Field, end: End) -> frozenset[Side]:
     """Return the sides at which an end may be: those of its compass point; or those at which its field is at the border of the
     whole; or all."""
-    if end.compass is not None:
-        return end.compass.sides
-    rim = next(sides for place, (_, sides) in enumerate(whole.walk()) if place == (end.field or 0))
-    return rim or frozenset(Side)
+    return rim_of(whole, end) or frozenset(Side) if end.compass is None else end.compass.sides
 
 
 def halves_of(end: End, axis: int) -> tuple[bool, bool]:
