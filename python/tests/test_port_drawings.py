@@ -14,7 +14,7 @@ from planarbend.drawing.field_items import in_order
 from planarbend.drawing.linked import NONE
 from planarbend.drawing.nest_search import NestSearch
 from planarbend.drawing.nesting import nesting_of
-from planarbend.drawing.sites import Sites, rectangles
+from planarbend.drawing.sites import Sites, rectangles, sides_of
 from planarbend.layout.library import LibraryEngine
 from planarbend.ports import Compass, End, Field, Side, Span
 from planarbend.programs import PlanarbendError
@@ -58,6 +58,14 @@ class Places(unittest.TestCase):
         self.assertEqual(at(End(1, Compass.SOUTH_EAST)), [(Side.EAST, Fraction(1, 2)), (Side.SOUTH, Fraction(1, 6))])
         self.assertEqual(len(at(None)), 4)
         self.assertEqual(len(at(None, End(2))), 8)
+
+    def test_nearest_sides(self) -> None:
+        """The field in the middle of the third record of `STRUCTS` is reached over one other field from above and below."""
+        inner = Field("", "", Span(row=1), (Field("c"), Field("d", "here", Span(column=1)), Field("e", "", Span(column=2))))
+        whole = Field(fields=(Field("hello"), Field("", "", Span(column=1), (Field("b"), inner, Field("f", "", Span(row=2)))),
+                              Field("g", "", Span(column=2)), Field("h", "", Span(column=3))))
+        self.assertEqual(sides_of(whole, End(whole.place_of("here"))), {Side.NORTH, Side.SOUTH})
+        self.assertEqual(sides_of(whole, End(whole.place_of("here"), Compass.WEST)), {Side.WEST})
 
     def test_order(self) -> None:
         """Coordinates keep their order as far as constraints allow; a cycle does not stop this."""
