@@ -128,8 +128,8 @@ class NestSearch:
         return one_of(found, self.dice) if found else -1 - places[0]
 
     def put(self, edge: int) -> None:
-        """Insert an edge along a shortest path between its ends, which have other edges; raise `Apart` if there is none. A loop
-        goes from one site to another."""
+        """Insert an edge along a shortest path between its ends, which have other edges; raise `Apart` if there is none, unless
+        there are no frames, so that it may join any corners. A loop goes from one site to another."""
         tails, heads = (self.embedding.places_of(edge, is_head) for is_head in (False, True))
         is_loop = self.nesting.ends[edge][0] == self.nesting.ends[edge][1]
         ways = []
@@ -138,8 +138,11 @@ class NestSearch:
             distance, goals = self.distances(edge, False, tail)[0], self.faces_at(others)
             ways.append((min((distance[goal] for goal in goals), default=FAR), tail, others, distance, goals))
         least = min(way[0] for way in ways)
-        if least == FAR:
+        if least == FAR and self.embedding.first:
             raise Apart
+        if least == FAR:
+            self.insert(edge, self.corner(tails), (), self.corner(heads))
+            return
         best = one_of([number for number, way in enumerate(ways) if way[0] == least], self.dice)
         _, tail, others, distance, goals = ways[best]
         goal = one_of([goal for goal in goals if distance[goal] == least], self.dice)
