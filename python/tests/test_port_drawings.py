@@ -116,10 +116,11 @@ class Drawn(unittest.TestCase):
         return made
 
     def test_structs(self) -> None:
-        """One edge needs no bend: the middle of the first record is above the first field of the second."""
+        """No edge needs a bend: the middle of the first record can be above the first field of the second, and its right field above
+        the field in the middle of the third."""
         made = self.judged(STRUCTS)
         self.assertEqual(made.crossings, [])
-        self.assertLessEqual(made.bends, 2)
+        self.assertEqual(made.bends, 0)
         self.assertEqual(set(made.meets), {(0, False), (0, True), (1, False), (1, True)})
         self.assertEqual([len(made.field_boxes[number]) for number in range(3)], [4, 3, 11])
 
@@ -160,8 +161,12 @@ class Drawn(unittest.TestCase):
             self.assertEqual(self.judged(FILES[name]).crossings, [], name)
 
     def test_sides_of_fields(self) -> None:
-        """All lists begin and go on to the east of a field, straight, but for the line from one list to another."""
+        """All lists begin and go on to the east of a field, straight, but for the line from one list to another; a tree of records
+        has straight lines alone, also in a frame."""
         self.assertLessEqual(self.judged(FILES["hash_5"]).bends, 1)
+        tree = FILES["search_2"]
+        self.assertEqual(self.judged(tree).bends, 0)
+        self.assertEqual(self.judged(tree.replace("{", "{ subgraph cluster_a {", 1) + "}").bends, 0)
 
     def test_beside_texts(self) -> None:
         """A line to a field in the middle passes the short text of the field below it."""

@@ -129,7 +129,7 @@ class NestSearch:
 
     def put(self, edge: int) -> None:
         """Insert an edge along a shortest path between its ends, which have other edges; raise `Apart` if there is none, unless
-        there are no frames, so that it may join any corners. A loop goes from one site to another."""
+        it crosses no frame, so that it may join any corners. A loop goes from one site to another."""
         tails, heads = (self.embedding.places_of(edge, is_head) for is_head in (False, True))
         is_loop = self.nesting.ends[edge][0] == self.nesting.ends[edge][1]
         ways = []
@@ -138,7 +138,7 @@ class NestSearch:
             distance, goals = self.distances(edge, False, tail)[0], self.faces_at(others)
             ways.append((min((distance[goal] for goal in goals), default=FAR), tail, others, distance, goals))
         least = min(way[0] for way in ways)
-        if least == FAR and self.embedding.first:
+        if least == FAR and self.passing[edge][0]:
             raise Apart
         if least == FAR:
             self.insert(edge, self.corner(tails), (), self.corner(heads))
