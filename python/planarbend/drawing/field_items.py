@@ -27,13 +27,11 @@ Place = tuple[list[int], list[int]]  # of a field: the coordinates at which it b
 
 @dataclass(frozen=True, slots=True)
 class PortEnd:
-    """An end of an edge at a field: its coordinate along an axis, those between which the field lies, which share of the way
-    from one to the other it should be, and whether it has to be in that half."""
+    """An end of an edge at a field: along an axis the coordinates at which the field begins, of the end, and at which the field
+    ends; at which share of the field it should be; and whether it has to be in that half."""
 
     axis: int
-    low: int
-    coordinate: int
-    high: int
+    places: tuple[int, int, int]
     share: float
     is_held: bool
 
@@ -96,18 +94,17 @@ def hold_end(sheet: Sheet, edge: int, is_head: bool, axis: int, coordinate: int)
     low, high = sheet.fields[vertex][end.field or 0]
     sheet.within[axis].extend([(low[axis], coordinate, END), (coordinate, high[axis], END)])
     (is_low, is_high), whole = halves_of(end, axis), sheet.graph.fields.get(vertex, Field())
-    share = MIDDLE if sides_of(whole, end) & rim_of(whole, end) else BESIDE
-    share = 0.25 if is_low else 0.75 if is_high else share
-    sheet.port_ends.append(PortEnd(axis, low[axis], coordinate, high[axis], share, is_low or is_high))
+    share = 0.25 if is_low else 0.75 if is_high else MIDDLE if sides_of(whole, end) & rim_of(whole, end) else BESIDE
+    sheet.port_ends.append(PortEnd(axis, (low[axis], coordinate, high[axis]), share, is_low or is_high))
 
 
 def hold_halves(sheet: Sheet) -> bool:
     """Demand that ends at corners lie in the halves of their fields beside these. Return whether some did not."""
     found = False
     for end in sheet.port_ends:
-        value, find = sheet.axes[end.axis].value, sheet.axes[end.axis].same.find
-        low, coordinate, high = find(end.low), find(end.coordinate), find(end.high)
-        middle, is_low = (value[low] + value[high]) / 2, end.share < MIDDLE
+        value, is_low = sheet.axes[end.axis].value, end.share < MIDDLE
+        low, coordinate, high = map(sheet.axes[end.axis].same.find, end.places)
+        middle = (value[low] + value[high]) / 2
         if end.is_held and is_low and value[coordinate] > middle:
             sheet.within[end.axis].append((coordinate, high, value[coordinate] - value[low] + 1))
         elif end.is_held and not is_low and value[coordinate] < middle:
@@ -121,12 +118,11 @@ def hold_halves(sheet: Sheet) -> bool:
 def centre_ends(sheet: Sheet, axis: int, solver: Solver) -> None:
     """Move ends of edges towards the middles of their fields, or of the halves at their corners, or beside texts that lie on the
     way, as far as nothing else moves."""
-    value, find = solver.value, sheet.axes[axis].same.find
     wanted: dict[int, list[float]] = {}
     for end in sheet.port_ends:
         if end.axis == axis:
-            low, high = value[find(end.low)], value[find(end.high)]
-            wanted.setdefault(find(end.coordinate), []).append(low + (high - low) * end.share)
+            low, coordinate, high = map(sheet.axes[axis].same.find, end.places)
+            wanted.setdefault(coordinate, []).append(solver.value[low] * (1 - end.share) + solver.value[high] * end.share)
     for coordinate, places in wanted.items():
         solver.move_to(coordinate, sum(places) / len(places))
 

@@ -162,9 +162,8 @@ class NestSearch:
         place = one_of([face for face, total in zip(places, totals) if total == min(totals)], self.dice)
         edge, is_head = edges[0], ends[edges[0]][1] == vertex
         crossed = self.path(found[0], place, self.passing[edge][not is_head])
-        places_of = self.embedding.places_of
-        other = self.corner(places_of(edge, not is_head), self.embedding.face[crossed[0]] if crossed else place)
-        own = self.corner(places_of(edge, is_head))
+        other = self.corner(self.embedding.places_of(edge, not is_head), self.embedding.face[crossed[0]] if crossed else place)
+        own = self.corner(self.embedding.places_of(edge, is_head))
         if is_head:
             self.insert(edge, other, crossed, own)
         else:
@@ -188,9 +187,7 @@ class NestSearch:
             is_second = not embedding.first and len(placed) == 1
             placed.add(vertex)
             if is_second:
-                tail, head = (self.corner(embedding.places_of(edges[0], is_head)) for is_head in (False, True))
-                self.insert(edges[0], tail, (), head)
-                for edge in edges[1:]:
+                for edge in edges:
                     self.put(edge)
             elif edges:
                 self.put_vertex(vertex, edges)
