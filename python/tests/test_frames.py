@@ -3,6 +3,7 @@ from __future__ import annotations
 
 import json
 import random
+import re
 import unittest
 
 import support
@@ -139,6 +140,23 @@ class Drawn(unittest.TestCase):
         made = self.judged(LONELY)
         self.assertEqual((made.bends, made.embedding), (0, []))
         self.judged("graph { subgraph cluster_a { subgraph cluster_b { subgraph cluster_c { a -- b } } } }")
+
+    def test_wide_lines(self) -> None:
+        """The lines of frames do not meet each other, boxes or labels, however wide they are; bold ones are twice as wide as others."""
+        made = self.judged("""graph { penwidth=14; subgraph cluster_a { label=A; subgraph cluster_c { label=""; a -- b } } subgraph cluster_b {
+          label=B; c -- d } a -- c; b -- d }""")
+        boxes = [one.box for one in made.frames.values()] + made.boxes
+        for number, one in enumerate(boxes):
+            for other in boxes[number + 1:]:
+                gaps = [far - near for near, far in zip(one, other)]
+                apart = max(other[0] - one[2], one[0] - other[2], other[1] - one[3], one[1] - other[3])
+                self.assertGreaterEqual(max(apart, min(abs(gap) for gap in gaps)), 14)
+        for one in made.frames.values():
+            if one.label_box is not None:
+                self.assertGreater(min(abs(side - other) for side, other in zip(one.box, one.label_box)), 7)
+        plain, bold = (re.findall(r'stroke-width="(.*?)"', self.judged(f"graph {{ subgraph cluster_a {{ style={style}; a }} }}").text("svg"))
+                       for style in ("solid", "bold"))
+        self.assertEqual(float(bold[1]), 2 * float(plain[0]))
 
     def test_random(self) -> None:
         for seed in range(6):

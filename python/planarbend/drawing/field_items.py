@@ -3,10 +3,12 @@ from __future__ import annotations
 
 import heapq
 from collections.abc import Iterator, Sequence
+from dataclasses import dataclass
 from typing import TYPE_CHECKING
 
 from planarbend.drawing.nesting import is_port
-from planarbend.drawing.sites import halves_of
+from planarbend.drawing.sites import halves_of, rim_of, sides_of
+from planarbend.drawing.solver import Solver
 from planarbend.drawing.texts import FONT, LINE_HEIGHT, lines_of, text_size
 from planarbend.ports import End, Field
 from planarbend.style import NodeLook
@@ -18,8 +20,20 @@ if TYPE_CHECKING:
 PAD = (5.0, 3.0)  # pixels between the text of a field and its border
 LEAST = (14.0, 16.0)  # pixels, of a field
 END = 4.0  # pixels from the end of an edge to the corners of its field
+MIDDLE, BESIDE = 0.5, 0.8  # of a field: where an end of an edge should be, and where the line to it passes texts in the middle
 
 Place = tuple[list[int], list[int]]  # of a field: the coordinates at which it begins, and at which it ends
+
+
+@dataclass(frozen=True, slots=True)
+class PortEnd:
+    """An end of an edge at a field: along an axis the coordinates at which the field begins, of the end, and at which the field
+    ends; at which share of the field it should be; and whether it has to be in that half."""
+
+    axis: int
+    places: tuple[int, int, int]
+    share: float
+    is_held: bool
 
 
 def field_size(one: Field, look: NodeLook | None) -> tuple[float, float]:
@@ -76,27 +90,41 @@ def hold_end(sheet: Sheet, edge: int, is_head: bool, axis: int, coordinate: int)
     if end is None or not is_port(end):
         return
     one = sheet.graph.edges[edge]
-    low, high = sheet.fields[one.head if is_head else one.tail][end.field or 0]
+    vertex = one.head if is_head else one.tail
+    low, high = sheet.fields[vertex][end.field or 0]
     sheet.within[axis].extend([(low[axis], coordinate, END), (coordinate, high[axis], END)])
-    if any(halves_of(end, axis)):
-        sheet.halves.append((axis, low[axis], coordinate, high[axis], halves_of(end, axis)[0]))
+    (is_low, is_high), whole = halves_of(end, axis), sheet.graph.fields.get(vertex, Field())
+    share = 0.25 if is_low else 0.75 if is_high else MIDDLE if sides_of(whole, end) & rim_of(whole, end) else BESIDE
+    sheet.port_ends.append(PortEnd(axis, (low[axis], coordinate, high[axis]), share, is_low or is_high))
 
 
 def hold_halves(sheet: Sheet) -> bool:
     """Demand that ends at corners lie in the halves of their fields beside these. Return whether some did not."""
     found = False
-    for axis, low, coordinate, high, is_low in sheet.halves:
-        value, find = sheet.axes[axis].value, sheet.axes[axis].same.find
-        low, coordinate, high = find(low), find(coordinate), find(high)
+    for end in sheet.port_ends:
+        value, is_low = sheet.axes[end.axis].value, end.share < MIDDLE
+        low, coordinate, high = map(sheet.axes[end.axis].same.find, end.places)
         middle = (value[low] + value[high]) / 2
-        if is_low and value[coordinate] > middle:
-            sheet.within[axis].append((coordinate, high, value[coordinate] - value[low] + 1))
-        elif not is_low and value[coordinate] < middle:
-            sheet.within[axis].append((low, coordinate, value[high] - value[coordinate] + 1))
+        if end.is_held and is_low and value[coordinate] > middle:
+            sheet.within[end.axis].append((coordinate, high, value[coordinate] - value[low] + 1))
+        elif end.is_held and not is_low and value[coordinate] < middle:
+            sheet.within[end.axis].append((low, coordinate, value[high] - value[coordinate] + 1))
         else:
             continue
         found = True
     return found
+
+
+def centre_ends(sheet: Sheet, axis: int, solver: Solver) -> None:
+    """Move ends of edges towards the middles of their fields, or of the halves at their corners, or beside texts that lie on the
+    way, as far as nothing else moves."""
+    wanted: dict[int, list[float]] = {}
+    for end in sheet.port_ends:
+        if end.axis == axis:
+            low, coordinate, high = map(sheet.axes[axis].same.find, end.places)
+            wanted.setdefault(coordinate, []).append(solver.value[low] * (1 - end.share) + solver.value[high] * end.share)
+    for coordinate, places in wanted.items():
+        solver.move_to(coordinate, sum(places) / len(places))
 
 
 def field_boxes(sheet: Sheet, vertex: int) -> list[Box]:

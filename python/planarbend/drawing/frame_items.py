@@ -5,6 +5,7 @@ from itertools import pairwise
 from typing import TYPE_CHECKING
 
 from planarbend.drawing.extents import BOX, LABEL, PIECE, UNIT, Item, item_at
+from planarbend.drawing.frame_picture import STROKE
 from planarbend.drawing.nested import NestedPlanarization
 from planarbend.drawing.shape import Shape, rect_of
 from planarbend.drawing.solver import Solver
@@ -42,17 +43,24 @@ def add_frames(sheet: Sheet) -> None:
         corners = [point for side in planar.sides_of(place) for point in sheet.shape.lines[side]]
         left, top, right, bottom = rect_of(corners)
         grid = [(float(UNIT * left), float(UNIT * right)), (float(UNIT * top), float(UNIT * bottom))]
-        coordinates = [[axis.add(side) for side in sides] for axis, sides in zip(sheet.axes, grid)]
+        coordinates, beyond = [[axis.add(side) for side in sides] for axis, sides in zip(sheet.axes, grid)], excess(sheet, cluster)
         frame = Item(BOX, [low for low, _ in coordinates], [high for _, high in coordinates], grid)
         sheet.frames[cluster] = frame
         for axis in (0, 1):
             low, high = zip(coordinates[1 - axis], grid[1 - axis])
             for at in zip(coordinates[axis], grid[axis]):
-                sheet.frame_pieces.append(item_at(PIECE, axis, at, low, high, ()))
+                piece = item_at(PIECE, axis, at, low, high, ())
+                piece.before[axis], piece.after[axis] = -beyond, beyond
+                sheet.frame_pieces.append(piece)
         _add_label(sheet, cluster, frame, label_place(sheet, planar, place))
     sheet.items += sheet.frame_pieces
     for cluster, vertex in planar.nesting.empty.items():
         _add_empty(sheet, cluster, vertex)
+
+
+def excess(sheet: Sheet, cluster: int) -> float:
+    """Return how far a frame with a wide line reaches beyond a plain one, to each side."""
+    return max((sheet.graph.clusters[cluster].look.width or STROKE) - STROKE, 0.0) / 2
 
 
 def label_place(sheet: Sheet, planar: NestedPlanarization, place: int) -> tuple[float, float]:
@@ -86,7 +94,7 @@ def _add_label(sheet: Sheet, cluster: int, frame: Item, at: tuple[float, float])
     item = Item(LABEL, [place for place, _ in places], [place for place, _ in places], [(value, value) for _, value in places],
                 before=[-one / 2 for one in size], after=[one / 2 for one in size], host=frame.host)
     for axis, (place, _) in enumerate(places):
-        room = size[axis] / 2 + PAD[axis]
+        room = size[axis] / 2 + PAD[axis] + excess(sheet, cluster)
         sheet.within[axis].extend([(frame.low[axis], place, room), (place, frame.high[axis], room)])
     sheet.frame_labels[cluster] = item
     sheet.items.append(item)

@@ -47,8 +47,8 @@ def framed_shapes(graph: Graph, options: Options, engine: Engine) -> list[Shape]
         raise NoFrames(f"no embedding was found with these vertices on one face outside all frames: {names}")
     if min(len(planar.rotation) for planar in planars) > engine.most_vertices:
         raise NoFrames(f"they take more than {engine.most_vertices} vertices and crossings")
-    ways = [upright(one, options) for one in sorted(directed(planars, options), key=lambda one: one.cost)[:MOST_WAYS]]
-    ways.sort(key=lambda one: one.cost)
+    best = sorted(directed(planars, options), key=lambda one: one.cost)[:MOST_WAYS]
+    ways = sorted(filter(None, (upright(one, options) for one in best)), key=lambda one: one.cost)
     boxed = sorted(filter(None, (again(one, options) for one in ways)), key=lambda one: one.cost)
     found = [*shapes_of(ways[:MOST_SHAPES], engine), *shapes_of(boxed[:MOST_SHAPES], engine)]
     if not found:
@@ -82,9 +82,13 @@ def directed(planars: Iterable[NestedPlanarization], options: Options) -> Iterat
                 continue
 
 
-def upright(way: Directed, options: Options) -> Directed:
-    """Return the directions of the same embedding and outer face in which vertices with ports are upright."""
-    return way if len(way.upright) < 2 else Program(way.planar, (), options.straight).solved(way.outer)
+def upright(way: Directed, options: Options) -> Directed | None:
+    """Return the directions of the same embedding and outer face in which vertices with ports are upright; None if the search for
+    them ends without any."""
+    try:
+        return way if len(way.upright) < 2 else Program(way.planar, (), options.straight).solved(way.outer)
+    except ArithmeticError:
+        return None
 
 
 def again(way: Directed, options: Options) -> Directed | None:

@@ -34,7 +34,7 @@ class Sheet:
     """A shape of a component and its items: `boxes` of the vertices, `pieces` of each edge, `labels` by edge."""
 
     frame_at: Mapping[tuple[int, bool], Item] = MappingProxyType({})  # by edge, and whether at its head: where it ends at a frame
-    halves: list[tuple[int, int, int, int, bool]] = []  # axis, low, end, high: ends in the lower half, or in the upper one
+    port_ends: list[field_items.PortEnd] = []
 
     def __init__(self, shape: Shape, graph: Graph) -> None:
         """Return the sheet of a shape, whose coordinates are still those of its grid."""
@@ -55,7 +55,7 @@ class Sheet:
         self.frame_labels: dict[int, Item] = {}
         self.fields: dict[int, list[field_items.Place]] = {}  # of vertices with fields, and of those with ports, the whole
         self.held = set[int]()  # vertices whose boxes are not fitted to their lines alone
-        self.halves = []
+        self.port_ends = []
         looks = graph.looks.nodes
         self.sizes = [LEAST_DIVIDED if number in graph.fields else size_of(vertex.label, vertex.kind, looks.get(number))
                       for number, vertex in enumerate(graph.vertices)]

@@ -55,22 +55,23 @@ class NestSearch:
             if tail != head:
                 self.edges_at[tail].append(edge)
                 self.edges_at[head].append(edge)
-            elif len({*nesting.at_ports.get((edge, False), ()), *nesting.at_ports.get((edge, True), ())}) > 1:
+            elif tail in nesting.ports:
                 self.loops_at.setdefault(tail, []).append(edge)
 
     # Distances
 
-    def faces_at(self, edge: int, is_head: bool) -> list[int]:
-        """Return the faces at which an end of an edge may be."""
-        corners = self.embedding.free_corners(self.embedding.places_of(edge, is_head))
-        return sorted({self.embedding.face[dart] for dart in corners})
+    def faces_at(self, places: Iterable[int]) -> list[int]:
+        """Return the faces at vertices of the embedding."""
+        return sorted({self.embedding.face[dart] for dart in self.embedding.free_corners(places)})
 
-    def distances(self, edge: int, is_back: bool = False) -> tuple[list[int], list[int]]:
+    def distances(self, edge: int, is_back: bool = False, places: Sequence[int] | None = None) -> tuple[list[int], list[int]]:
         """Return for each face how many darts a shortest path of an edge from its tail, or back from its head, crosses; `FAR` if
-        there is none; and for each face that is reached the innermost cluster around it."""
+        there is none; and for each face that is reached the innermost cluster around it. `places` are the vertices of the
+        embedding at which it may begin, by default all of `places_of`."""
         embedding, parent, passing = self.embedding, self.nesting.parent, self.passing[edge][is_back]
         onward, face, corner, side = embedding.onward, embedding.face, embedding.corner, embedding.side
-        distance, homes, waiting, work = [FAR] * len(corner), [NONE] * len(corner), self.faces_at(edge, is_back), 0
+        waiting = self.faces_at(embedding.places_of(edge, is_back) if places is None else places)
+        distance, homes, work = [FAR] * len(corner), [NONE] * len(corner), 0
         for here in waiting:
             distance[here], homes[here] = 0, self.nesting.home[self.nesting.ends[edge][is_back]]
         for here in waiting:
@@ -116,31 +117,38 @@ class NestSearch:
         """Insert an edge between corners, or, in place of one, -1 - a vertex without edges, and count its crossings."""
         corners = [NONE if one < 0 else one for one in (tail, head)]
         ends = [-1 - one if one < 0 else self.embedding.origin[one] for one in (tail, head)]
-        if ends[0] == ends[1]:
-            raise Apart
         self.embedding.ends[edge] = (ends[0], ends[1])
         self.embedding.insert(edge, corners[0], crossed, corners[1])
         self.cost += self.embedding.crossings_of(edge)
 
-    def corner(self, edge: int, is_head: bool, face: int = NONE, but: int = NONE) -> int:
-        """Return a dart at which an end of an edge may be, with a face on its left, chosen at random, not at a certain site if
-        possible; without a face, any one, or -1 - a vertex without edges."""
-        places = self.embedding.places_of(edge, is_head)
+    def corner(self, places: Sequence[int], face: int = NONE) -> int:
+        """Return a dart that leaves one of some vertices of the embedding with a face on its left, chosen at random; without a
+        face, any one, or -1 - a vertex without edges."""
         found = [dart for dart in self.embedding.free_corners(places) if face in (NONE, self.embedding.face[dart])]
-        others = [dart for dart in found if self.embedding.origin[dart] != but]
-        return one_of(others or found, self.dice) if found else -1 - places[0]
+        return one_of(found, self.dice) if found else -1 - places[0]
 
     def put(self, edge: int) -> None:
-        """Insert an edge along a shortest path between its ends, which have other edges; raise `Apart` if there is none."""
-        goals, passing = self.faces_at(edge, True), self.passing[edge][0]
-        distance, _ = self.distances(edge)
-        least = min((distance[goal] for goal in goals), default=FAR)
-        if least == FAR:
+        """Insert an edge along a shortest path between its ends, which have other edges; raise `Apart` if there is none, unless
+        it crosses no frame, so that it may join any corners. A loop goes from one site to another."""
+        tails, heads = (self.embedding.places_of(edge, is_head) for is_head in (False, True))
+        is_loop = self.nesting.ends[edge][0] == self.nesting.ends[edge][1]
+        ways = []
+        for tail in [[one] for one in tails] if is_loop else [list(tails)]:
+            others = [one for one in heads if one not in tail]
+            distance, goals = self.distances(edge, False, tail)[0], self.faces_at(others)
+            ways.append((min((distance[goal] for goal in goals), default=FAR), tail, others, distance, goals))
+        least = min(way[0] for way in ways)
+        if least == FAR and self.passing[edge][0]:
             raise Apart
+        if least == FAR:
+            self.insert(edge, self.corner(tails), (), self.corner(heads))
+            return
+        best = one_of([number for number, way in enumerate(ways) if way[0] == least], self.dice)
+        _, tail, others, distance, goals = ways[best]
         goal = one_of([goal for goal in goals if distance[goal] == least], self.dice)
-        crossed = self.path(distance, goal, passing)
-        tail = self.corner(edge, False, self.embedding.face[crossed[0]] if crossed else goal)
-        self.insert(edge, tail, crossed, self.corner(edge, True, goal, self.embedding.origin[tail]))
+        crossed = self.path(distance, goal, self.passing[edge][0])
+        start = self.corner(tail, self.embedding.face[crossed[0]] if crossed else goal)
+        self.insert(edge, start, crossed, self.corner(others, goal))
 
     def put_vertex(self, vertex: int, edges: Sequence[int]) -> None:
         """Insert a vertex with some of its edges where this costs least; raise `Apart` if no face is a place for it."""
@@ -154,8 +162,8 @@ class NestSearch:
         place = one_of([face for face, total in zip(places, totals) if total == min(totals)], self.dice)
         edge, is_head = edges[0], ends[edges[0]][1] == vertex
         crossed = self.path(found[0], place, self.passing[edge][not is_head])
-        other = self.corner(edge, not is_head, self.embedding.face[crossed[0]] if crossed else place)
-        own = self.corner(edge, is_head)
+        other = self.corner(self.embedding.places_of(edge, not is_head), self.embedding.face[crossed[0]] if crossed else place)
+        own = self.corner(self.embedding.places_of(edge, is_head))
         if is_head:
             self.insert(edge, other, crossed, own)
         else:
@@ -179,8 +187,7 @@ class NestSearch:
             is_second = not embedding.first and len(placed) == 1
             placed.add(vertex)
             if is_second:
-                self.insert(edges[0], self.corner(edges[0], False), (), self.corner(edges[0], True))
-                for edge in edges[1:]:
+                for edge in edges:
                     self.put(edge)
             elif edges:
                 self.put_vertex(vertex, edges)
@@ -193,13 +200,10 @@ class NestSearch:
         self.count()
 
     def put_loops(self, vertices: Iterable[int]) -> None:
-        """Insert the loops of vertices with ports, but for those for which there are no two sites."""
+        """Insert the loops of vertices with ports, each of which has two sites."""
         for vertex in vertices:
             for edge in self.loops_at.get(vertex, ()):
-                try:
-                    self.put(edge)
-                except Apart:
-                    continue
+                self.put(edge)
 
     def count(self) -> None:
         """Count the crossings anew."""

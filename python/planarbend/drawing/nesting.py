@@ -105,8 +105,8 @@ def _add_ports(found: Nesting, graph: Graph) -> None:
         if is_port(end):
             ports.setdefault(found.ends[edge][is_head], []).append(end)
     loops = {tail for tail, head in found.ends if tail == head}
-    for vertex, ends in ports.items():
-        found.ports[vertex] = Sites(graph.fields.get(vertex, Field()), ends, vertex in loops)
+    for vertex, wanted in ports.items():
+        found.ports[vertex] = Sites(graph.fields.get(vertex, Field()), wanted, vertex in loops)
     for edge, ends in enumerate(found.ends):
         for is_head in (False, True):
             if ends[is_head] in found.ports:

@@ -2,6 +2,7 @@
 from __future__ import annotations
 
 import itertools
+import math
 from collections.abc import Iterable, Iterator
 
 from planarbend.drawing.nest_search import Apart, NestSearch
@@ -14,10 +15,17 @@ MOST_WORK = 24_000  # tries times darts
 SAVED = 1e-6
 
 
-def price_of(planar: NestedPlanarization) -> float:
-    """Return the cost of the directions of an embedding with its longest outer face, with vertices as boxes."""
-    program = Program(planar, range(len(planar.nesting.home)))
-    return program.solved(outer_faces(planar)[0], is_free=True).cost
+def price_of(planar: NestedPlanarization, most: float = math.inf) -> float:
+    """Return the cost of the directions of an embedding with its longest outer face, with vertices as boxes and those with ports
+    upright; or a lower bound of the cost that is not less than `most`."""
+    program, outer = Program(planar, range(len(planar.nesting.home))), outer_faces(planar)[0]
+    bound = program.solved(outer, is_free=True).cost
+    if bound >= most or len(program.upright) < 2:
+        return bound
+    try:
+        return program.solved(outer).cost
+    except ArithmeticError:  # none was found
+        return math.inf
 
 
 def choices(search: NestSearch, edge: int) -> Iterator[dict[tuple[int, bool], list[int]]]:
@@ -63,7 +71,7 @@ def improved(search: NestSearch, planar: NestedPlanarization, price: float) -> N
             if is_better:
                 left -= 1
                 found = search.embedding.nested()
-                new = price_of(found)
+                new = price_of(found, price - SAVED)
                 is_better = new < price - SAVED
             if is_better:
                 best, price = found, new

@@ -13,6 +13,7 @@ from fractions import Fraction
 from planarbend.ports import End, Field, Side
 
 SIDES = (Side.EAST, Side.NORTH, Side.WEST, Side.SOUTH)  # by direction, counter-clockwise
+ENDS = ((Side.WEST, Side.EAST), (Side.NORTH, Side.SOUTH))  # of each axis
 Rectangle = tuple[tuple[Fraction, Fraction], tuple[Fraction, Fraction]]  # from left to right, and from top to bottom
 
 
@@ -42,20 +43,34 @@ def rectangles(whole: Field, at: Rectangle = ((Fraction(0), Fraction(1)),) * 2) 
         yield from rectangles(one, ((left, right), (top, bottom)))
 
 
+def rim_of(whole: Field, end: End) -> frozenset[Side]:
+    """Return the sides at which the field of an end is at the border of the whole."""
+    return next(sides for place, (_, sides) in enumerate(whole.walk()) if place == (end.field or 0))
+
+
+def nearest(whole: Field, end: End) -> frozenset[Side]:
+    """Return the sides from which the field of an end is reached over the fewest others."""
+    places, passed = list(rectangles(whole)), dict.fromkeys(Side, 0)
+    own = places[end.field or 0]
+    for (one, _), at in zip(whole.walk(), places):
+        for axis, (before, after) in enumerate(ENDS):
+            if not one.fields and at[1 - axis][0] < own[1 - axis][1] and own[1 - axis][0] < at[1 - axis][1]:
+                passed[before] += at[axis][1] <= own[axis][0]
+                passed[after] += at[axis][0] >= own[axis][1]
+    return frozenset(side for side in Side if passed[side] == min(passed.values()))
+
+
 def sides_of(whole: Field, end: End) -> frozenset[Side]:
     """Return the sides at which an end may be: those of its compass point; or those at which its field is at the border of the
-    whole; or all."""
-    if end.compass is not None:
-        return end.compass.sides
-    rim = next(sides for place, (_, sides) in enumerate(whole.walk()) if place == (end.field or 0))
-    return rim or frozenset(Side)
+    whole; or the nearest ones."""
+    return rim_of(whole, end) or nearest(whole, end) if end.compass is None else end.compass.sides
 
 
 def halves_of(end: End, axis: int) -> tuple[bool, bool]:
     """Return whether an end has to be in the lower or the higher half of a side along an axis."""
     if end.compass is None or len(end.compass.sides) == 1:
         return False, False
-    low, high = ((Side.WEST, Side.EAST), (Side.NORTH, Side.SOUTH))[axis]
+    low, high = ENDS[axis]
     return low in end.compass.sides, high in end.compass.sides
 
 

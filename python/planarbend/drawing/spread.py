@@ -10,7 +10,7 @@ import math
 
 from planarbend.drawing.constraints import GAP, apart, lengths_of, reach_of
 from planarbend.drawing.extents import BOX, LABEL
-from planarbend.drawing.field_items import hold_halves, in_order
+from planarbend.drawing.field_items import centre_ends, hold_halves, in_order
 from planarbend.drawing.frame_items import place_frame_labels
 from planarbend.drawing.items import Sheet
 from planarbend.drawing.solver import Solver
@@ -27,7 +27,7 @@ def spread(sheet: Sheet) -> None:
     """Settle all coordinates."""
     for step in range(PASSES):
         settle_both(sheet, step)
-    for _ in range(MOST_HELD + MOST_HELD * bool(sheet.halves)):
+    for _ in range(MOST_HELD + MOST_HELD * bool(sheet.port_ends)):
         if not hold_halves(sheet) and not hold_labels(sheet):
             return
         settle_both(sheet, PASSES - 1)
@@ -127,6 +127,7 @@ def centre(sheet: Sheet, axis: int, solver: Solver) -> None:
                 wanted = [(solver.value[sheet.boxes[number].low[axis]] + solver.value[sheet.boxes[number].high[axis]]) / 2
                           for number in numbers]
                 solver.move_to(line, sum(wanted) / len(wanted))
+        centre_ends(sheet, axis, solver)
         for number, lines in sheet.at_box[axis].items():
             if number in sheet.held:
                 continue

@@ -178,7 +178,7 @@ class Program:
         return Directed(self.planar, outer, float(found.fun), directions, windings, self.wraps, turned)
 
 
-    def turned_upright(self, equal: Sequence[int], most: Sequence[int]) -> list[int]:
+    def turned_upright(self, equal: Sequence[float], most: Sequence[float]) -> list[int]:
         """Return how much each vertex with ports is turned, a multiple of 4, by an integer program that ends after `MOST_NODES`
         nodes."""
         count, upright = self.equal.shape[1], self.upright

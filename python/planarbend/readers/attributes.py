@@ -24,7 +24,7 @@ CLUSTER_KEYS = ("style", "color", "fillcolor", "pencolor", "bgcolor", "fontcolor
 COLOURS = ("color", "fillcolor", "fontcolor", "bgcolor", "pencolor")
 NO_COLOUR = Colour("none")
 PLAIN_FILL = Colour("lightgrey")  # of a filled node without a colour
-BOLD = 3.2  # pixels, the width of a bold line
+BOLD, BOLD_FRAME = 3.2, 2.2  # pixels, the widths of bold lines
 FONTS = (4.0, 400.0)  # pixels, the least and the greatest size of a font that is taken
 WIDEST = 60.0  # pixels, of a line
 WORDS = re.compile(r"([\w-]+)(?:\(([^)]*)\))?")
@@ -90,7 +90,7 @@ class Attributes:
         styles, plain, behind = styles_of(values), self.colour(values, "color"), self.colour(values, "bgcolor")
         fill = self.colour(values, "fillcolor") or plain if "filled" in styles else None
         line = NO_COLOUR if values["peripheries"] == "0" else self.colour(values, "pencolor") or plain
-        found = vars_of(self.look(values, names), colour=line,
+        found = vars_of(self.look(values, names, BOLD_FRAME), colour=line,
                         fill=fill or behind or (PLAIN_FILL if "filled" in styles else None))
         across = next((one for one in Across if one.value == values["labeljust"]), Across.CENTRE)
         return ClusterLook(**found, is_rounded="rounded" in styles, is_label_below=values["labelloc"] == "b", across=across)
@@ -99,13 +99,13 @@ class Attributes:
         """Return the look of the whole."""
         return GraphLook(label, self.colour(values, "bgcolor"), self.font(values))
 
-    def look(self, values: Values, names: dict[str, str]) -> Look:
-        """Return what nodes and edges share, but for their colours."""
+    def look(self, values: Values, names: dict[str, str], bold: float = BOLD) -> Look:
+        """Return what nodes, edges and clusters share, but for their colours; `bold` is the width of bold lines."""
         styles = styles_of(values)
         width = number_of(values.get("penwidth", "") or styles.get("setlinewidth", ""), 0.0, WIDEST)
         dash = next((dash for dash in Dash if dash.value in styles), None)
         link = texts.plain(values.get("URL", "") or values.get("href", ""), names)
-        return Look(width=BOLD if width is None and "bold" in styles else width, dash=dash, is_visible="invis" not in styles,
+        return Look(width=bold if width is None and "bold" in styles else width, dash=dash, is_visible="invis" not in styles,
                     font=self.font(values), link=link, tooltip=texts.plain(values.get("tooltip", ""), names))
 
     def warn(self) -> None:
