@@ -51,7 +51,7 @@ def version_text() -> bytes:
     since kits with the same number and logic prove the same; if there is no `rt`, the text of checks/start."""
     if not shutil.which("rt"):
         return read(f"{ROOT}/checks/start/texts/version")
-    number = re.search(r"^## ([0-9.]+), ", read(f"{ROOT}/CHANGELOG.md").decode(), re.MULTILINE)
+    number = re.search(r"^(?:To become |## \[)(\d+(?:\.\d+)+)", read(f"{ROOT}/CHANGELOG.md").decode(), re.MULTILINE)
     toolchain = subprocess.run(["rt", "version"], stdout=subprocess.PIPE, text=True, check=True).stdout.strip()
     kit = re.sub(r"^(rattle-kit-\d+)[a-z]*", r"\1", toolchain)
     return f"planarbend {number[1] if number else ''}\ntoolchain {kit}\n".encode()

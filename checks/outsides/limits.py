@@ -62,7 +62,8 @@ def check_threads(machine: Machine) -> None:
 
 def is_in_use(user: int) -> bool:
     """Whether a process of this user runs."""
-    return bool(programs.text_of(["find", "/proc", "-maxdepth", "1", "-user", str(user)]))
+    words = ["find", "/proc", "-maxdepth", "1", "-user", str(user)]  # which fails if a process ends at the same time
+    return bool(subprocess.run(words, stdout=subprocess.PIPE, stderr=subprocess.DEVNULL).stdout)
 
 
 # ---- Limits on address space, in steps from too little to enough.
