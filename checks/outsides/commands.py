@@ -100,13 +100,12 @@ def check_check(machine: Machine) -> None:
         machine.faulty("check", name, ["check", *words], 2, text)
 
 
-def says(machine: Machine, name: str, words: list[Any], out: bytes, status: int, err: str = "", pause: float = 0,
-         **how: Any) -> None:
+def says(machine: Machine, name: str, words: list[Any], out: bytes, status: int, err: str = "", **how: Any) -> None:
     """A run with this output, this status and this text on standard error; with a pause, it is given its input byte by
     byte."""
     with machine.case("check", name):
         words = ["check", *words]
-        ran = machine.fed(words, how["given"], pause) if pause else machine.ran(words, **how)
+        ran = machine.fed(words, how["given"], how["pause"]) if "pause" in how else machine.ran(words, **how)
         assert ran == (status, out, err), f"{ran}; not {Ran(status, out, err)}"
 
 
