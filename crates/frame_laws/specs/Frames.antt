@@ -65,17 +65,9 @@ pub record IsFrame (p : PlaneModel) (given : GivenModel) (inside : FaceSet) : Ty
   pub corners : sum_below (darts p) (λ d.
       if inside (face_at p d) && (if inside (face_at p (reverse_dart p d)) then false else true) && (given_inside p given inside (head p d) == 1) then 1 else 0) ≡ 4
 
--- one set of faces lies inside another
-abbrev pub LiesIn : PlaneModel → FaceSet → FaceSet → Type 0
-LiesIn p inside other = (f : ℕ) → f < p.faces → inside f ≡ true → other f ≡ true
-
-abbrev pub LiesOutside : PlaneModel → FaceSet → FaceSet → Type 0
-LiesOutside p inside other = (f : ℕ) → f < p.faces → inside f ≡ true → other f ≡ false
-
--- frames are disjoint or nested, and have no vertex in common
+-- frames have no vertex in common, so they are disjoint or nested
 pub record AreApart (p : PlaneModel) (inside other : FaceSet) : Type 0 where
   pub rims : (v : ℕ) → IsOnRim p inside v → ¬ IsOnRim p other v
-  pub nested : LiesIn p inside other ⊎ LiesIn p other inside ⊎ LiesOutside p inside other
 
 -- just points and so many frames are given
 pub record AreParts (p : PlaneModel) (given : GivenModel) (frames : ℕ) (inside : ℕ → FaceSet) : Type 0 where

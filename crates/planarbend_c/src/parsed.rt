@@ -1,6 +1,6 @@
 //! Records that are parsed.
 
-ghost use Rattle.std.specs.Prelude.{◌≡◌, ◌<◌, length, IfOk, IfErr};
+ghost use Rattle.std.specs.Prelude.{◌≡◌, ◌≢◌, ◌<◌, length, IfOk, IfErr};
 ghost use Rattle.planar_code.specs.declared.TheConstants.{MAX_ENTRIES};
 ghost use Rattle.answers.specs.Kept.{IsKeptPlane, IsUnkept};
 ghost use Rattle.answers.specs.Steps.{IsRefused, IsShaped};
@@ -122,7 +122,8 @@ fn parsed_entries(alloc: Global, entries: &[u16]) -> Result<Parsed, Outcome>
 /// The outcome for more entries than a record can have.
 fn fault_of_many(entries: &[u16]) -> Outcome
     requires { MAX_ENTRIES < length entries.now }
-    ensures { IsUnparsed (Entries entries.now) result }
+    ensures fault { IsUnparsed (Entries entries.now) result }
+    ensures not_memory { result ≢ Outcome.Memory }
 {
     if usize::from(entries[0]) > MAX_VERTICES {
         Outcome::Large
