@@ -33,6 +33,7 @@ struct Seen {
 }
 
 impl Seen {
+    /// Counts of nothing, of a run that is held or not.
     fn nothing(is_held: bool) -> Seen {
         Seen {
             read: AtomicU32::new(0),

@@ -18,6 +18,7 @@ struct Passed {
 }
 
 impl Passed {
+    /// Counts of a lane that has passed no gate.
     fn never() -> Passed {
         Passed {
             read: AtomicU32::new(0),
@@ -27,6 +28,7 @@ impl Passed {
         }
     }
 
+    /// How often a stage has passed its gate.
     fn of(&self, stage: Stage) -> &AtomicU32 {
         match stage {
             Stage::Read => &self.read,
@@ -36,6 +38,7 @@ impl Passed {
         }
     }
 
+    /// How often each stage has passed its gate, in the order of the stages.
     fn counts(&self) -> [u32; 4] {
         [
             self.read.load(Ordering::SeqCst),

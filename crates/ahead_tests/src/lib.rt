@@ -8,4 +8,16 @@ mod by_lane;
 #[cfg(test)]
 mod commanded;
 #[cfg(test)]
+mod ends;
+#[cfg(test)]
+mod fans;
+#[cfg(test)]
+mod late;
+#[cfg(test)]
+mod links;
+#[cfg(test)]
+mod memory;
+#[cfg(test)]
+mod tickets;
+#[cfg(test)]
 mod waiting;

@@ -33,6 +33,7 @@ struct Lines {
 }
 
 impl Lines {
+    /// No lines, and none are late.
     fn none() -> Lines {
         Lines {
             count: Mutex::new(0),

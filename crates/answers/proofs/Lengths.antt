@@ -5,12 +5,12 @@ use Rattle.std.proofs.lemmas.List.Sums.{sum_by_push}
 use Rattle.faces.specs.Planes.{PlaneModel}
 use Rattle.ortho_rep.specs.declared.points.Point.{Point}
 use Rattle.ortho_rep.specs.Shapes.{ShapeModel}
-use Rattle.ortho_rep.specs.Points.{PointsModel}
+use Rattle.ortho_rep.specs.Points.{PointsModel, AreBelow, IsBelow}
 use Rattle.ortho_rep.specs.Edges.{is_lesser}
 use Rattle.drawing_check.specs.Paths.{path_along}
 use Rattle.drawing_check.proofs.Routing.{paths_below, paths_below-more, paths_below-kept}
 use Rattle.drawing_laws.proofs.Lowest.{laid_below}
-use Rattle.entries.specs.Lengths.{path_length, IsQuick, IsNoLonger, IsNear, AreBelow, IsBelow}
+use Rattle.reports.specs.Lengths.{path_length, IsQuick, IsNoLonger, IsNear}
 
 -- how long the edges are whose lesser darts are below n
 abbrev pub length_below : PlaneModel → PointsModel → ℕ → ℕ

@@ -1,2 +1,5 @@
 pub mod Lengths
 pub mod Straight
+pub mod Remaining
+pub mod WideOnly
+pub mod DrawnAnswers

@@ -2,8 +2,8 @@
 use Rattle.faces.specs.Planes.{PlaneModel}
 use Rattle.ortho_rep.specs.Shapes.{ShapeModel}
 use Rattle.ortho_rep.specs.Points.{PointsModel}
-use Rattle.entries.specs.Drawn.{IsDrawingOf}
-use Rattle.entries.specs.Lengths.{IsNear, IsNoLonger}
+use Rattle.reports.specs.Drawn.{IsDrawingOf}
+use Rattle.reports.specs.Lengths.{IsNear, IsNoLonger}
 
 -- points and corners for the whole plane, which draw the shape
 pub record IsDrawing (plane : PlaneModel) (shape : ShapeModel) (points : PointsModel) : Type 0 where

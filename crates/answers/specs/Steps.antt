@@ -5,8 +5,8 @@ use Rattle.common.specs.declared.choice.Choice.{Choice}
 use Rattle.faces.specs.Planes.{PlaneModel, IsPlane, HasGreatestOuter}
 use Rattle.ortho_rep.specs.Best.{IsChosen}
 use Rattle.ortho_rep.specs.Points.{PointsModel}
-use Rattle.entries.specs.declared.answer.Answer.{Answer}
-use Rattle.entries.specs.declared.answer.Answer.TheVariants.{Laid, Refused, NoMemory}
+use Rattle.reports.specs.declared.answer.Answer.{Answer}
+use Rattle.reports.specs.declared.answer.Answer.TheVariants.{Laid, Refused, NoMemory}
 use Rattle.embedding.specs.declared.faults.ReadFault.{ReadFault}
 use Rattle.embedding.specs.declared.faults.ReadFault.TheVariants.{Rule, Memory}
 use Rattle.answers.specs.declared.shaped_plane.ShapedPlane.{ShapedPlane}

@@ -1,4 +1,5 @@
 //! Records on their way through a lane.
+ghost use Rattle.answers.specs.Spelt.{IsSpelt};
 ghost use Rattle.answers.specs.Tasks.{about_in};
 
 use crate::carried::Carried;
@@ -9,7 +10,7 @@ use lanes::Numbered;
 
 /// A record of a file between two stages of a lane.
 ///
-/// It holds which record it is, what the lane is for, what is carried of the record, and what was made of it so far.
+/// It holds which record it is, what the run is for, what is carried of the record, and what was made of it so far.
 /// Its type guarantees that it was made of this record.
 #[derive(Drop)]
 pub struct Item<P: Purpose, R: Carried, S: State> {
@@ -17,7 +18,7 @@ pub struct Item<P: Purpose, R: Carried, S: State> {
     pub purpose: P,
     pub rec: R,
     pub state: S,
-    pub ghost known: { ∥ P.knows (about_in task (R.bytes rec)) ∥₁ },
+    pub ghost known: { ∥ P.accepts task.file task.ordinal (R.bytes rec) × IsSpelt (R.bytes rec) ∥₁ },
     pub ghost made: { ∥ S.describes (about_in task (R.bytes rec)) state ∥₁ },
 }
 

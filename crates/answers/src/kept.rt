@@ -1,16 +1,16 @@
 //! Records that are answered one after another on the caller's thread, in memory that is kept.
 
-ghost use Rattle.std.specs.Prelude.{◌≡◌, IfOk, IfErr};
+ghost use Rattle.std.specs.Prelude.{◌≡◌, ℕ, List, IfOk, IfErr};
 ghost use Rattle.planar_code.specs.Stream.{lists_of};
-ghost use Rattle.entries.specs.declared.cause.Cause.TheVariants.{Wide};
-ghost use Rattle.entries.specs.Drawn.{IsCause};
+ghost use Rattle.reports.specs.declared.cause.Cause.TheVariants.{Wide};
+ghost use Rattle.reports.specs.Drawn.{IsCause};
 ghost use Rattle.answers.specs.Drawings.{IsDrawing};
-ghost use Rattle.answers.specs.Kept.{IsKeptPlane, IsUnkept, AreDrawnStraight, KeepsAsked};
+ghost use Rattle.answers.specs.Kept.{IsKeptPlane, AreDrawnStraight, KeepsAsked};
 ghost use Rattle.common.specs.declared.choice.Choice.{Choice};
 ghost use Rattle.conditions.specs.declared.conditions.Conditions.{Conditions};
-ghost use Rattle.conditions.specs.Chosen.{IsKept};
-ghost use Rattle.entries.specs.Lengths.{IsQuick};
-ghost use Rattle.answers.specs.Steps.{IsRefused, IsShaped};
+ghost use Rattle.conditions.specs.Chosen.{IsKeepFault, IsKept};
+ghost use Rattle.reports.specs.Lengths.{IsQuick};
+ghost use Rattle.answers.specs.Steps.{IsEmbedded, IsShaped, IsTracedPlane};
 
 use crate::drawing::{DrawScratch, draw, points_of};
 use crate::kept_plane::KeptPlane;
@@ -22,9 +22,10 @@ use common::{Choice, DrawingKind};
 use compact::CompactFault;
 use conditions::{Conditions, KeepFault};
 use drawing_check::Drawing;
-use embedding::ReadFault;
+use embedding::{ReadFault, WideRecord};
+use faces::Plane;
 use ortho_rep::Points;
-use planar_code::{Record, WideRecord};
+use planar_code::Record;
 use std::alloc::{AllocError, Global};
 
 /// The buffers of all stages, reused for the next record.
@@ -45,45 +46,42 @@ impl RecordScratch {
         }
     }
 
-    /// The plane of a record with the chosen outer face, a least shape of it, and prices that prove it.
+    /// The plane of a record, whose greatest face is the outer one.
+    ///
+    /// # Errors
+    ///
+    /// `Rule` with the first rule that the record breaks; `Memory` if it breaks none, but memory runs out.
+    pub fn embed(&mut self, alloc: Global, rec: &Record) -> Result<Plane, ReadFault>
+        ensures { IsEmbedded (lists_of rec.now) result }
+    {
+        embed(alloc, &mut self.planes, rec)
+    }
+
+    /// The plane of a wide record, exactly as [`RecordScratch::embed`] of a record.
+    pub fn embed_wide(&mut self, alloc: Global, rec: &WideRecord) -> Result<Plane, ReadFault>
+        ensures { IsEmbedded (lists_of rec.now) result }
+    {
+        embed_wide(alloc, &mut self.planes, rec)
+    }
+
+    /// The plane with the chosen outer face, a least shape of it, and prices that prove it.
     ///
     /// The shape is for this kind of drawing, which the plane names. Nothing is drawn.
     ///
     /// # Errors
     ///
-    /// `Rule` with the first rule that the record breaks; `Memory` if it breaks none, but memory runs out for the plane
-    /// or its shape.
+    /// That of the plane; `Memory` if memory runs out for its shape.
     pub fn shape(
         &mut self,
         alloc: Global,
-        rec: &Record,
+        plane: Result<Plane, ReadFault>,
         choice: Choice,
         drawing_kind: DrawingKind,
     ) -> Result<ShapedPlane, ReadFault>
-        ensures shaped { IsShaped choice (lists_of rec.now) result }
+        ensures shaped { (g : List (List ℕ)) → IsEmbedded g plane → IsShaped choice g result }
         ensures kind { IfOk result (λ shaped_plane. shaped_plane.drawing_kind ≡ drawing_kind) }
     {
-        let plane = embed(alloc, &mut self.planes, rec);
         shape(alloc, &mut self.shapes, plane, choice, drawing_kind)
-    }
-
-    /// The plane of a wide record with a least shape, exactly as [`RecordScratch::shape`] of a record.
-    ///
-    /// # Errors
-    ///
-    /// As there.
-    pub fn shape_wide(
-        &mut self,
-        alloc: Global,
-        rec: &WideRecord,
-        choice: Choice,
-        drawing_kind: DrawingKind,
-    ) -> Result<ShapedPlane, ReadFault>
-        ensures shaped { IsShaped choice (lists_of rec.now) result }
-        ensures kind { IfOk result (λ shaped_plane. shaped_plane.drawing_kind ≡ drawing_kind) }
-    {
-        let embedded = embed_wide(alloc, &mut self.planes, rec);
-        shape(alloc, &mut self.shapes, embedded, choice, drawing_kind)
     }
 
     /// Returns points that draw a shaped plane: a drawing of the kind that its shape is for.
@@ -111,7 +109,7 @@ impl RecordScratch {
         )
     }
 
-    /// The plane of a record, a least shape of it that keeps the conditions, and prices that prove it.
+    /// The plane, a least shape of it that keeps the conditions, and prices that prove it.
     ///
     /// The outer face is the chosen one of those that may be outside. `First` is the face with the most darts, and
     /// `Best` the one that minimises bends; among equals both are the one with the least number, which has the least
@@ -119,60 +117,22 @@ impl RecordScratch {
     ///
     /// # Errors
     ///
-    /// The outer one as of [`RecordScratch::shape`], if the record has no plane; the inner one if its plane has no such
-    /// shape.
+    /// Why the plane has no such shape; `Memory` if memory runs out.
     pub fn shape_keeping(
         &mut self,
         alloc: Global,
-        rec: &Record,
+        plane: Plane,
         conditions: &Conditions<'_>,
         choice: Choice,
         drawing_kind: DrawingKind,
-    ) -> Result<Result<KeptPlane, KeepFault>, ReadFault>
-        ensures kept { IfOk result (λ made. IfOk made (IsKeptPlane conditions.now choice (lists_of rec.now))) }
-        ensures kind { IfOk result (λ made. IfOk made (λ kept. kept.drawing_kind ≡ drawing_kind)) }
-        ensures unkept { IfOk result (λ made. IfErr made (IsUnkept conditions.now choice (lists_of rec.now))) }
-        ensures refused { IfErr result (IsRefused (lists_of rec.now)) }
+    ) -> Result<KeptPlane, KeepFault>
+        ensures kept { IfOk result (λ made. (g : List (List ℕ))
+            → IsTracedPlane g plane → IsKeptPlane conditions.now choice g made) }
+        ensures kind { IfOk result (λ made. made.drawing_kind ≡ drawing_kind) }
+        ensures fault { IfErr result (IsKeepFault conditions.now choice plane) }
     {
-        let plane = embed(alloc, &mut self.planes, rec)?;
-        Ok(with_shape_keeping(
-            alloc,
-            &mut self.shapes,
-            plane,
-            conditions,
-            choice,
-            drawing_kind,
-        ))
-    }
-
-    /// The plane of a wide record with a shape that keeps the conditions, exactly as [`RecordScratch::shape_keeping`] of a
-    /// record.
-    ///
-    /// # Errors
-    ///
-    /// As there.
-    pub fn shape_wide_keeping(
-        &mut self,
-        alloc: Global,
-        rec: &WideRecord,
-        conditions: &Conditions<'_>,
-        choice: Choice,
-        drawing_kind: DrawingKind,
-    ) -> Result<Result<KeptPlane, KeepFault>, ReadFault>
-        ensures kept { IfOk result (λ made. IfOk made (IsKeptPlane conditions.now choice (lists_of rec.now))) }
-        ensures kind { IfOk result (λ made. IfOk made (λ kept. kept.drawing_kind ≡ drawing_kind)) }
-        ensures unkept { IfOk result (λ made. IfErr made (IsUnkept conditions.now choice (lists_of rec.now))) }
-        ensures refused { IfErr result (IsRefused (lists_of rec.now)) }
-    {
-        let plane = embed_wide(alloc, &mut self.planes, rec)?;
-        Ok(with_shape_keeping(
-            alloc,
-            &mut self.shapes,
-            plane,
-            conditions,
-            choice,
-            drawing_kind,
-        ))
+        let shapes = &mut self.shapes;
+        with_shape_keeping(alloc, shapes, plane, conditions, choice, drawing_kind)
     }
 
     /// A drawing, of the kind that the plane names, of a shape that keeps conditions.

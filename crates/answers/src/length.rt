@@ -1,12 +1,12 @@
 //! How long the edges of a drawing are, and how far it reaches.
 
 ghost use Rattle.std.specs.Prelude.{◌≡◌, ◌≤◌, ◌↔◌, All, IfSome, IsTrue, length};
-ghost use Rattle.drawing_check.specs.Walks.{distance};
 ghost use Rattle.drawing_check.specs.Draws.{HasPoints};
 ghost use Rattle.drawing_check.specs.Routes.{path_of};
-ghost use Rattle.entries.specs.Lengths.{AreBelow, IsBelow, edge_length, path_length};
+ghost use Rattle.reports.specs.Lengths.{edge_length, path_length};
+ghost use Rattle.ortho_rep.specs.Points.{AreBelow, IsBelow};
 
-use drawing_check::{Route, route_of};
+use drawing_check::{Route, distance, route_of};
 use faces::Plane;
 use ortho_rep::{Point, Points};
 
@@ -57,13 +57,6 @@ fn path_length(route: &Route<'_>) -> Option<u64>
         from = *corner;
     }
     length.checked_add(distance(from, route.end))
-}
-
-/// How many steps lead from one point to another.
-fn distance(from: Point, to: Point) -> u64
-    ensures { result ≡ distance from to }
-{
-    u64::from(from.x.abs_diff(to.x)) + u64::from(from.y.abs_diff(to.y))
 }
 
 /// Whether all coordinates of the vertices and of the corners of all `edges` edges are less than a limit.

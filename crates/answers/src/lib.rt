@@ -3,10 +3,13 @@
 //! what it gives that it is the record's.
 #![tactic(auto)]
 
+mod answering;
 mod carried;
+mod causes;
+mod draw_stage;
 mod drawing;
-mod embedded;
-mod framed;
+mod drawn_answers;
+mod embed_stage;
 mod holder;
 mod item;
 mod kept;
@@ -14,7 +17,7 @@ mod kept_plane;
 mod length;
 mod purpose;
 mod scratch;
-mod shaped;
+mod shape_stage;
 mod shaped_plane;
 mod shaping;
 mod stages;
@@ -22,18 +25,21 @@ mod state;
 mod task;
 mod wide;
 
+pub use answering::Answering;
 pub use carried::Carried;
+pub use causes::{least_points_are_in_grid, only_wide, remaining_causes};
+pub use draw_stage::Shaped;
 pub use drawing::DrawScratch;
-pub use embedded::Embedded;
-pub use entries::{Answer, Cause, Entry};
-pub use framed::Framed;
+pub use drawn_answers::{answers_are_drawn, laid_answers_are_drawn, no_cause_is_shown};
+pub use embed_stage::Framed;
 pub use holder::{Holder, Shell};
 pub use item::Item;
 pub use kept::RecordScratch;
 pub use kept_plane::KeptPlane;
-pub use purpose::{Keeping, Purpose};
-pub use scratch::{EmbedScratch, StageScratch};
-pub use shaped::Shaped;
+pub use purpose::{KeepEntries, Purpose};
+pub use reports::{Answer, Cause, Entry};
+pub use scratch::EmbedScratch;
+pub use shape_stage::Embedded;
 pub use shaped_plane::ShapedPlane;
 pub use shaping::ShapeScratch;
 pub use stages::{answer, find_points};

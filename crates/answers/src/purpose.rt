@@ -1,7 +1,8 @@
-//! What lanes are for.
-ghost use Rattle.std.specs.Prelude.{◌≡◌, ⊤};
+//! What the lanes of a run give for the records of its files.
+ghost use Rattle.std.specs.Prelude.{◌≡◌, ℕ, List, ⊤};
 ghost use Rattle.planar_code.specs.Stream.{lists_of};
-ghost use Rattle.lanes.specs.Notes.{About};
+ghost use Rattle.streams.specs.declared.frames.Mark.{Mark};
+ghost use Rattle.answers.specs.Spelt.{IsSpelt};
 ghost use Rattle.answers.specs.Steps.{IsShaped};
 ghost use Rattle.answers.specs.Tasks.{about_in};
 
@@ -11,23 +12,38 @@ use crate::shaped_plane::ShapedPlane;
 use crate::stages::answer_with;
 use crate::task::Task;
 use embedding::ReadFault;
-use entries::Entry;
 use lanes::Numbered;
 use planar_code::Record;
+use reports::Entry;
 use std::alloc::Global;
+use streams::SourceEnd;
 
-/// The purpose for which a lane answers records: what it carries of each record, and which entry it gives for it.
-pub trait Purpose: Drop + Send {
+/// The purpose of a run: what its lanes carry of each record, and what they give for it and for the end of a file.
+pub trait Purpose: Drop + Send + Sync {
     /// What is carried of a record once its graph is read.
     type Carried: Carried;
 
-    /// What the lane gives for a record.
+    /// What a lane gives for a record.
     type Entry: Numbered;
 
-    /// What is known of each record from the start.
-    ghost knows: { About → Type 0 };
+    /// What is known of the end of a file besides its mark.
+    type End: Drop + Send;
 
-    /// What the lane gives for a record with this shaped plane, or without one. The scratch may take back lists that it
+    // Which records it may be passed: of which file, and at which place there.
+    ghost accepts: { ℕ → ℕ → List ℕ → Type 0 };
+
+    // Which ends it may be passed: of which file, with how many records and which mark.
+    ghost ends: { ℕ → ℕ → Mark → Type 0 };
+
+    /// The same purpose, for one record.
+    fn of_record(&self) -> Self
+        ensures { result ≡ self.now };
+
+    /// What is known of this end of a file besides its mark.
+    fn end(file: u32, end: SourceEnd) -> Self::End
+        requires { ends file end.count end.mark };
+
+    /// What a lane gives for a record with this shaped plane, or without one. The scratch may take back lists that it
     /// does not keep.
     fn finish(
         self,
@@ -37,21 +53,31 @@ pub trait Purpose: Drop + Send {
         rec: Self::Carried,
         shaped_plane: Result<ShapedPlane, ReadFault>,
     ) -> Self::Entry
-        requires known { ∥ knows (about_in task (Self.Carried.bytes rec)) ∥₁ }
+        requires known { ∥ accepts task.file task.ordinal (Self.Carried.bytes rec) × IsSpelt (Self.Carried.bytes rec) ∥₁ }
         requires shaped { ∥ IsShaped task.choice (lists_of (Self.Carried.bytes rec)) shaped_plane ∥₁ }
         ensures { Self.Entry.about result ≡ about_in task (Self.Carried.bytes rec) };
 }
 
-/// The `Purpose` of lanes whose entries are kept whole, with their records.
+/// The `Purpose` of runs that return books: lanes give whole entries, with their records.
 #[derive(Clone, Copy, Debug)]
-pub struct Keeping;
+pub struct KeepEntries;
 
-impl Purpose for Keeping {
+impl Purpose for KeepEntries {
     type Carried = Record;
 
     type Entry = Entry;
 
-    ghost knows = { λ _. ⊤ };
+    type End = ();
+
+    ghost accepts = { λ _ _ _. ⊤ };
+
+    ghost ends = { λ _ _ _. ⊤ };
+
+    fn of_record(&self) -> KeepEntries {
+        KeepEntries
+    }
+
+    fn end(_file: u32, _end: SourceEnd) {}
 
     fn finish(
         self,

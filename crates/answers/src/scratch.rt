@@ -4,10 +4,10 @@ ghost use Rattle.answers.specs.Steps.{IsEmbedded};
 
 use crate::drawing::DrawScratch;
 use crate::holder::{Holder, Shell};
-use crate::shaping::{Passages, ShapeScratch};
+use crate::shaping::{ReturnQueues, ShapeScratch};
 use embedding::ReadFault;
 use faces::Plane;
-use lanes::{MOST_IN_LISTS, ReturnQueue};
+use lanes::{LaneScratch, MOST_IN_LISTS, ReturnQueue};
 use std::alloc::{AllocError, Global};
 use std::sync::Wait;
 
@@ -59,35 +59,29 @@ impl EmbedScratch {
     }
 }
 
-/// The scratches of the stages of a lane, joined by queues on which each stage returns buffers to the one before.
-#[derive(Drop)]
-pub struct StageScratch {
-    pub embed: EmbedScratch,
-    pub shape: ShapeScratch,
-    pub draw: DrawScratch,
-}
-
-impl StageScratch {
-    /// New, empty scratches of the stages of a lane whose links have room for `capacity` messages.
-    ///
-    /// A holder is in transit in one link, alone or in a list, in use in a stage, or on its return.
-    ///
-    /// # Errors
-    ///
-    /// `AllocError` if there is no memory for the channels by which holders return.
-    pub fn new(alloc: Global, capacity: u32) -> Result<StageScratch, AllocError> {
-        let room = capacity as usize + MOST_IN_LISTS + 3;
-        let (planes, spent_planes) = ReturnQueue::new(alloc, room)?;
-        let (shaped_planes, spent_shaped_planes) = ReturnQueue::new(alloc, room)?;
-        let mut embed = EmbedScratch::empty(alloc);
-        embed.spent = spent_planes;
-        let mut shape = ShapeScratch::empty(alloc);
-        shape.return_queues = Passages {
-            planes,
-            shaped_planes: spent_shaped_planes,
-        };
-        let mut draw = DrawScratch::empty(alloc);
-        draw.back = shaped_planes;
-        Ok(StageScratch { embed, shape, draw })
-    }
+/// New, empty scratches of the stages of a lane whose links have room for `capacity` messages.
+///
+/// They are joined by queues on which each stage returns buffers to the one before. A holder is in transit in one link,
+/// alone or in a list, in use in a stage, or on its return.
+///
+/// # Errors
+///
+/// `AllocError` if there is no memory for the channels by which holders return.
+pub(crate) fn joined_scratch(
+    alloc: Global,
+    capacity: u32,
+) -> Result<LaneScratch<EmbedScratch, ShapeScratch, DrawScratch>, AllocError> {
+    let room = capacity as usize + MOST_IN_LISTS + 3;
+    let (planes, spent_planes) = ReturnQueue::new(alloc, room)?;
+    let (shaped_planes, spent_shaped_planes) = ReturnQueue::new(alloc, room)?;
+    let mut embed = EmbedScratch::empty(alloc);
+    embed.spent = spent_planes;
+    let mut shape = ShapeScratch::empty(alloc);
+    shape.return_queues = ReturnQueues {
+        planes,
+        shaped_planes: spent_shaped_planes,
+    };
+    let mut draw = DrawScratch::empty(alloc);
+    draw.back = shaped_planes;
+    Ok(LaneScratch { embed, shape, draw })
 }

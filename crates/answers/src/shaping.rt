@@ -36,13 +36,13 @@ pub struct ShapeScratch {
     plane: Option<Plane>,
     plane_shell: Option<Shell<Plane>>,
     shell: Option<Shell<ShapedPlane>>,
-    pub(crate) return_queues: Passages,
+    pub(crate) return_queues: ReturnQueues,
 }
 
 /// The return queues of the stage that finds shapes: holders of planes go to the stage before, and holders of shaped
 /// planes come from the next one.
 #[derive(Drop)]
-pub(crate) struct Passages {
+pub(crate) struct ReturnQueues {
     pub(crate) planes: ReturnQueue<Shell<Plane>>,
     pub(crate) shaped_planes: ReturnQueue<Shell<ShapedPlane>>,
 }
@@ -58,7 +58,7 @@ impl ShapeScratch {
             plane: None,
             plane_shell: None,
             shell: None,
-            return_queues: Passages {
+            return_queues: ReturnQueues {
                 planes: ReturnQueue::none(),
                 shaped_planes: ReturnQueue::none(),
             },

@@ -1,13 +1,13 @@
 //! The stages that answer a record.
 
 ghost use Rattle.std.specs.Prelude.{◌≡◌, ℕ, List, IfOk, MatchOption};
-ghost use Rattle.entries.specs.Lengths.{IfDrawn, IsNear, IsNoLonger, IsQuick};
+ghost use Rattle.reports.specs.Lengths.{IfDrawn, IsNear, IsNoLonger, IsQuick};
 ghost use Rattle.answers.specs.Steps.{IsRefused, IsEmbedded, IsShaped, IsFoundFor, answer_in};
 ghost use Rattle.common.specs.declared.choice.Choice.{Choice};
 ghost use Rattle.embedding.specs.Rules.{FirstBroken, KeepsBefore};
 ghost use Rattle.planar_code.specs.Stream.{lists_of};
-ghost use Rattle.entries.specs.Answers.{Answers};
-ghost use Rattle.drawing_laws.specs.Drawings.{IsDrawnIfLaid};
+ghost use Rattle.reports.specs.Answers.{Answers};
+ghost use Rattle.answers.specs.DrawnAnswers.{IsDrawnIfLaid};
 
 use crate::drawing::{DrawScratch, draw, points_of};
 use crate::shaped_plane::ShapedPlane;
@@ -15,9 +15,9 @@ use crate::shaping::{ShapeScratch, with_least_shape};
 use crate::state::PointsFound;
 use common::{Choice, DrawingKind};
 use embedding::{Graph, ReadFault, Rule, broken_rule};
-use entries::{Answer, Entry};
 use faces::{Plane, TraceFault};
 use planar_code::Record;
+use reports::{Answer, Entry};
 use std::alloc::{AllocError, Global};
 
 /// Why lists have no plane if there is no memory for their graph: the first rule that they break, or else out of memory.

@@ -3,9 +3,8 @@ ghost use Rattle.planar_code.specs.Stream.{lists_of};
 ghost use Rattle.answers.specs.Steps.{IsEmbedded};
 
 use crate::stages::{fault_without_graph, trace};
-use embedding::{Graph, ReadFault, broken_wide_rule};
+use embedding::{Graph, ReadFault, WideRecord, broken_wide_rule};
 use faces::Plane;
-use planar_code::WideRecord;
 use std::alloc::Global;
 
 /// The plane of a wide record, or why there is none, as that of a record.

@@ -19,10 +19,12 @@ const THREE_FILES: [&[u8]; 3] = [
     b">>planar_code<<",
 ];
 
+/// The batch of these files, each read at once.
 fn batch_of(alloc: Global, files: &[&[u8]]) -> Option<Batch> {
     plain_batch(alloc, files, 65_536, Choice::First)
 }
 
+/// The JSON lines of a batch.
 fn text_of(alloc: Global, batch: &Batch) -> Result<Vec<u8>, WriteFault> {
     let mut sink = IoSink::new(Vec::new(alloc));
     write_json(alloc, batch, &mut sink)?;

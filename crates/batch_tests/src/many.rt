@@ -6,11 +6,11 @@ use crate::shared::{opener_of, report_of, text_of_lanes};
 use collector::{
     Choice, Form, IoSink, MAX_LANES, MemOpener, OpenGate, run_batch, run_plain, write_json,
 };
+use ruled_lanes::MAX_CAPACITY;
 use std::alloc::{AllocError, Global};
 use std::process::Abort;
 use std::sync::Wait;
 use std::thread::Threads;
-use streams::MAX_CAPACITY;
 use test_tools::same;
 
 const TRIANGLE: &[u8] = b">>planar_code<<\x03\x02\x03\x00\x03\x01\x00\x01\x02\x00";

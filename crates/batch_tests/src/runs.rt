@@ -57,7 +57,7 @@ fn check<R: AllocGlobal + Threads + Wait + Sync + Abort, G: Gate>(
     check_chosen(rt, way, files, lanes, Choice::First, gate, report);
 }
 
-/// The same under a choice of the outer face.
+/// Runs the files over lanes with a gate, under a choice of the outer face, and checks the report.
 fn check_chosen<R: AllocGlobal + Threads + Wait + Sync + Abort, G: Gate>(
     rt: &R,
     way: Way,
@@ -136,6 +136,7 @@ struct Counts {
 }
 
 impl Counts {
+    /// Counts of nothing.
     fn new() -> Counts {
         Counts {
             read: AtomicU32::new(0),
@@ -145,6 +146,7 @@ impl Counts {
         }
     }
 
+    /// How often a stage has passed its gate.
     fn of(&self, stage: Stage) -> &AtomicU32 {
         match stage {
             Stage::Read => &self.read,
@@ -154,6 +156,7 @@ impl Counts {
         }
     }
 
+    /// How often a stage has passed its gate.
     fn passed(&self, stage: Stage) -> u32 {
         self.of(stage).load(Ordering::SeqCst)
     }
@@ -233,6 +236,7 @@ struct Meeting {
 }
 
 impl Meeting {
+    /// Neither call was made.
     fn new() -> Meeting {
         Meeting {
             first: AtomicU32::new(0),
@@ -241,11 +245,13 @@ impl Meeting {
         }
     }
 
+    /// Makes the first call, and waits for the second one.
     fn come_first(&self) {
         self.first.fetch_add(1, Ordering::SeqCst);
         wait_for_count(&self.second, 1, &self.ran_out);
     }
 
+    /// Makes the second call, and waits for the first one.
     fn come_second(&self) {
         self.second.fetch_add(1, Ordering::SeqCst);
         wait_for_count(&self.first, 1, &self.ran_out);
@@ -327,6 +333,7 @@ struct HoldsFan {
 }
 
 impl HoldsFan {
+    /// A gate that holds this lane.
     fn of(held: u32) -> HoldsFan {
         HoldsFan {
             held,

@@ -42,6 +42,7 @@ const RECORDS: [(&[u8], &str); 17] = [
     (CUBE, "ok n=8 m=12 f=6 bends=4 drawn=yes"),
 ];
 
+/// These parts, one after another.
 fn joined(alloc: Global, parts: &[&[u8]]) -> Result<Vec<u8>, AllocError> {
     let mut bytes = Vec::new(alloc);
     for part in parts {

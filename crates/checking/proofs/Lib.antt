@@ -1,7 +1,14 @@
+pub mod Dividing
 pub mod Ends
+pub mod Fields
+pub mod Giving
+pub mod Judged
 pub mod Pairing
+pub mod Parts
+pub mod Prices
 pub mod Reading
 pub mod Settled
 pub mod Steps
 pub mod Texts
 pub mod Whole
+pub mod Wrong

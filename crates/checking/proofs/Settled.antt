@@ -8,14 +8,14 @@ use Rattle.streams.specs.declared.frames.Mark.{Mark}
 use Rattle.streams.specs.Sink.{AppendsPrefix}
 use Rattle.streams.specs.Reading.{IsKnownOf}
 use Rattle.streams.proofs.Sinks.{added_none}
-use Rattle.text_lines.specs.declared.lines.Lines.{Lines}
-use Rattle.text_lines.specs.declared.lines.State.{State}
-use Rattle.text_lines.specs.declared.lines.State.TheVariants as state
-use Rattle.text_lines.specs.Lines.{IsNoEnd, IsOpenAfter, HasGivenAll, HasGiven, lines_of, ended_line, state_in, rest_in, fails_in}
-use Rattle.text_lines.proofs.Dividing.{lines-given, ended_lines-given}
-use Rattle.verdicts.specs.declared.verdict.Verdict.{Verdict}
-use Rattle.verdicts.specs.Text.{verdict_lines, last_line}
-use Rattle.checking.specs.declared.run.Asked.{Asked}
+use Rattle.checking.specs.declared.lines.Lines.{Lines}
+use Rattle.checking.specs.declared.lines.SourceState.{SourceState}
+use Rattle.checking.specs.declared.lines.SourceState.TheVariants as state
+use Rattle.checking.specs.Lines.{IsNoEnd, IsOpenAfter, HasGivenAll, HasGiven, lines_of, ended_line, state_in, rest_in, fails_in}
+use Rattle.checking.proofs.Dividing.{lines-given, ended_lines-given}
+use Rattle.checking.specs.declared.verdict.Verdict.{Verdict}
+use Rattle.checking.specs.Text.{verdict_lines, last_line}
+use Rattle.checking.specs.declared.run.CheckOptions.{CheckOptions}
 use Rattle.checking.specs.Pairs.{KeepsAllBut, AreVerdicts}
 use Rattle.checking.specs.Runs.{verdicts_text}
 use Rattle.checking.specs.UnderWay.{MayFail, Keeps, HasKept, IsCutShort}
@@ -69,7 +69,7 @@ settled_closed known known_fails failed faces given kept records verdicts all ke
   each = each;
 }
 
-settled_in : (s : State) (known rest : Option (List ℕ)) (known_fails fails faces : Bool) (given kept records : List (List ℕ)) (verdicts : List Verdict)
+settled_in : (s : SourceState) (known rest : Option (List ℕ)) (known_fails fails faces : Bool) (given kept records : List (List ℕ)) (verdicts : List Verdict)
     → HasGiven known known_fails s rest fails given → KeepsAllBut given kept → Keeps s (length kept) (length records)
     → ((failed : Bool) → MayFail s failed → AreVerdicts faces failed records kept verdicts) → AreSettled known known_fails faces records verdicts
 settled_in state.Open known rest known_fails fails faces given kept records verdicts has keeps many each =
@@ -91,10 +91,10 @@ longer start now text more whole is prefix =
     (prefix.0, prefix.1 ++ more, is ∙ ap (λ (l : List ℕ). l ++ more) prefix.2 ∙ append_assoc prefix.0 prefix.1 more, prefix.3)
 
 -- a prefix of the lines of verdicts was added
-pub cut_short : (asked : Asked) (known : Option (List ℕ)) (known_fails : Bool) (start now : Option (List ℕ)) (mark : Mark) (surplus : ℕ) (records : List (List ℕ)) (verdicts : List Verdict)
-    → AreSettled known known_fails asked.faces records verdicts → AppendsPrefix start now (verdict_lines asked.json 1 verdicts)
-    → IsCutShort asked known known_fails start now mark surplus records
-cut_short asked known known_fails start now mark surplus records verdicts is text = record {
+pub cut_short : (options : CheckOptions) (known : Option (List ℕ)) (known_fails : Bool) (start now : Option (List ℕ)) (mark : Mark) (surplus : ℕ) (records : List (List ℕ)) (verdicts : List Verdict)
+    → AreSettled known known_fails options.faces records verdicts → AppendsPrefix start now (verdict_lines options.form 1 verdicts)
+    → IsCutShort options known known_fails start now mark surplus records
+cut_short options known known_fails start now mark surplus records verdicts is text = record {
   line_bytes = is.line_bytes;
   lines_cut = is.lines_cut;
   gave = is.gave;
@@ -103,12 +103,12 @@ cut_short asked known known_fails start now mark surplus records verdicts is tex
   verdicts = verdicts;
   each = is.each;
   behind = inr text;
-  text = longer start now (verdict_lines asked.json 1 verdicts) (last_line asked.json mark (length verdicts) surplus) (verdicts_text asked.json verdicts mark surplus) refl text;
+  text = longer start now (verdict_lines options.form 1 verdicts) (last_line options.form mark (length verdicts) surplus) (verdicts_text options.form verdicts mark surplus) refl text;
 }
 
 -- nothing was judged
-pub nothing_judged : (asked : Asked) (known : Option (List ℕ)) (known_fails : Bool) (start : Option (List ℕ)) (mark : Mark) (surplus : ℕ) → IsCutShort asked known known_fails start start mark surplus []
-nothing_judged asked known known_fails start mark surplus =
+pub nothing_judged : (options : CheckOptions) (known : Option (List ℕ)) (known_fails : Bool) (start : Option (List ℕ)) (mark : Mark) (surplus : ℕ) → IsCutShort options known known_fails start start mark surplus []
+nothing_judged options known known_fails start mark surplus =
     let left = left_of known known known_fails [] (Consumes-nil known) in
     record {
       line_bytes = left.0;
@@ -119,5 +119,5 @@ nothing_judged asked known known_fails start mark surplus =
       verdicts = [];
       each = tt;
       behind = inr ([], [], refl, added_none start);
-      text = ([], verdicts_text asked.json [] mark surplus, refl, added_none start);
+      text = ([], verdicts_text options.form [] mark surplus, refl, added_none start);
     }

@@ -3,20 +3,21 @@ use Rattle.std.proofs.Common.{◌≡◌, ◌↔◌, ◌<◌, ◌≤◌, ℕ, tru
 use Rattle.std.proofs.Math.Seq.{take-append_seam, take-suc}
 use Rattle.std.proofs.lemmas.List.{take_all}
 use Rattle.std.proofs.lemmas.List.Elements.{All-take, All-contains, Contains-push}
+use Rattle.streams.specs.declared.form.Form.{Form}
 use Rattle.streams.specs.declared.faults.WriteFault.{WriteFault}
 use Rattle.streams.specs.declared.faults.WriteFault.TheVariants.{Write, Memory}
 use Rattle.streams.specs.Sink.{AppendsPrefix, IsInTransit, StaysInTransit, Writes}
 use Rattle.streams.proofs.Sinks.{sent_front, line_waits}
-use Rattle.verdicts.specs.declared.verdict.Verdict.{Verdict}
-use Rattle.verdicts.specs.Text.{verdict_line, verdict_lines}
+use Rattle.checking.specs.declared.verdict.Verdict.{Verdict}
+use Rattle.checking.specs.Text.{verdict_line, verdict_lines}
 
 -- one line more
-pub verdict_lines-next : (json : Bool) (number : ℕ) (verdicts : List Verdict) (v : Verdict) (last : ℕ) → last ≡ number + length verdicts
-    → verdict_lines json number (verdicts ++ v ∷ []) ≡ verdict_lines json number verdicts ++ verdict_line json last v
-verdict_lines-next json number [] v last is = append-nil _ ∙ ap (λ n. verdict_line json n v) (omega arith)
-verdict_lines-next json number (u ∷ verdicts) v last is =
-    ap (λ l. verdict_line json number u ++ l) (verdict_lines-next json (number + 1) verdicts v last (omega arith))
-    ∙ sym (append_assoc (verdict_line json number u) (verdict_lines json (number + 1) verdicts) (verdict_line json last v))
+pub verdict_lines-next : (form : Form) (number : ℕ) (verdicts : List Verdict) (v : Verdict) (last : ℕ) → last ≡ number + length verdicts
+    → verdict_lines form number (verdicts ++ v ∷ []) ≡ verdict_lines form number verdicts ++ verdict_line form last v
+verdict_lines-next form number [] v last is = append-nil _ ∙ ap (λ n. verdict_line form n v) (omega arith)
+verdict_lines-next form number (u ∷ verdicts) v last is =
+    ap (λ l. verdict_line form number u ++ l) (verdict_lines-next form (number + 1) verdicts v last (omega arith))
+    ∙ sym (append_assoc (verdict_line form number u) (verdict_lines form (number + 1) verdicts) (verdict_line form last v))
 
 -- what holds of each and of one more
 pub all_next : {X : Type 0} (P : X → Type 0) (xs : List X) (x : X) → All P (xs ++ x ∷ []) → All P xs × P x

@@ -4,30 +4,25 @@ use Rattle.std.specs.Prelude.{All, IfOk, OnErr}
 use Rattle.std.proofs.Math.Seq.{drop-append_seam}
 use Rattle.std.proofs.lemmas.List.{drop_all}
 use Rattle.std.proofs.lemmas.List.Elements.{All-nil}
-use Rattle.std.specs.Io.KnownBytes.{Consumes, Appends}
+use Rattle.std.specs.Io.KnownBytes.{Appends}
 use Rattle.planar_code.specs.declared.ending.Ending.{Ending}
 use Rattle.planar_code.specs.declared.ending.Ending.TheVariants as ending
-use Rattle.planar_code.specs.Split.{IsSplit}
-use Rattle.planar_code.specs.FramerState.{FramerState}
 use Rattle.streams.specs.declared.frames.Mark.{Mark}
 use Rattle.streams.specs.declared.frames.Mark.TheVariants as mark
-use Rattle.streams.specs.declared.reading.PieceOutcome.{PieceOutcome}
-use Rattle.streams.specs.declared.reading.PieceOutcome.TheVariants as step
 use Rattle.streams.specs.Marks.{IsBeginningOf}
-use Rattle.streams.specs.Reading.{IsKnownOf, IsFoundIn, LeadsTo}
+use Rattle.streams.specs.declared.reading.SourceEnd.{SourceEnd}
+use Rattle.streams.specs.Reading.{IsKnownOf, IsFoundIn}
 use Rattle.streams.specs.Sink.{AppendsPrefix}
-use Rattle.streams.proofs.Marks.{beginning_stands}
-use Rattle.streams.proofs.Placed.{marked_first}
-use Rattle.text_lines.specs.declared.lines.Lines.{Lines}
-use Rattle.text_lines.specs.declared.lines.State.{State}
-use Rattle.text_lines.specs.Lines.{HasGivenAll, HasGiven, lines_of, rest_in, fails_in}
-use Rattle.verdicts.specs.declared.verdict.Verdict.{Verdict}
-use Rattle.verdicts.specs.declared.verdict.Verdict.TheVariants as verdict
-use Rattle.checking.specs.declared.run.Asked.{Asked}
+use Rattle.checking.specs.declared.lines.Lines.{Lines}
+use Rattle.checking.specs.declared.lines.SourceState.{SourceState}
+use Rattle.checking.specs.Lines.{HasGivenAll, HasGiven, lines_of, rest_in, fails_in}
+use Rattle.checking.specs.declared.verdict.Verdict.{Verdict}
+use Rattle.checking.specs.declared.verdict.Verdict.TheVariants as verdict
+use Rattle.checking.specs.declared.run.CheckOptions.{CheckOptions}
 use Rattle.streams.specs.declared.faults.WriteFault.{WriteFault}
-use Rattle.checking.specs.declared.run.Checked.{Checked}
-use Rattle.checking.specs.declared.judge.Judge.{Judge}
-use Rattle.checking.specs.declared.judge.Rest.{Rest}
+use Rattle.checking.specs.declared.run.CheckOutcome.{CheckOutcome}
+use Rattle.checking.specs.declared.checker.Checker.{Checker}
+use Rattle.checking.specs.declared.inputs.TrailingLines.{TrailingLines}
 use Rattle.checking.specs.Pairs.{EndsRun, KeepsAllBut, AreVerdicts, AreSurplus}
 use Rattle.checking.specs.Runs.{IsOk, IsWhole, verdicts_text, IsTextOfVerdicts, IsBegunTextOfVerdicts}
 use Rattle.checking.specs.UnderWay.{MayFail, closed, Keeps, KeepsRest, IsUnderWay, IsCutShort}
@@ -41,60 +36,22 @@ told_bytes : (known : Option (List ℕ)) (fails : Bool) (bytes : List ℕ) (cut 
 told_bytes None fails bytes cut gave all is = cc
 told_bytes (Some known) fails bytes cut gave all is = let same : all ≡ known = cc in (same ∙ gave.0, gave.1)
 
--- the bytes that were read, with others that are known to follow
-read_with_more : (known rest : Option (List ℕ)) (known_fails : Bool) (read : List ℕ) → Consumes known rest read → (left : List ℕ) × (cut : Bool) × IsKnownOf known known_fails (read ++ left) cut
-read_with_more None rest known_fails read took = ([], false, tt)
-read_with_more (Some all) None known_fails read took = absurd took
-read_with_more (Some all) (Some left) known_fails read took = (left, known_fails, (took, refl))
-
--- the records so far are found, if memory then runs out
-found_so_far : (known : Option (List ℕ)) (known_fails : Bool) (rounds : ℕ) (to_come : Option (List ℕ)) (fails : Bool) (records : List (List ℕ)) (state : FramerState) (led : PieceOutcome)
-    → LeadsTo known known_fails rounds to_come fails records state led → IsFoundIn known known_fails records (mark.Ended ending.Memory)
-found_so_far known known_fails rounds to_come fails records state step.More leads =
-    let more = read_with_more known to_come known_fails leads.read leads.took in
-    record {
-      bytes = leads.read ++ more.0;
-      fails = more.1;
-      gave = more.2;
-      marked = λ all end split. beginning_stands leads.read more.0 records state leads.stands all end split;
-    }
-found_so_far known known_fails rounds to_come fails records state step.Ended leads = record {
-  bytes = leads.read;
-  fails = false;
-  gave = leads.gave;
-  marked = λ all end split. beginning_stands leads.read [] records state leads.stands all end (subst (λ (t : List ℕ). IsSplit t all end) (sym (append-nil leads.read)) split);
+-- records that are found if memory then runs out: so are the first of them
+pub found_first : (known : Option (List ℕ)) (known_fails : Bool) (judged records : List (List ℕ)) → IsFoundIn known known_fails records (mark.Ended ending.Memory)
+    → IsBeginningOf judged records → IsFoundIn known known_fails judged (mark.Ended ending.Memory)
+found_first known known_fails judged records found first = record {
+  bytes = found.bytes;
+  fails = found.fails;
+  gave = found.gave;
+  marked = λ all end split.
+      let more = found.marked all end split in
+      (first.0 ++ more.0, more.1 ∙ ap (λ (l : List (List ℕ)). l ++ more.0) first.1 ∙ append_assoc judged first.0 more.0);
 }
-found_so_far known known_fails rounds to_come fails records state step.Failed leads = record {
-  bytes = leads.bytes;
-  fails = leads.fails;
-  gave = leads.gave;
-  marked = marked_first leads.bytes leads.fails records mark.Io leads.marked;
-}
-found_so_far known known_fails rounds to_come fails records state (step.Faulted fault) leads = record {
-  bytes = leads.bytes;
-  fails = leads.fails;
-  gave = leads.gave;
-  marked = marked_first leads.bytes leads.fails records (mark.Ended _) leads.marked;
-}
-
--- so are the first of them
-pub found_first : (known : Option (List ℕ)) (known_fails : Bool) (rounds : ℕ) (to_come : Option (List ℕ)) (fails : Bool) (judged records : List (List ℕ)) (state : FramerState) (led : PieceOutcome)
-    → LeadsTo known known_fails rounds to_come fails records state led → IsBeginningOf judged records → IsFoundIn known known_fails judged (mark.Ended ending.Memory)
-found_first known known_fails rounds to_come fails judged records state led leads first =
-    let found = found_so_far known known_fails rounds to_come fails records state led leads in
-    record {
-      bytes = found.bytes;
-      fails = found.fails;
-      gave = found.gave;
-      marked = λ all end split.
-          let more = found.marked all end split in
-          (first.0 ++ more.0, more.1 ∙ ap (λ (l : List (List ℕ)). l ++ more.0) first.1 ∙ append_assoc judged first.0 more.0);
-    }
 
 -- a run that is cut short
-pub begun : (asked : Asked) (graphs : Option (List ℕ)) (cut : Bool) (known : Option (List ℕ)) (known_fails : Bool) (start now : Option (List ℕ)) (found : Mark) (surplus : ℕ) (records : List (List ℕ))
-    → IsFoundIn graphs cut records found → IsCutShort asked known known_fails start now found surplus records → IsBegunTextOfVerdicts asked graphs cut known known_fails start now
-begun asked graphs cut known known_fails start now found surplus records is short = record {
+pub begun : (options : CheckOptions) (graphs : Option (List ℕ)) (cut : Bool) (known : Option (List ℕ)) (known_fails : Bool) (start now : Option (List ℕ)) (found : Mark) (surplus : ℕ) (records : List (List ℕ))
+    → IsFoundIn graphs cut records found → IsCutShort options known known_fails start now found surplus records → IsBegunTextOfVerdicts options graphs cut known known_fails start now
+begun options graphs cut known known_fails start now found surplus records is short = record {
   bytes = is.bytes;
   cut = is.fails;
   records = records;
@@ -147,13 +104,13 @@ behind_none kept records surplus few none =
       each = subst (All (λ line. ¬ EndsRun line)) (sym rest) (All-nil (λ line. ¬ EndsRun line));
     }
 
-pub all_read : {L : Type 0} (to_come : L → Option (List ℕ)) (fails : L → Bool) (known : Option (List ℕ)) (known_fails faces : Bool) (before : State) (lines : Lines L)
-    (kept records : List (List ℕ)) (verdicts : List Verdict) (rest : Rest) → Keeps before (length kept) (length records)
+pub all_read : {L : Type 0} (to_come : L → Option (List ℕ)) (fails : L → Bool) (known : Option (List ℕ)) (known_fails faces : Bool) (before : SourceState) (lines : Lines L)
+    (kept records : List (List ℕ)) (verdicts : List Verdict) (rest : TrailingLines) → Keeps before (length kept) (length records)
     → ((failed : Bool) → MayFail before failed → AreVerdicts faces failed records kept verdicts)
     → KeepsRest to_come fails known known_fails before lines kept rest → AreAll known known_fails faces rest.failed records verdicts rest.surplus
 all_read to_come fails known known_fails faces before lines kept records verdicts rest many each is =
     let all = given_all rest.failed known (rest_in to_come lines) known_fails (fails_in fails lines) is.all.has_kept.given
-    (subst (λ (s : State). HasGiven known known_fails s (rest_in to_come lines) (fails_in fails lines) is.all.has_kept.given) is.ended is.all.has_kept.has_given) in
+    (subst (λ (s : SourceState). HasGiven known known_fails s (rest_in to_come lines) (fails_in fails lines) is.all.has_kept.given) is.ended is.all.has_kept.has_given) in
     let more = is.all.more in
     record {
       line_bytes = all.bytes;
@@ -161,21 +118,21 @@ all_read to_come fails known known_fails faces before lines kept records verdict
       kept = kept ++ more;
       keeps = subst (λ (l : List (List ℕ)). KeepsAllBut l (kept ++ more)) all.all is.all.has_kept.keeps;
       each = elim is.all.opened [
-        | inl opened ↦ more_lines faces rest.failed records kept more verdicts (subst (λ (s : State). Keeps s (length kept) (length records)) opened many) (each rest.failed is.may_fail)
+        | inl opened ↦ more_lines faces rest.failed records kept more verdicts (subst (λ (s : SourceState). Keeps s (length kept) (length records)) opened many) (each rest.failed is.may_fail)
         | inr none ↦ subst (λ (l : List (List ℕ)). AreVerdicts faces rest.failed records l verdicts) (sym (ap (λ (l : List (List ℕ)). kept ++ l) none.1 ∙ append-nil kept)) (each rest.failed is.may_fail)
       ];
       behind = elim is.all.opened [
-        | inl opened ↦ behind_same kept more (length records) rest.surplus (subst (λ (s : State). Keeps s (length kept) (length records)) opened many) is.all.each is.all.counted
+        | inl opened ↦ behind_same kept more (length records) rest.surplus (subst (λ (s : SourceState). Keeps s (length kept) (length records)) opened many) is.all.each is.all.counted
         | inr none ↦ subst (λ (l : List (List ℕ)). AreSurplus (length records) l rest.surplus) (sym (ap (λ (l : List (List ℕ)). kept ++ l) none.1 ∙ append-nil kept))
             (behind_none kept (length records) rest.surplus (at_most before (length kept) (length records) many) (is.all.counted ∙ ap (λ (l : List (List ℕ)). min (length l) (2 ^ 64 - 1)) none.1))
       ];
     }
 
 -- a prefix of the whole text was added
-pub all_cut_short : (asked : Asked) (known : Option (List ℕ)) (known_fails : Bool) (start now : Option (List ℕ)) (found : Mark) (failed : Bool) (records : List (List ℕ)) (verdicts : List Verdict) (surplus : ℕ)
-    → AreAll known known_fails asked.faces failed records verdicts surplus → AppendsPrefix start now (verdicts_text asked.json verdicts found surplus)
-    → IsCutShort asked known known_fails start now found surplus records
-all_cut_short asked known known_fails start now found failed records verdicts surplus all text = record {
+pub all_cut_short : (options : CheckOptions) (known : Option (List ℕ)) (known_fails : Bool) (start now : Option (List ℕ)) (found : Mark) (failed : Bool) (records : List (List ℕ)) (verdicts : List Verdict) (surplus : ℕ)
+    → AreAll known known_fails options.faces failed records verdicts surplus → AppendsPrefix start now (verdicts_text options.form verdicts found surplus)
+    → IsCutShort options known known_fails start now found surplus records
+all_cut_short options known known_fails start now found failed records verdicts surplus all text = record {
   line_bytes = all.line_bytes;
   lines_cut = failed;
   gave = all.gave;
@@ -216,11 +173,11 @@ status_is found failed whole all_ok wants verdicts surplus status oks wanted is_
       other = other;
     }
 
-pub whole_text : (asked : Asked) (graphs : Option (List ℕ)) (cut : Bool) (known : Option (List ℕ)) (known_fails : Bool) (start new : Option (List ℕ)) (written failed : Bool)
+pub whole_text : (options : CheckOptions) (graphs : Option (List ℕ)) (cut : Bool) (known : Option (List ℕ)) (known_fails : Bool) (start new : Option (List ℕ)) (written failed : Bool)
     (found : Mark) (records : List (List ℕ)) (verdicts : List Verdict) (surplus status : ℕ) → IsFoundIn graphs cut records found
-    → AreAll known known_fails asked.faces failed records verdicts surplus → Appends start new (verdicts_text asked.json verdicts found surplus) → written ≡ false
-    → IsStatus found failed verdicts surplus status → IsTextOfVerdicts asked graphs cut known known_fails start new written status
-whole_text asked graphs cut known known_fails start new written failed found records verdicts surplus status is all text intact ends = record {
+    → AreAll known known_fails options.faces failed records verdicts surplus → Appends start new (verdicts_text options.form verdicts found surplus) → written ≡ false
+    → IsStatus found failed verdicts surplus status → IsTextOfVerdicts options graphs cut known known_fails start new written status
+whole_text options graphs cut known known_fails start new written failed found records verdicts surplus status is all text intact ends = record {
   bytes = is.bytes;
   cut = is.fails;
   records = records;
@@ -245,23 +202,26 @@ whole_text asked graphs cut known known_fails start new written failed found rec
 
 -- ---- the end of a run
 
-module _ {L : Type 0} (to_come : L → Option (List ℕ)) (fails : L → Bool) (judge : Judge L) (asked : Asked) (found : Mark) (graphs : Option (List ℕ)) (cut : Bool)
+module _ {L : Type 0} (to_come : L → Option (List ℕ)) (fails : L → Bool) (checker : Checker L) (options : CheckOptions) (end : SourceEnd) (graphs : Option (List ℕ)) (cut : Bool)
     (known : Option (List ℕ)) (known_fails : Bool) (start now new : Option (List ℕ)) (records : List (List ℕ)) where
-  pub finished : (written : Bool) (r : Result Checked WriteFault) → judge.asked ≡ asked → IsFoundIn graphs cut records found → IsUnderWay to_come fails known known_fails start now judge records
-      → IfOk r (λ checked. (graphs : Option (List ℕ)) (cut : Bool) (known : Option (List ℕ)) (known_fails : Bool) (start : Option (List ℕ)) (records : List (List ℕ))
-      → IsFoundIn graphs cut records found → IsUnderWay to_come fails known known_fails start now judge records
-      → IsTextOfVerdicts judge.asked graphs cut known known_fails start new written checked.status)
-      → IfOk r (λ checked. IsTextOfVerdicts asked graphs cut known known_fails start new written checked.status)
-  finished written (Ok checked) same is u whole =
-      subst (λ (a : Asked). IsTextOfVerdicts a graphs cut known known_fails start new written checked.status) same (whole graphs cut known known_fails start records is u)
-  finished written (Err fault) same is u whole = tt
+  pub finished : (written : Bool) (r : Result CheckOutcome WriteFault) → checker.options ≡ options → end.count ≡ length records → IsFoundIn graphs cut records end.mark
+      → IsUnderWay to_come fails known known_fails start now checker records
+      → IfOk r (λ outcome. (graphs : Option (List ℕ)) (cut : Bool) (known : Option (List ℕ)) (known_fails : Bool) (start : Option (List ℕ)) (records : List (List ℕ))
+      → end.count ≡ length records → IsFoundIn graphs cut records end.mark → IsUnderWay to_come fails known known_fails start now checker records
+      → IsTextOfVerdicts checker.options graphs cut known known_fails start new written outcome.status)
+      → IfOk r (λ outcome. IsTextOfVerdicts options graphs cut known known_fails start new written outcome.status)
+  finished written (Ok outcome) same at is u whole =
+      subst (λ (o : CheckOptions). IsTextOfVerdicts o graphs cut known known_fails start new written outcome.status) same (whole graphs cut known known_fails start records at is u)
+  finished written (Err fault) same at is u whole = tt
 
-  pub finished_short : (r : Result Checked WriteFault) → judge.asked ≡ asked → IsFoundIn graphs cut records found → IsUnderWay to_come fails known known_fails start now judge records
+  pub finished_short : (r : Result CheckOutcome WriteFault) → checker.options ≡ options → end.count ≡ length records → IsFoundIn graphs cut records end.mark
+      → IsUnderWay to_come fails known known_fails start now checker records
       → OnErr r ((known : Option (List ℕ)) (known_fails : Bool) (start : Option (List ℕ)) (records : List (List ℕ))
-      → IsUnderWay to_come fails known known_fails start now judge records → (surplus : ℕ) × IsCutShort judge.asked known known_fails start new found surplus records)
-      → OnErr r (IsBegunTextOfVerdicts asked graphs cut known known_fails start new)
-  finished_short (Ok checked) same is u short = tt
-  finished_short (Err fault) same is u short =
-      let cut_off = short known known_fails start records u in
-      subst (λ (a : Asked). IsBegunTextOfVerdicts a graphs cut known known_fails start new) same
-      (begun judge.asked graphs cut known known_fails start new found cut_off.0 records is cut_off.1)
+      → end.count ≡ length records → IsUnderWay to_come fails known known_fails start now checker records
+      → (surplus : ℕ) × IsCutShort checker.options known known_fails start new end.mark surplus records)
+      → OnErr r (IsBegunTextOfVerdicts options graphs cut known known_fails start new)
+  finished_short (Ok outcome) same at is u short = tt
+  finished_short (Err fault) same at is u short =
+      let cut_off = short known known_fails start records at u in
+      subst (λ (o : CheckOptions). IsBegunTextOfVerdicts o graphs cut known known_fails start new) same
+      (begun checker.options graphs cut known known_fails start new end.mark cut_off.0 records is cut_off.1)

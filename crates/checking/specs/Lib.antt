@@ -1,3 +1,11 @@
+pub mod Lines
 pub mod Pairs
+pub mod Receiving
 pub mod Runs
+pub mod LineContents
+pub mod Text
 pub mod UnderWay
+pub mod Values
+pub mod Verdicts
+pub mod Words
+pub mod Wrong

@@ -1,15 +1,15 @@
 -- The verdicts on records, each with the next line that is no end of a run.
 use Rattle.std.specs.Prelude.{◌≡◌, ◌≢◌, ◌⊎◌, ◌<◌, ◌≤◌, ◌-◌, ◌^◌, min, ℕ, Bool, true, false, List, [], ◌∷◌, length, drop, Option, Some, None, All, ⊤}
 use Rattle.planar_code.specs.Stream.{lists_of}
-use Rattle.text_lines.specs.declared.TheConstants.{MAX_LINE}
-use Rattle.drawn_lines.specs.declared.fault.LineFault.{LineFault}
-use Rattle.drawn_lines.specs.declared.fault.LineFault.TheVariants as line
-use Rattle.verdicts.specs.Said.{IsEndLine, SaysDrawing, SaysNothing, IsWrongLine}
-use Rattle.verdicts.specs.Verdicts.{IsVerdict}
-use Rattle.verdicts.specs.declared.said.Given.{Given}
-use Rattle.verdicts.specs.declared.said.Given.TheVariants as given
-use Rattle.verdicts.specs.declared.verdict.Verdict.{Verdict}
-use Rattle.verdicts.specs.declared.verdict.Verdict.TheVariants as verdict
+use Rattle.checking.specs.declared.line_buffer.TheConstants.{MAX_LINE}
+use Rattle.checking.specs.declared.fault.LineFault.{LineFault}
+use Rattle.checking.specs.declared.fault.LineFault.TheVariants as line
+use Rattle.checking.specs.LineContents.{IsEndLine, SaysDrawing, SaysNothing, IsWrongLine}
+use Rattle.checking.specs.Verdicts.{IsVerdict}
+use Rattle.checking.specs.declared.inputs.DrawingInput.{DrawingInput}
+use Rattle.checking.specs.declared.inputs.DrawingInput.TheVariants as given
+use Rattle.checking.specs.declared.verdict.Verdict.{Verdict}
+use Rattle.checking.specs.declared.verdict.Verdict.TheVariants as verdict
 
 -- a line is the end of a run: its value has a field `end`, and it is not too long to be read
 pub record EndsRun (line : List ℕ) : Type 0 where
@@ -26,7 +26,7 @@ abbrev pub GivesNone : List ℕ → LineFault → Type 0
 GivesNone bytes fault = ((length bytes ≤ MAX_LINE) × SaysNothing bytes × IsWrongLine bytes fault) ⊎ ((MAX_LINE < length bytes) × (fault ≡ line.Malformed))
 
 -- what is given tells of a line, or that there is none: the source ended, or a read failed. Want of memory tells nothing
-abbrev pub TellsOf : Bool → Option (List ℕ) → Given → Type 0
+abbrev pub TellsOf : Bool → Option (List ℕ) → DrawingInput → Type 0
 TellsOf failed (Some bytes) (given.Drawing said) = (length bytes ≤ MAX_LINE) × SaysDrawing bytes said.points said.claims
 TellsOf failed (Some bytes) (given.Fault fault) = fault ≢ line.Memory → GivesNone bytes fault
 TellsOf failed (Some bytes) _ = ⊥
@@ -42,7 +42,7 @@ GoesOn None = ⊤
 -- A verdict on a record and its line, or on a record for which there is none. Unless it is that memory ran out, the line
 -- is not the end of a run.
 pub record IsVerdictOf (faces failed : Bool) (bytes : List ℕ) (line : Option (List ℕ)) (v : Verdict) : Type 0 where
-  pub given : Given
+  pub given : DrawingInput
   pub tells : TellsOf failed line given
   pub holds : IsVerdict faces (lists_of bytes) given v
   pub goes_on : v ≢ verdict.Memory → GoesOn line

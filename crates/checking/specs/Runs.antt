@@ -2,14 +2,15 @@
 use Rattle.std.specs.Prelude.{◌≡◌, ◌≢◌, ◌↔◌, ◌⊎◌, ℕ, Bool, false, List, ◌++◌, length, Option, Some, All, ⊤}
 use Rattle.std.specs.Io.KnownBytes.{Appends}
 use Rattle.planar_code.specs.declared.ending.Ending.{Ending}
+use Rattle.streams.specs.declared.form.Form.{Form}
 use Rattle.streams.specs.declared.frames.Mark.{Mark}
 use Rattle.streams.specs.Marks.{IsMarked}
 use Rattle.streams.specs.Sink.{AppendsPrefix}
-use Rattle.text_lines.specs.Lines.{lines_of}
-use Rattle.verdicts.specs.declared.verdict.Verdict.{Verdict}
-use Rattle.verdicts.specs.declared.verdict.Verdict.TheVariants as verdict
-use Rattle.verdicts.specs.Text.{verdict_lines, last_line}
-use Rattle.checking.specs.declared.run.Asked.{Asked}
+use Rattle.checking.specs.Lines.{lines_of}
+use Rattle.checking.specs.declared.verdict.Verdict.{Verdict}
+use Rattle.checking.specs.declared.verdict.Verdict.TheVariants as verdict
+use Rattle.checking.specs.Text.{verdict_lines, last_line}
+use Rattle.checking.specs.declared.run.CheckOptions.{CheckOptions}
 use Rattle.checking.specs.Pairs.{KeepsAllBut, AreVerdicts, AreSurplus}
 
 abbrev pub IsOk : Verdict → Type 0
@@ -23,12 +24,12 @@ pub record IsWhole (mark : Mark) (lines_failed : Bool) (verdicts : List Verdict)
   pub memory : All (λ v. v ≢ verdict.Memory) verdicts
 
 -- the text of all verdicts and of the last line
-abbrev pub verdicts_text : Bool → List Verdict → Mark → ℕ → List ℕ
-verdicts_text json verdicts mark surplus = verdict_lines json 1 verdicts ++ last_line json mark (length verdicts) surplus
+abbrev pub verdicts_text : Form → List Verdict → Mark → ℕ → List ℕ
+verdicts_text form verdicts mark surplus = verdict_lines form 1 verdicts ++ last_line form mark (length verdicts) surplus
 
 -- The whole text of a run was added to the output, and the status says how it went. The records and the mark are those of
 -- some bytes, after which the file of graphs ends or fails, and of its bytes where they are known; likewise the lines.
-pub record IsTextOfVerdicts (asked : Asked) (known : Option (List ℕ)) (fails : Bool) (known_lines : Option (List ℕ)) (lines_fail : Bool) (old new : Option (List ℕ)) (failed : Bool) (status : ℕ) : Type 0 where
+pub record IsTextOfVerdicts (options : CheckOptions) (known : Option (List ℕ)) (fails : Bool) (known_lines : Option (List ℕ)) (lines_fail : Bool) (old new : Option (List ℕ)) (failed : Bool) (status : ℕ) : Type 0 where
   pub bytes : List ℕ
   pub cut : Bool
   pub records : List (List ℕ)
@@ -41,10 +42,10 @@ pub record IsTextOfVerdicts (asked : Asked) (known : Option (List ℕ)) (fails :
   pub kept : List (List ℕ)
   pub keeps : KeepsAllBut (lines_of line_bytes lines_cut) kept
   pub verdicts : List Verdict
-  pub each : AreVerdicts asked.faces lines_cut records kept verdicts
+  pub each : AreVerdicts options.faces lines_cut records kept verdicts
   pub surplus : ℕ
   pub behind : AreSurplus (length records) kept surplus
-  pub text : Appends old new (verdicts_text asked.json verdicts mark surplus)
+  pub text : Appends old new (verdicts_text options.form verdicts mark surplus)
   pub written : failed ≡ false
   pub ok : (IsWhole mark lines_cut verdicts × All IsOk verdicts × (surplus ≡ 0)) ↔ (status ≡ 0)
   pub not_whole : (¬ IsWhole mark lines_cut verdicts) ↔ (status ≡ 3)
@@ -53,7 +54,7 @@ pub record IsTextOfVerdicts (asked : Asked) (known : Option (List ℕ)) (fails :
 -- A prefix of the text of a run was added to the output. The records and the mark are those of some bytes, and the lines
 -- those of some bytes, as in a whole text; if memory ran out, the file of graphs may have more records. The last line has
 -- the number of lines that are left, or no byte of it was added.
-pub record IsBegunTextOfVerdicts (asked : Asked) (known : Option (List ℕ)) (fails : Bool) (known_lines : Option (List ℕ)) (lines_fail : Bool) (old new : Option (List ℕ)) : Type 0 where
+pub record IsBegunTextOfVerdicts (options : CheckOptions) (known : Option (List ℕ)) (fails : Bool) (known_lines : Option (List ℕ)) (lines_fail : Bool) (old new : Option (List ℕ)) : Type 0 where
   pub bytes : List ℕ
   pub cut : Bool
   pub records : List (List ℕ)
@@ -66,7 +67,7 @@ pub record IsBegunTextOfVerdicts (asked : Asked) (known : Option (List ℕ)) (fa
   pub kept : List (List ℕ)
   pub keeps : KeepsAllBut (lines_of line_bytes lines_cut) kept
   pub verdicts : List Verdict
-  pub each : AreVerdicts asked.faces lines_cut records kept verdicts
+  pub each : AreVerdicts options.faces lines_cut records kept verdicts
   pub surplus : ℕ
-  pub behind : AreSurplus (length records) kept surplus ⊎ AppendsPrefix old new (verdict_lines asked.json 1 verdicts)
-  pub text : AppendsPrefix old new (verdicts_text asked.json verdicts mark surplus)
+  pub behind : AreSurplus (length records) kept surplus ⊎ AppendsPrefix old new (verdict_lines options.form 1 verdicts)
+  pub text : AppendsPrefix old new (verdicts_text options.form verdicts mark surplus)

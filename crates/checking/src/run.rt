@@ -1,41 +1,43 @@
 //! A whole run: all records of a file of graphs, each with its line.
-ghost use Rattle.std.specs.Prelude.{◌≡◌, ◌<◌, ◌↔◌, true, false, IfOk, IfErr, OnErr};
+ghost use Rattle.std.specs.Prelude.{◌≡◌, ◌<◌, ◌↔◌, ℕ, List, length, true, false, IfOk, OnOk, IfErr, OnErr};
+ghost use Rattle.planar_code.specs.declared.ending.Ending.{Ending};
+ghost use Rattle.streams.specs.declared.frames.Mark.{Mark};
+ghost use Rattle.streams.specs.Reading.{IsFoundIn};
 ghost use Rattle.checking.specs.Runs.{IsTextOfVerdicts, IsBegunTextOfVerdicts};
+ghost use Rattle.checking.specs.UnderWay.{GoesOnBy, IsCutShortBy};
 
-use crate::judge::Judge;
-use planar_code::{Ending, Framer, Record};
+use crate::checked_records::CheckedRecords;
+use crate::checker::Checker;
 use std::alloc::Global;
 use std::sync::Wait;
-use streams::{Mark, PieceOutcome, Sink, Tap, WriteFault, piece_buffer, read_piece};
+use streams::{Form, Mark, Sink, SourceEnd, Tap, WriteFault, piece_buffer, read_source};
 
 /// The options of a check: the output format, and whether regions are checked.
 #[derive(Clone, Copy, Debug, PartialEq, Eq)]
-pub struct Asked {
-    /// JSON objects in place of a report.
-    pub json: bool,
-    /// Also whether each region of a drawing is its face.
+pub struct CheckOptions {
+    /// The output format.
+    pub form: Form,
+    /// Whether each region of a drawing must also be its face.
     pub faces: bool,
 }
 
 /// The outcome of a check whose output was written completely.
 #[derive(Clone, Copy, Debug, PartialEq, Eq)]
-pub struct Checked {
+pub struct CheckOutcome {
     /// How the file of graphs ended.
     pub mark: Mark,
-    /// Whether a read of the lines failed.
-    pub lines_failed: bool,
     /// The exit status. 0: each verdict is `ok`, no line is left, and both files were read whole. 3: the file of graphs
     /// did not end complete, a read of the lines failed, or memory ran out for a record. 4: otherwise.
     pub status: u8,
 }
 
-/// Writes a verdict for each record of a file of graphs, and a last line.
+/// Writes a verdict for each record of a file of graphs, and a last line; returns the outcome.
 ///
-/// Line K that is no end of a run belongs to record K. Records are judged as they are read, one after another; it keeps
-/// those of one piece, one line and one drawing.
+/// Line K that is no end of a run belongs to record K. Records are checked as they are read, one after another; those of
+/// one piece, one line and one drawing are kept in memory.
 ///
 /// If memory runs out for a line, the verdict on the record is `memory`. If that line was the end of a run, later lines
-/// may be one off, each judged with the record after its own.
+/// may be one off, each checked with the record after its own.
 ///
 /// # Errors
 ///
@@ -44,49 +46,50 @@ pub struct Checked {
 /// line was, that line has the number of lines that are left.
 pub fn check_files<R: AllocGlobal + Wait, G: Tap, L: Tap, S: Sink>(
     rt: &R,
-    mut graphs: G,
+    graphs: G,
     lines: L,
-    asked: Asked,
+    options: CheckOptions,
     out: &mut S,
-) -> Result<Checked, WriteFault>
+) -> Result<CheckOutcome, WriteFault>
     requires { S.failed out.old ≡ false }
-    ensures whole { IfOk result (λ checked. IsTextOfVerdicts asked (G.to_come graphs) (G.fails graphs) (L.to_come lines)
-        (L.fails lines) (S.taken out.old) (S.taken out.new) (S.failed out.new) checked.status) }
+    ensures whole { IfOk result (λ outcome. IsTextOfVerdicts options (G.to_come graphs) (G.fails graphs) (L.to_come lines)
+        (L.fails lines) (S.taken out.old) (S.taken out.new) (S.failed out.new) outcome.status) }
     ensures fault { IfErr result (λ fault. (fault ≡ WriteFault.Write) ↔ (S.failed out.new ≡ true)) }
-    ensures begun { OnErr result (IsBegunTextOfVerdicts asked (G.to_come graphs) (G.fails graphs) (L.to_come lines)
+    ensures begun { OnErr result (IsBegunTextOfVerdicts options (G.to_come graphs) (G.fails graphs) (L.to_come lines)
         (L.fails lines) (S.taken out.old) (S.taken out.new)) }
 {
     let alloc = rt.alloc();
     let Ok(mut buffer) = piece_buffer(alloc) else {
         return Err(WriteFault::Memory);
     };
-    let Ok(mut judge) = Judge::new(alloc, lines, asked) else {
+    let Ok(mut checker) = Checker::new(alloc, lines, options) else {
         return Err(WriteFault::Memory);
     };
-    let Ok(mut framer) = Framer::new(alloc) else {
-        return judge.finish(rt, Mark::Ended(Ending::Memory), out);
-    };
-    let mut records: Vec<Record> = Vec::new(alloc);
-    for _ in rt.forever() {
-        let step = read_piece(
-            &mut graphs,
-            &mut framer,
-            alloc,
-            buffer.as_mut_slice(),
-            &mut records,
-        );
-        match judge.judge_all(rt, &mut records, out) {
-            Ok(()) => {}
-            Err(fault) => return Err(fault),
-        }
-        match step {
-            PieceOutcome::More => {}
-            PieceOutcome::Ended => return judge.finish(rt, Mark::Ended(framer.finish()), out),
-            PieceOutcome::Failed => return judge.finish(rt, Mark::Io, out),
-            PieceOutcome::Faulted(fault) => {
-                return judge.finish(rt, Mark::Ended(Ending::from(fault)), out);
-            }
-        }
+    match check_records(rt, alloc, graphs, buffer.as_mut_slice(), &mut checker, out) {
+        Ok(end) => checker.finish(rt, end, out),
+        Err(fault) => Err(fault),
     }
-    unreachable!()
+}
+
+/// Writes the verdicts on the records of a file of graphs; returns their number and the mark of the file.
+fn check_records<R: Wait, G: Tap, L: Tap, S: Sink>(
+    rt: &R,
+    alloc: Global,
+    graphs: G,
+    buffer: &mut [u8],
+    checker: &mut Checker<L>,
+    out: &mut S,
+) -> Result<SourceEnd, WriteFault>
+    requires room { 0 < length buffer.old }
+    requires intact { S.failed out.old ≡ false }
+    ensures unfailed { OnOk result (S.failed out.new ≡ false) }
+    ensures goes_on { IfOk result (λ end. (records : List (List ℕ)) × ((checker.new.options ≡ checker.old.options)
+        × GoesOnBy L.to_come L.fails 0 records (S.taken out.old) (S.taken out.new) checker.old checker.new)
+        × (end.count ≡ length records) × IsFoundIn (G.to_come graphs) (G.fails graphs) records end.mark) }
+    ensures begun { IfErr result (λ fault. (records : List (List ℕ)) × (((fault ≡ WriteFault.Write) ↔ (S.failed out.new ≡ true))
+        × IsCutShortBy L.to_come L.fails 0 records (S.taken out.old) (S.taken out.new) checker.old)
+        × IsFoundIn (G.to_come graphs) (G.fails graphs) records (Mark.Ended Ending.Memory)) }
+{
+    let mut records = CheckedRecords { rt, checker, out };
+    read_source(graphs, alloc, buffer, &mut records)
 }

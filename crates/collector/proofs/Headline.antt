@@ -12,14 +12,14 @@ use Rattle.streams.specs.Marks.{IsMarked}
 use Rattle.common.specs.declared.choice.Choice.{Choice}
 use Rattle.lanes.specs.Notes.{numbered}
 use Rattle.lanes.specs.Opening.{Meaning, Opened}
-use Rattle.entries.specs.declared.answer.Answer.{Answer}
-use Rattle.entries.specs.declared.answer.Answer.TheVariants.{Laid, Refused, NoMemory}
-use Rattle.entries.specs.declared.entry.Entry.{Entry}
-use Rattle.entries.specs.Answers.{Answers}
-use Rattle.entries.specs.Abouts.{about_of}
-use Rattle.entries.specs.Books.{BookModel, IsBook, AreBooks}
-use Rattle.entries.specs.AllBooks.{AreAllBooks}
-use Rattle.drawing_laws.proofs.Drawings.{answer_drawn}
+use Rattle.reports.specs.declared.answer.Answer.{Answer}
+use Rattle.reports.specs.declared.answer.Answer.TheVariants.{Laid, Refused, NoMemory}
+use Rattle.reports.specs.declared.entry.Entry.{Entry}
+use Rattle.reports.specs.Answers.{Answers}
+use Rattle.reports.specs.Abouts.{about_of}
+use Rattle.reports.specs.Books.{BookModel, IsBook, AreBooks}
+use Rattle.reports.specs.AllBooks.{AreAllBooks}
+use Rattle.answers.proofs.DrawnAnswers.{answer_drawn}
 use Rattle.collector.specs.Headline.{IsDecided, IsEntryFor, AreOneForEach, IsWholeRun, HasMemory}
 
 decided : (choice : Choice) (g : List (List ℕ)) (answer : Answer) → answer ≢ NoMemory → Answers choice g answer → IsDecided choice g answer

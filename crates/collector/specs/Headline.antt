@@ -6,12 +6,12 @@ use Rattle.planar_code.specs.Split.{IsSplit}
 use Rattle.streams.specs.declared.frames.Mark.{Mark}
 use Rattle.embedding.specs.Rules.{FirstBroken}
 use Rattle.common.specs.declared.choice.Choice.{Choice}
-use Rattle.entries.specs.declared.answer.Answer.{Answer}
-use Rattle.entries.specs.declared.answer.Answer.TheVariants.{Laid, Refused, NoMemory}
-use Rattle.entries.specs.declared.entry.Entry.{Entry}
-use Rattle.entries.specs.Answers.{IsLaid}
-use Rattle.drawing_laws.specs.Drawings.{IsDrawnIfLaid}
-use Rattle.entries.specs.Books.{BookModel}
+use Rattle.reports.specs.declared.answer.Answer.{Answer}
+use Rattle.reports.specs.declared.answer.Answer.TheVariants.{Laid, Refused, NoMemory}
+use Rattle.reports.specs.declared.entry.Entry.{Entry}
+use Rattle.reports.specs.Answers.{IsLaid}
+use Rattle.answers.specs.DrawnAnswers.{IsDrawnIfLaid}
+use Rattle.reports.specs.Books.{BookModel}
 
 -- The answer names the first rule that these neighbour lists break, or gives a plane with the lists, an orthogonal
 -- representation of it and its chosen outer face with the fewest bends.

@@ -1,1 +1,13 @@
+pub mod Answered
+pub mod FormLines
+pub mod DrawnBooks
+pub mod Concatenated
+pub mod Came
+pub mod Orders
+pub mod Waits
+pub mod Written
+pub mod Holding
+pub mod Whole
+pub mod Stops
 pub mod Headline
+pub mod ReadMessage

@@ -1,21 +1,21 @@
 //! The entries of a file that is read and answered on one thread.
 ghost use Rattle.std.specs.Prelude.{⊤, map};
 ghost use Rattle.lanes.specs.Notes.{Item};
-ghost use Rattle.entries.specs.Abouts.{about_of};
+ghost use Rattle.reports.specs.Abouts.{about_of};
 
 use answers::{Entry, answer};
 use common::Choice;
-use lanes::Keep;
+use lanes::RecordSink;
 use planar_code::Record;
 use std::alloc::{AllocError, Global};
 
-/// A `Keep` that answers each record and keeps the entries, in order.
+/// A `RecordSink` that answers each record and keeps the entries, in order.
 #[derive(Drop)]
 pub struct Entries {
     pub entries: Vec<Entry>,
 }
 
-impl Keep for Entries {
+impl RecordSink for Entries {
     type Refusal = AllocError;
 
     ghost kept = { λ e. map (λ entry. Item (about_of entry)) e.entries.items };

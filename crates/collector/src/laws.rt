@@ -2,8 +2,8 @@
 ghost use Rattle.std.specs.Prelude.{◌≡◌, ℕ, ◌<◌, List, false, slice_index_or};
 ghost use Rattle.common.specs.declared.choice.Choice.{Choice};
 ghost use Rattle.lanes.specs.Opening.{Meaning, Opened};
-ghost use Rattle.entries.specs.Books.{BookModel};
-ghost use Rattle.entries.specs.AllBooks.{AreAllBooks};
+ghost use Rattle.reports.specs.Books.{BookModel};
+ghost use Rattle.reports.specs.AllBooks.{AreAllBooks};
 ghost use Rattle.collector.specs.Headline.{IsWholeRun, HasMemory};
 
 /// If memory suffices, a file that is read without error has one right entry for each record.

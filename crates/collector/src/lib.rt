@@ -1,20 +1,45 @@
 //! Runs over whole files: each record is answered, and a run returns a book for each file.
 #![tactic(auto)]
 
-mod answering;
+mod chunks;
+mod drawn_texts;
+mod frames_giving;
+mod frames_run;
 mod kept;
+mod known_files;
 pub mod laws;
+mod line;
+mod lines;
+mod pace;
 mod plain;
+mod print_lines;
+mod printed;
+mod read_message;
 mod run;
+mod run_lines;
+mod texts;
+mod waiting;
+mod writing;
 
 pub use answers::{Answer, Cause, Entry, answer};
+pub use chunks::Chunks;
 pub use common::{Choice, DrawingKind};
-pub use entries::{Batch, Book, MAX_FILES};
+pub use drawn_texts::{books_are_drawn, lines_tell_drawings};
+pub use frames_run::run_frames;
+pub use known_files::{KnownEnd, KnownFiles, known_end};
 pub use lanes::{Gate, MemOpener, OpenFault, OpenGate, Opener, Stage};
+pub use line::Line;
+pub use pace::Pace;
 pub use plain::run_plain;
-pub use reports::{Form, ReportLine, Style, write_json, write_report};
+pub use print_lines::{PrintLines, line_lanes};
+pub use printed::{Printed, found_line};
+pub use reports::{Batch, Book, Form, MAX_FILES, ReportLine, Style, write_json, write_report};
+pub use ruled_lanes::MAX_CAPACITY;
 pub use run::{MAX_LANES, run_batch};
+pub use run_lines::Lines;
 pub use streams::{
     BatchFault, Frames, IoSink, Mark, MemTap, Sink, SinkFault, Tap, TapFault, WriteFault,
-    run_frames, write_frames,
+    write_frames,
 };
+pub use texts::Texts;
+pub use waiting::Waiting;

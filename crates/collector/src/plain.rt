@@ -1,14 +1,14 @@
 //! A run on the caller's thread.
 ghost use Rattle.std.specs.Prelude.{◌≡◌, ◌<◌, ◌≤◌, ◌⊎◌, ◌↔◌, Err, IfOk, IfErr, length, vec_len};
-ghost use Rattle.entries.specs.declared.limits.TheConstants.{MAX_FILES};
-ghost use Rattle.entries.specs.Books.{IsBook};
-ghost use Rattle.entries.specs.AllBooks.{AreAllBooks};
-ghost use Rattle.printing.specs.DrawnBooks.{AreDrawnBooks};
+ghost use Rattle.reports.specs.declared.limits.TheConstants.{MAX_FILES};
+ghost use Rattle.reports.specs.Books.{IsBook};
+ghost use Rattle.reports.specs.AllBooks.{AreAllBooks};
+ghost use Rattle.collector.specs.DrawnBooks.{AreDrawnBooks};
 
 use crate::kept::Entries;
 use common::Choice;
-use entries::{Batch, Book, MAX_FILES};
 use lanes::{Opener, read_file};
+use reports::{Batch, Book, MAX_FILES};
 use std::alloc::{AllocError, Global};
 use streams::{BatchFault, piece_buffer};
 

@@ -1,15 +1,15 @@
 //! A run over lanes.
 ghost use Rattle.std.specs.Prelude.{◌≡◌, ◌≤◌, ◌<◌, ◌⊎◌, ◌↔◌, Err, IfOk};
 ghost use Rattle.ruled_lanes.specs.declared.limits.TheConstants.{LANES, MAX_CAPACITY};
-ghost use Rattle.entries.specs.declared.limits.TheConstants.{MAX_FILES};
-ghost use Rattle.entries.specs.AllBooks.{AreAllBooks};
-ghost use Rattle.printing.specs.DrawnBooks.{AreDrawnBooks};
+ghost use Rattle.reports.specs.declared.limits.TheConstants.{MAX_FILES};
+ghost use Rattle.reports.specs.AllBooks.{AreAllBooks};
+ghost use Rattle.collector.specs.DrawnBooks.{AreDrawnBooks};
 
-use crate::answering::Answering;
-use common::Choice;
-use entries::{Batch, Entry, MAX_FILES, books_of};
+use answers::{Answering, KeepEntries};
+use common::{Choice, DrawingKind};
 use lane_runs::{Run, run_lanes};
 use lanes::{Drafts, Gate, Opener, Pauses, RunFault};
+use reports::{Batch, Entry, MAX_FILES, books_of};
 use ruled_lanes::LANES;
 use std::alloc::Global;
 use std::sync::Wait;
@@ -79,7 +79,11 @@ pub fn run_batch<R: Threads + Wait + Sync, O: Opener, G: Gate>(
         capacity,
         choice,
     };
-    let (drafts, ran) = run_lanes(&run, &Answering, drafts);
+    let kind = Answering {
+        purpose: KeepEntries,
+        drawing_kind: DrawingKind::Quick,
+    };
+    let (drafts, ran) = run_lanes(&run, &kind, drafts);
     match ran {
         Ok(()) => {}
         Err(RunFault::Memory) => return Err(BatchFault::Memory),

@@ -6,7 +6,7 @@ use Rattle.std.specs.Str.Parse.{ParsesUnsigned}
 use Rattle.std.specs.Borrow.{Bor}
 use Rattle.std.specs.declared.alloc.Global.{Global}
 use Rattle.common.specs.declared.choice.Choice.{Choice}
-use Rattle.reports.specs.declared.form.Form.{Form}
+use Rattle.streams.specs.declared.form.Form.{Form}
 use Rattle.common.specs.declared.drawing_kind.DrawingKind.{DrawingKind}
 use Rattle.common.specs.declared.drawing_kind.DrawingKind.TheVariants.{Quick, Short}
 use Rattle.reports.specs.declared.style.Style.{Style}

@@ -2,7 +2,7 @@
 ghost use Rattle.std.specs.Prelude.{◌≡◌, ◌≢◌, ◌<◌, ◌≤◌, ◌↔◌, ◌∷◌, [], ◌||◌, Err, IfErr, IfOk, IfNone, IfSome, length, map, option_map, true, false};
 ghost use Rattle.std.specs.List.{count_by};
 ghost use Rattle.common.specs.declared.choice.Choice.{Choice};
-ghost use Rattle.reports.specs.declared.form.Form.{Form};
+ghost use Rattle.streams.specs.declared.form.Form.{Form};
 ghost use Rattle.command_line.specs.declared.reading.Keyword.{Keyword};
 ghost use Rattle.command_line.specs.declared.request.ParseFault.{ParseFault};
 ghost use Rattle.named_sources.specs.Naming as naming;
@@ -357,6 +357,7 @@ fn describe<'a>(alloc: Global) -> Result<Command<'a>, AllocError> {
         .subcommand(describe_check(alloc)?)
 }
 
+/// The program's name and the options that stand before a command.
 fn describe_program<'a>(alloc: Global) -> Result<Command<'a>, AllocError> {
     Command::new(alloc, "planarbend")
         .bin_name("planarbend")?
@@ -365,6 +366,7 @@ fn describe_program<'a>(alloc: Global) -> Result<Command<'a>, AllocError> {
         .arg(flag(alloc, "version"))
 }
 
+/// The command `layout` with its options.
 fn describe_layout<'a>(alloc: Global) -> Result<Command<'a>, AllocError> {
     Command::new(alloc, "layout")
         .arg(valued(alloc, "lanes", "N").allow_hyphen_values(true))?
@@ -386,6 +388,7 @@ fn valued<'a>(alloc: Global, name: &'a str, value: &'a str) -> Arg<'a> {
     Arg::new(alloc, name).long(name).value_name(value)
 }
 
+/// The files of `layout`: one or more.
 fn layout_files<'a>(alloc: Global) -> Arg<'a> {
     Arg::new(alloc, "FILE")
         .required(true)
@@ -393,10 +396,12 @@ fn layout_files<'a>(alloc: Global) -> Arg<'a> {
         .action(ArgAction::Append)
 }
 
+/// The command `frames`, with one file.
 fn describe_frames<'a>(alloc: Global) -> Result<Command<'a>, AllocError> {
     Command::new(alloc, "frames").arg(file_of(alloc, "FILE"))
 }
 
+/// The command `check`, with a file of graphs and one of lines.
 fn describe_check<'a>(alloc: Global) -> Result<Command<'a>, AllocError> {
     Command::new(alloc, "check")
         .arg(flag(alloc, "json"))?

@@ -5,11 +5,11 @@ use Rattle.lanes.specs.Notes.{Note}
 use Rattle.lanes.specs.Opening.{Meaning}
 use Rattle.lanes.specs.declared.fault.RunFault.{RunFault}
 use Rattle.lanes.specs.Faults.{IsOfLanes, HoldsOnFault}
-use Rattle.reports.specs.declared.form.Form.{Form}
-use Rattle.printing.specs.declared.run_lines.Lines.{Lines}
-use Rattle.printing.specs.Holding.{form_of, choice_of, files_of, ArePartialNotes, ArePartialLines}
-use Rattle.printing.specs.Whole.{IsBegun}
-use Rattle.printing.proofs.Ordering.{begun_left_off, begun_none}
+use Rattle.streams.specs.declared.form.Form.{Form}
+use Rattle.collector.specs.declared.run_lines.Lines.{Lines}
+use Rattle.collector.specs.Holding.{form_of, choice_of, files_of, ArePartialNotes, ArePartialLines}
+use Rattle.collector.specs.Whole.{IsBegun}
+use Rattle.collector.proofs.Ordering.{begun_left_off, begun_none}
 
 -- where it holds of a consumer that gave up, and of what one holds if the lanes failed
 pub ended_with : {F Q : Type 0} (gave_up : RunFault F → Type 0) (holds : List Note → Type 0) (fault : RunFault F) → (gave_up fault → Q) → (IsOfLanes fault → (ns : List Note) → holds ns → Q)

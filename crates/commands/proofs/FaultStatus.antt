@@ -10,11 +10,11 @@ use Rattle.lanes.specs.declared.fault.RunFault.TheVariants.{Memory, LaneLost, Th
 use Rattle.lanes.specs.Faults.{IsOfLanes}
 use Rattle.common.specs.declared.choice.Choice.{Choice}
 use Rattle.lanes.specs.Opening.{Meaning}
-use Rattle.reports.specs.declared.form.Form.{Form}
+use Rattle.streams.specs.declared.form.Form.{Form}
 use Rattle.ruled_lanes.specs.declared.limits.TheConstants.{LANES}
-use Rattle.entries.specs.declared.limits.TheConstants.{MAX_FILES}
-use Rattle.printing.specs.Whole.{IsBegun}
-use Rattle.printing.specs.Written.{GivesUp}
+use Rattle.reports.specs.declared.limits.TheConstants.{MAX_FILES}
+use Rattle.collector.specs.Whole.{IsBegun}
+use Rattle.collector.specs.Written.{GivesUp}
 use Rattle.command_line.specs.declared.faults.Fault.{Fault}
 use Rattle.command_line.specs.Faults.{fault_of}
 use Rattle.command_line.specs.Refusals.{IsMisuse}

@@ -2,12 +2,12 @@
 use Rattle.std.proofs.Common.{◌≡◌, ◌≢◌, ◌<◌, ◌⊎◌, ℕ, Bool, true, false, List, Option, Result, Ok, Err, OnErr, IfOk, IfErr, Bor, refl, ap, inl, inr, subst, sym, ◌∙◌}
 use Rattle.streams.specs.declared.faults.BatchFault.TheVariants.{TooManyFiles, BadLanes}
 use Rattle.ruled_lanes.specs.declared.limits.TheConstants.{LANES}
-use Rattle.entries.specs.declared.limits.TheConstants.{MAX_FILES}
+use Rattle.reports.specs.declared.limits.TheConstants.{MAX_FILES}
 use Rattle.command_line.specs.declared.faults.Fault.{Fault}
 use Rattle.command_line.specs.Refusals.{IsMisuse}
 use Rattle.common.specs.declared.choice.Choice.{Choice}
 use Rattle.lanes.specs.Opening.{Meaning}
-use Rattle.reports.specs.declared.form.Form.{Form}
+use Rattle.streams.specs.declared.form.Form.{Form}
 use Rattle.commands.specs.TextRuns.{IsBegun, IsStreamed}
 use Rattle.commands.specs.Statuses.{IsTextOfBooks, IsBegunTextOfBooks}
 use Rattle.commands.proofs.FaultStatus.{refusable_run}

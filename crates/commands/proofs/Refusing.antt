@@ -7,7 +7,7 @@ use Rattle.command_line.specs.declared.request.Request.TheVariants as request
 use Rattle.command_line.specs.Requests.{IsAskedBy, number_text_in}
 use Rattle.command_line.specs.declared.reading.Number.TheVariants as number
 use Rattle.command_line.proofs.Asking.{frames_or_layout, check_or_layout, same_number}
-use Rattle.entries.specs.declared.limits.TheConstants.{MAX_FILES}
+use Rattle.reports.specs.declared.limits.TheConstants.{MAX_FILES}
 use Rattle.ruled_lanes.specs.declared.limits.TheConstants.{LANES}
 use Rattle.commands.specs.Statuses.{IsRefusable}
 

@@ -1,6 +1,6 @@
 -- Texts of verdicts, where less is known of the files by their names than of what was opened.
 use Rattle.std.proofs.Common.{◌≡◌, ◌∙◌, ℕ, Bool, List, Option, Some, sym, subst}
-use Rattle.checking.specs.declared.run.Asked.{Asked}
+use Rattle.checking.specs.declared.run.CheckOptions.{CheckOptions}
 use Rattle.checking.specs.Runs.{IsTextOfVerdicts, IsBegunTextOfVerdicts}
 
 abbrev pub KnowsMore : Option (List ℕ) → Bool → Option (List ℕ) → Bool → Type 0
@@ -13,7 +13,7 @@ known_less known less fails less_fails bytes cut more knows all is =
     let both = knows all same.0 in
     (both.0, sym same.1 ∙ both.1)
 
-module _ (how asked : Asked) (same : how ≡ asked) (known less : Option (List ℕ)) (fails less_fails : Bool) (known_lines less_lines : Option (List ℕ)) (lines_fail less_lines_fail : Bool)
+module _ (how asked : CheckOptions) (same : how ≡ asked) (known less : Option (List ℕ)) (fails less_fails : Bool) (known_lines less_lines : Option (List ℕ)) (lines_fail less_lines_fail : Bool)
     (old new : Option (List ℕ)) (more : KnowsMore known fails less less_fails) (more_lines : KnowsMore known_lines lines_fail less_lines less_lines_fail) where
   pub verdicts_less : (failed : Bool) (status : ℕ) → IsTextOfVerdicts how known fails known_lines lines_fail old new failed status
       → IsTextOfVerdicts asked less less_fails less_lines less_lines_fail old new failed status

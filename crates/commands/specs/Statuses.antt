@@ -10,20 +10,19 @@ use Rattle.streams.specs.Sink.{AppendsPrefix}
 use Rattle.streams.specs.Text.{frames_text}
 use Rattle.common.specs.declared.choice.Choice.{Choice}
 use Rattle.lanes.specs.Opening.{Meaning, known_of, fails_of}
-use Rattle.entries.specs.Books.{BookModel}
-use Rattle.entries.specs.AllBooks.{AreAllBooks}
-use Rattle.reports.specs.declared.form.Form.{Form}
-use Rattle.reports.specs.declared.form.Form.TheVariants.{Report, Json}
+use Rattle.reports.specs.Books.{BookModel}
+use Rattle.reports.specs.AllBooks.{AreAllBooks}
+use Rattle.streams.specs.declared.form.Form.{Form}
 use Rattle.reports.specs.Forms.{text_in}
 use Rattle.reports.specs.FlawlessBooks.{IsFlawlessBook}
 use Rattle.checking.specs.Runs.{IsTextOfVerdicts, IsBegunTextOfVerdicts}
-use Rattle.checking.specs.declared.run.Asked.{Asked}
+use Rattle.checking.specs.declared.run.CheckOptions.{CheckOptions}
 use Rattle.commands.specs.TextRuns.{IsBegun}
 use Rattle.named_sources.specs.Naming.{meanings_in}
 use Rattle.command_line.specs.Requests.{IsAskedBy, AsksCheck, asks_in}
 use Rattle.command_line.specs.Helps.{help_in}
 use Rattle.command_line.specs.declared.reading.Keyword.{Keyword}
-use Rattle.entries.specs.declared.limits.TheConstants.{MAX_FILES}
+use Rattle.reports.specs.declared.limits.TheConstants.{MAX_FILES}
 use Rattle.ruled_lanes.specs.declared.limits.TheConstants.{LANES}
 use Rattle.command_line.specs.declared.request.Request.{Request}
 use Rattle.command_line.specs.declared.request.Request.TheVariants.{Frames, Layout, Check}
@@ -87,25 +86,21 @@ pub record IsBegunTextOfRecords (meaning : Meaning) (old new : Option (List ℕ)
   pub known : (all : List ℕ) → known_of meaning ≡ Some all → IsMarked all (fails_of meaning) found.records found.mark
   pub text : AppendsPrefix old new (frames_text found)
 
-abbrev pub is_json : Form → Bool
-is_json Report = false
-is_json Json = true
-
--- how verdicts are asked for
-abbrev pub asked_in : CheckRequest → Asked
-asked_in asked = record { json = is_json asked.form; faces = asked.faces }
+-- the options of a request for verdicts
+abbrev pub options_of : CheckRequest → CheckOptions
+options_of asked = record { form = asked.form; faces = asked.faces }
 
 -- The whole text of the verdicts that a request asks for, where the file with a name means what `files` says, was added
 -- to the output, and the status says what they are.
 abbrev pub IsTextOfChecked : (List ℕ → Meaning) → CheckRequest → Option (List ℕ) → Option (List ℕ) → Bool → ℕ → Type 0
 IsTextOfChecked files asked old new failed status =
-    IsTextOfVerdicts (asked_in asked) (known_of (files asked.graphs.now)) (fails_of (files asked.graphs.now))
+    IsTextOfVerdicts (options_of asked) (known_of (files asked.graphs.now)) (fails_of (files asked.graphs.now))
     (known_of (files asked.lines.now)) (fails_of (files asked.lines.now)) old new failed status
 
 -- a prefix of such a text was added
 abbrev pub IsBegunTextOfChecked : (List ℕ → Meaning) → CheckRequest → Option (List ℕ) → Option (List ℕ) → Type 0
 IsBegunTextOfChecked files asked old new =
-    IsBegunTextOfVerdicts (asked_in asked) (known_of (files asked.graphs.now)) (fails_of (files asked.graphs.now))
+    IsBegunTextOfVerdicts (options_of asked) (known_of (files asked.graphs.now)) (fails_of (files asked.graphs.now))
     (known_of (files asked.lines.now)) (fails_of (files asked.lines.now)) old new
 
 -- the whole text that a request asks for, where the file with a name means what `files` says, was added to the output,

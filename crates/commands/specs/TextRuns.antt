@@ -8,10 +8,10 @@ use Rattle.streams.specs.declared.output.SinkFault.{SinkFault}
 use Rattle.lanes.specs.declared.fault.RunFault.{RunFault}
 use Rattle.lanes.specs.declared.fault.RunFault.TheVariants.{Memory, LaneLost, Thread, Refused}
 use Rattle.lanes.specs.Opening.{Meaning}
-use Rattle.entries.specs.declared.limits.TheConstants.{MAX_FILES}
-use Rattle.reports.specs.declared.form.Form.{Form}
-pub use Rattle.printing.specs.Whole.{IsBegun}
-use Rattle.printing.specs.Whole.{IsAllWritten}
+use Rattle.reports.specs.declared.limits.TheConstants.{MAX_FILES}
+use Rattle.streams.specs.declared.form.Form.{Form}
+pub use Rattle.collector.specs.Whole.{IsBegun}
+use Rattle.collector.specs.Whole.{IsAllWritten}
 use Rattle.command_line.specs.declared.faults.Fault.{Fault}
 use Rattle.command_line.specs.declared.faults.Fault.TheVariants.{Run, Write}
 use Rattle.command_line.specs.Refusals.{IsMisuse}

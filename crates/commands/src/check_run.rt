@@ -2,12 +2,11 @@
 ghost use Rattle.std.specs.Prelude.{◌≡◌, ◌⊎◌, ◌↔◌, true, false, IfOk, IfErr, OnErr};
 ghost use Rattle.streams.specs.declared.faults.WriteFault.{WriteFault};
 ghost use Rattle.command_line.specs.Refusals.{IsMisuse};
-ghost use Rattle.commands.specs.Statuses.{IsTextOfChecked, IsBegunTextOfChecked, is_json};
+ghost use Rattle.commands.specs.Statuses.{IsTextOfChecked, IsBegunTextOfChecked};
 
-use checking::{Asked, check_files};
+use checking::{CheckOptions, check_files};
 use command_line::{CheckRequest, Fault};
 use named_sources::{FileNotes, NamedFiles, open_source};
-use reports::Form;
 use std::alloc::AllocError;
 use std::sync::Wait;
 use streams::Sink;
@@ -40,22 +39,12 @@ pub fn check<R: AllocGlobal + Wait, N: NamedFiles, S: Sink, E: Sink>(
     let notes = FileNotes::new(rt.alloc(), 2)?;
     let graphs = open_source(files, rt.alloc(), asked.graphs, notes.note(0))?;
     let lines = open_source(files, rt.alloc(), asked.lines, notes.note(1))?;
-    let how = Asked {
-        json: is_json(asked.form),
+    let how = CheckOptions {
+        form: asked.form,
         faces: asked.faces,
     };
     let checked = check_files(rt, graphs, lines, how, out)?;
     notes.end(0, checked.mark);
     notes.write(rt.alloc(), &[asked.graphs, asked.lines], err);
     Ok(checked.status)
-}
-
-/// Whether the lines of this format are JSON.
-fn is_json(form: Form) -> bool
-    ensures { result ≡ is_json form }
-{
-    match form {
-        Form::Report => false,
-        Form::Json => true,
-    }
 }

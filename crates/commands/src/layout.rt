@@ -2,19 +2,22 @@
 ghost use Rattle.std.specs.Prelude.{◌≡◌, ◌<◌, ◌≤◌, ◌⊎◌, ◌↔◌, false, Err, IfOk, IfErr, OnErr, vec_len};
 ghost use Rattle.command_line.specs.Refusals.{IsMisuse};
 ghost use Rattle.ruled_lanes.specs.declared.limits.TheConstants.{LANES};
-ghost use Rattle.entries.specs.declared.limits.TheConstants.{MAX_FILES};
+ghost use Rattle.reports.specs.declared.limits.TheConstants.{MAX_FILES};
 ghost use Rattle.named_sources.specs.Naming.{meanings_in};
 ghost use Rattle.commands.specs.Statuses.{IsTextOfBooks, IsBegunTextOfBooks};
 
 use crate::text::TextRun;
 use command_line::{Console, Fault, LayoutRequest, Meter};
+use lane_runs::Run;
+use lanes::Pauses;
 use named_sources::{FileNotes, FileOpener, NamedFiles};
+use ruled_lanes::MAX_CAPACITY;
 use std::sync::Wait;
 use std::thread::Threads;
-use streams::{BatchFault, MAX_CAPACITY, Sink};
+use streams::{BatchFault, Sink};
 
 /// The maximum number of messages that wait between two threads of a run.
-pub const CAPACITY: u32 = MAX_CAPACITY;
+const CAPACITY: u32 = MAX_CAPACITY;
 
 /// The number of bytes of a megabyte.
 const MEGABYTE: usize = 1_000_000;
@@ -68,18 +71,22 @@ pub fn layout<
     let Ok(count) = u32::try_from(names.len()) else {
         return Err(Fault::Run(BatchFault::TooManyFiles));
     };
-    let run = TextRun {
+    let pauses = Pauses::none();
+    let run = Run {
         rt,
         alloc: rt.alloc(),
         opener: &opener,
+        pauses: &pauses,
         gate: meter,
         files: count,
         lanes: asked.lanes,
         capacity: CAPACITY,
         choice: asked.choice,
-        waiting: (asked.waiting as usize).saturating_mul(MEGABYTE),
-        style: asked.style,
-        notes: Some(notes),
     };
-    run.write(out)
+    let text_run = TextRun {
+        run,
+        style: asked.style,
+        waiting: (asked.waiting as usize).saturating_mul(MEGABYTE),
+    };
+    text_run.write(out)
 }

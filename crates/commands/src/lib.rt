@@ -4,12 +4,10 @@
 
 mod check_run;
 mod layout;
-mod line_lanes;
 mod process;
 mod program;
 mod text;
 mod version;
-mod worded;
 
 pub use command_line::{
     Console, ErrorConsole, Fault, Meter, Progress, SharedTerminal, write_fault,

@@ -2,9 +2,9 @@
 ghost use Rattle.std.specs.Prelude.{◌≡◌, ◌<◌, ◌≤◌, ◌⊎◌, ℕ, List, length, vec_len, true, false, IfOk, IfErr, OnErr};
 ghost use Rattle.std.specs.Borrow.{Bor};
 ghost use Rattle.common.specs.declared.choice.Choice.{Choice};
-ghost use Rattle.reports.specs.declared.form.Form.{Form};
+ghost use Rattle.streams.specs.declared.form.Form.{Form};
 ghost use Rattle.command_line.specs.Refusals.{IsMisuse};
-ghost use Rattle.entries.specs.declared.limits.TheConstants.{MAX_FILES};
+ghost use Rattle.reports.specs.declared.limits.TheConstants.{MAX_FILES};
 ghost use Rattle.ruled_lanes.specs.declared.limits.TheConstants.{LANES};
 ghost use Rattle.named_sources.specs.Naming.{meanings_in};
 ghost use Rattle.clap.specs.Words.{kind_of};
@@ -16,7 +16,7 @@ ghost use Rattle.commands.specs.Statuses.{IsTextOfRecords, IsTextOfBooks, IsText
 ghost use Rattle.command_line.specs.Requests.{IsAskedBy, asks_in};
 
 use crate::check_run::check;
-use crate::layout::{CAPACITY, layout};
+use crate::layout::layout;
 use crate::version::VERSION;
 use clap::Error;
 use clap::error::ErrorKind;
@@ -29,7 +29,7 @@ use reports::status_of;
 use std::alloc::{AllocError, Global};
 use std::sync::Wait;
 use std::thread::Threads;
-use streams::{Sink, WriteFault, put_all, run_frames, write_frames};
+use streams::{Sink, WriteFault, piece_buffer, put_all, write_frames_of};
 
 /// Does what the arguments after the program's name ask for, and returns the program's exit status.
 ///
@@ -194,7 +194,7 @@ fn end_by<E: Sink>(fault: Fault, reason: Reason, err: &mut E) -> u8
 }
 
 /// Writes the records of one file and how it ends, and the line about the file. Returns the exit status of the records.
-fn frames<R: AllocGlobal + Threads + Wait + Sync, N: NamedFiles, S: Sink, E: Sink>(
+fn frames<R: AllocGlobal, N: NamedFiles, S: Sink, E: Sink>(
     rt: &R,
     name: &str,
     files: &N,
@@ -212,11 +212,11 @@ fn frames<R: AllocGlobal + Threads + Wait + Sync, N: NamedFiles, S: Sink, E: Sin
 {
     let notes = FileNotes::new(rt.alloc(), 1)?;
     let source = open_source(files, rt.alloc(), name, notes.note(0))?;
-    let found = run_frames(rt, rt.alloc(), source, CAPACITY)?;
-    write_frames(&found, out)?;
-    notes.end(0, found.mark());
+    let mut buffer = piece_buffer(rt.alloc())?;
+    let mark = write_frames_of(source, rt.alloc(), buffer.as_mut_slice(), out)?;
+    notes.end(0, mark);
     notes.write(rt.alloc(), &[name], err);
-    Ok(status_of(found.mark()))
+    Ok(status_of(mark))
 }
 
 /// Writes why the command line is refused, and returns the exit status: 2, or 1 if memory ran out.

@@ -1,22 +1,20 @@
 //! A run whose output is streamed.
-ghost use Rattle.std.specs.Prelude.{◌≡◌, ◌≤◌, ◌⊎◌, List, [], false, IfOk, IfErr, OnOk, OnErr};
-ghost use Rattle.ruled_lanes.specs.declared.limits.TheConstants.{MAX_CAPACITY};
+ghost use Rattle.std.specs.Prelude.{◌≡◌, ◌<◌, ◌≤◌, ◌⊎◌, List, [], false, IfOk, IfErr, OnOk, OnErr};
+ghost use Rattle.ruled_lanes.specs.declared.limits.TheConstants.{LANES, MAX_CAPACITY};
+ghost use Rattle.reports.specs.declared.limits.TheConstants.{MAX_FILES};
 ghost use Rattle.lanes.specs.Notes.{Note};
 ghost use Rattle.lanes.specs.Files.{AreToldWhole};
 ghost use Rattle.lanes.specs.Faults.{HoldsOnFault};
 ghost use Rattle.lane_runs.specs.Accepting.{AcceptsFiles};
-ghost use Rattle.printing.specs.Whole.{IsAllWritten, IsBegun};
+ghost use Rattle.collector.specs.Whole.{IsAllWritten, IsBegun};
 ghost use Rattle.commands.specs.TextRuns.{HasFailedBy, IsStreamed};
 
-use crate::line_lanes::LineLanes;
+use collector::{KnownFiles, Lines, Pace, Texts, line_lanes};
 use command_line::Fault;
 use common::Choice;
-use entries::MAX_FILES;
 use lane_runs::{LaneKind, Run, run_lanes};
 use lanes::{Consumer, Gate, Opener, Pauses, RunFault};
-use named_sources::FileNotes;
-use printing::{Lines, Meant, Pace, Texts};
-use reports::Style;
+use reports::{MAX_FILES, Style};
 use ruled_lanes::LANES;
 use std::alloc::Global;
 use std::marker::Brand;
@@ -27,9 +25,10 @@ use streams::{BatchFault, Sink, SinkFault};
 /// Answers all records of the first `files` files, streams the text to `sink`, and returns the exit status of the run.
 ///
 /// Each record is answered under this choice of the outer face. The text is that of the files' books in the format of
-/// this style, as `Form::write` writes books, and is written while the files are read. JSON lines have drawings of the
-/// style's kind; the report shows no coordinates, and its lines are of quick ones. It returns the exit status of the
-/// whole text: 0 if each file ended complete and memory ran out for no record's answer or line, and otherwise 3.
+/// this style, as `write_report` and `write_json` write books, and is written while the files are read. JSON lines have
+/// drawings of the style's kind; the report shows no coordinates, and its lines are of quick ones. It returns the exit
+/// status of the whole text: 0 if each file ended complete and memory ran out for no record's answer or line, and
+/// otherwise 3.
 ///
 /// Files go over `lanes` lanes as in `run_batch`, and are written in order: the lines of the first file that has not
 /// ended go to the sink as they arrive, and those of later files are buffered. The layout of a record is freed once its
@@ -63,82 +62,68 @@ pub fn write_batch<'r, R: Threads + Wait + Sync, O: Opener, G: Gate, S: Sink>(
     requires stands { S.failed sink.old ≡ false }
     ensures { IsStreamed choice (O.meaning opener.now) style.form files lanes S.taken S.failed sink.old sink.new result }
 {
-    let run = TextRun {
+    let pauses = Pauses::none();
+    let run = Run {
         rt,
         alloc,
         opener,
+        pauses: &pauses,
         gate,
         files,
         lanes,
         capacity,
         choice,
-        waiting,
-        style,
-        notes: None,
     };
-    run.write(sink)
+    let text_run = TextRun {
+        run,
+        style,
+        waiting,
+    };
+    text_run.write(sink)
 }
 
-/// The parameters of a run whose output is streamed: those of `write_batch`, and where to note how each file ends.
+/// A run whose output is streamed.
 #[derive(Drop)]
 pub(crate) struct TextRun<'r, R, O, G> {
-    pub(crate) rt: &'r R,
-    pub(crate) alloc: Global,
-    pub(crate) opener: &'r O,
-    pub(crate) gate: &'r G,
-    pub(crate) files: u32,
-    pub(crate) lanes: u32,
-    pub(crate) capacity: u32,
-    pub(crate) choice: Choice,
-    pub(crate) waiting: usize,
+    pub(crate) run: Run<'r, R, O, G>,
+    /// The format of the lines, and the kind of their drawings.
     pub(crate) style: Style,
-    pub(crate) notes: Option<&'r FileNotes>,
-    ghost least: { 1 ≤ capacity },
-    ghost most: { capacity ≤ MAX_CAPACITY },
+    /// The limit on buffered text of later files, in bytes, from which on their reading pauses.
+    pub(crate) waiting: usize,
 }
 
 impl<R: Threads + Wait + Sync, O: Opener, G: Gate> TextRun<'_, R, O, G> {
-    /// Streams the text of the run as `write_batch` does, and notes how each file ends.
+    /// Streams the text of the run as `write_batch` does, and returns the exit status.
     pub(crate) fn write<S: Sink>(&self, sink: &mut S) -> Result<u8, Fault>
         requires stands { S.failed sink.old ≡ false }
-        ensures { IsStreamed self.now.choice (O.meaning self.now.opener.now) self.now.style.form self.now.files self.now.lanes
+        ensures { IsStreamed self.now.run.choice (O.meaning self.now.run.opener.now) self.now.style.form self.now.run.files self.now.run.lanes
             S.taken S.failed sink.old sink.new result }
     {
-        if self.files > MAX_FILES {
+        if self.run.files > MAX_FILES {
             return Err(Fault::Run(BatchFault::TooManyFiles));
         }
-        if self.lanes == 0 || self.lanes > LANES {
+        if self.run.lanes == 0 || self.run.lanes > LANES {
             return Err(Fault::Run(BatchFault::BadLanes));
         }
-        let pauses = Pauses::none();
-        let run = Run {
-            rt: self.rt,
-            alloc: self.alloc,
-            opener: self.opener,
-            pauses: &pauses,
-            gate: self.gate,
-            files: self.files,
-            lanes: self.lanes,
-            capacity: self.capacity,
-            choice: self.choice,
-        };
         let pace = Pace {
-            pauses: &pauses,
+            pauses: self.run.pauses,
             most: self.waiting,
         };
-        Ok(write_files::<Brand, _, _, _, _>(&run, self.style, pace, self.notes, sink)?)
+        Ok(write_files::<Brand, _, _, _, _>(&self.run, self.style, pace, sink)?)
     }
 }
 
 /// Writes the text of a run in this style and at this pace. The type `J` represents what the files mean.
-fn write_files<J: Meant + Send + Sync, R: Threads + Wait + Sync, O: Opener, G: Gate, S: Sink>(
+fn write_files<J: KnownFiles + Send + Sync, R: Threads + Wait + Sync, O: Opener, G: Gate, S: Sink>(
     run: &Run<'_, R, O, G>,
     style: Style,
     pace: Pace<'_>,
-    notes: Option<&FileNotes>,
     sink: &mut S,
 ) -> Result<u8, RunFault<SinkFault>>
     requires stands { S.failed sink.old ≡ false }
+    requires few_files { run.now.files ≤ MAX_FILES }
+    requires some { 0 < run.now.lanes }
+    requires few { run.now.lanes ≤ LANES }
     requires same_meaning { J.meaning ≡ O.meaning run.now.opener.now }
     ensures written { IfOk result (IsAllWritten run.now.choice (O.meaning run.now.opener.now) style.form run.now.files (S.taken sink.old) (S.taken sink.new)) }
     ensures begun { OnErr result ∥ IsBegun run.now.choice (O.meaning run.now.opener.now) style.form run.now.files (S.taken sink.old) (S.taken sink.new) ∥₁ }
@@ -148,9 +133,9 @@ fn write_files<J: Meant + Send + Sync, R: Threads + Wait + Sync, O: Opener, G: G
 {
     let lines = Lines::new(run.alloc, style.form, run.choice, run.files)?;
     let texts = Texts::new(run.alloc, sink, lines, pace);
-    let lanes = LineLanes::<J>::new(style, notes);
+    let lanes = line_lanes::<J>(style);
     let mut ran = Ok(());
-    let texts = run_into(run, &lanes, texts, &mut ran);
+    let texts = gather_into(run, &lanes, texts, &mut ran);
     match ran {
         Ok(()) => match texts.finish() {
             Ok(status) => Ok(status),
@@ -172,13 +157,16 @@ fn let_go<S: Sink>(texts: Texts<'_, S, Lines>)
 
 /// Runs lanes of this kind, and stores the result in `ran`: returned beside it in a pair, the state of the sink that
 /// the consumer holds would not be known.
-fn run_into<
+fn gather_into<
     L: LaneKind,
     C: Consumer<L::Entry, L::End>,
     R: Threads + Wait + Sync,
     O: Opener,
     G: Gate,
 >(run: &Run<'_, R, O, G>, kind: &L, consumer: C, ran: &mut Result<(), RunFault<C::Refusal>>) -> C
+    requires few_files { run.now.files ≤ MAX_FILES }
+    requires some { 0 < run.now.lanes }
+    requires few { run.now.lanes ≤ LANES }
     requires empty { C.holds consumer [] }
     requires accepts { AcceptsFiles L.accepts L.ends (O.meaning run.now.opener.now) }
     ensures told { OnOk ran.new ((ns : List Note) × C.holds result ns × AreToldWhole run.now.choice (O.meaning run.now.opener.now) run.now.files ns) }

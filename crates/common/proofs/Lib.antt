@@ -1,1 +1,3 @@
 pub mod Sums
+pub mod Pieces
+pub mod PushedLists

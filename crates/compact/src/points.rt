@@ -2,7 +2,7 @@
 
 ghost use Rattle.std.specs.Prelude.{◌≡◌, ◌≤◌, length, map, slice_index, IfOk, IfErr};
 ghost use Rattle.std.specs.List.{range_with_len};
-ghost use Rattle.ortho_rep.specs.Storage.{slices_at, AreStarts};
+ghost use Rattle.common.specs.Slices.{slices_at, AreStarts};
 ghost use Rattle.compact.specs.Monotone.{AreLeastPoints, AreCorners, IsCompactFault, point_at};
 
 use crate::axis::least_coordinates;

@@ -10,7 +10,7 @@ use Rattle.conditions.specs.declared.conditions.DartEnds.{DartEnds}
 use Rattle.conditions.specs.declared.conditions.TurnsAlong.{TurnsAlong}
 use Rattle.conditions.specs.declared.fault.KeepFault.{KeepFault}
 use Rattle.conditions.specs.declared.fault.KeepFault.TheVariants.{NoAngle, NoEdge, Conflict, TooManyTurns, NoOuter, NoShape, Memory}
-use Rattle.cuts.specs.Cut.{ShowsNone}
+use Rattle.conditions.specs.Cut.{ShowsNone}
 use Rattle.conditions.specs.Asked.{Names, IsAsked, IsAmong, IsDart, AreDarts, AsksAngle, AsksTurns}
 use Rattle.conditions.specs.Chosen.{IsGreatestOpen, HasNoChosen, IsToldOf, IsKeepFault}
 

@@ -4,4 +4,7 @@ pub mod Kept
 pub mod Putting
 pub mod AngleLists
 pub mod TurnLists
-pub mod Meant
+pub mod ByDarts
+pub mod Grown
+pub mod CutSets
+pub mod Excluded

@@ -11,7 +11,7 @@ use Rattle.ortho_rep.specs.Keeping.{IsLeastKeeping, HasNoneKeeping}
 use Rattle.ortho_rep.specs.Prices.{PricesModel, IsProofKeeping}
 use Rattle.ortho_rep.specs.BestKeeping.{IsOpen, IsBestKeeping, HasNoFace}
 use Rattle.conditions.specs.declared.conditions.Conditions.{Conditions}
-use Rattle.cuts.specs.Cut.{ShowsNone}
+use Rattle.conditions.specs.Cut.{ShowsNone}
 use Rattle.conditions.specs.declared.fault.Unkept.{Unkept}
 use Rattle.conditions.specs.declared.fault.KeepFault.{KeepFault}
 use Rattle.conditions.specs.declared.fault.KeepFault.TheVariants.{NoAngle, NoEdge, Conflict, TooManyTurns, NoOuter, NoShape, Memory}

@@ -1,4 +1,5 @@
 pub mod Asked
 pub mod Asking
-pub mod Meanings
+pub mod DartConditions
 pub mod Chosen
+pub mod Cut

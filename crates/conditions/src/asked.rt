@@ -134,22 +134,22 @@ fn put_along(plane: &Plane, found: &mut [Option<i32>], dart: u16, turns: i16) ->
 {
     let reverse = plane.graph().reverse(dart);
     if dart < reverse {
-        put_turns(found, dart, forth(turns))
+        put_turns(found, dart, widened(turns))
     } else {
-        put_turns(found, reverse, back(turns))
+        put_turns(found, reverse, reversed(turns))
     }
 }
 
-/// The same turns, with room for more.
-fn forth(turns: i16) -> i32
+/// The number of turns along a dart, as a wider number.
+fn widened(turns: i16) -> i32
     ensures value { result ≡ turns }
     ensures few { nat_abs result ≤ 2 ^ 15 }
 {
     i32::from(turns)
 }
 
-/// The same turns, met in walking the other way.
-fn back(turns: i16) -> i32
+/// The number of turns along the reverse of a dart with these turns: with the other sign.
+fn reversed(turns: i16) -> i32
     ensures value { result ≡ neg_ℤ turns }
     ensures few { nat_abs result ≤ 2 ^ 15 }
 {

@@ -12,10 +12,10 @@ ghost use Rattle.conditions.specs.Chosen.{IsGreatestSoFar, IsGreatestOpen, IsCho
 
 use crate::asked::{angles_of, are_angles, are_darts, turns_of};
 use crate::conditions::Conditions;
+use crate::cuts::violated_cut;
 use crate::fault::{KeepFault, Unkept};
 use crate::marks::barred_of;
 use common::Choice;
-use cuts::cut_keeping;
 use faces::Plane;
 use flow_network::{Given, has_mark};
 use ortho_rep::{Prices, Scratch, Shape, SolveFault, best_shape_keeping, least_shape_keeping_in};
@@ -46,28 +46,28 @@ pub fn shape_keeping_in(
     ensures kept { IfOk result (λ found. IsKept conditions.now choice plane.new found.0 found.1) }
     ensures fault { IfErr result (IsKeepFault conditions.now choice plane.old) }
 {
-    let meant = match meant_by(alloc, plane, conditions) {
-        Ok(meant) => meant,
+    let by_darts = match conditions_by_darts(alloc, plane, conditions) {
+        Ok(by_darts) => by_darts,
         Err(fault) => return Err(fault),
     };
-    match chosen_shape(alloc, scratch, plane, choice, &meant) {
+    match chosen_shape(alloc, scratch, plane, choice, &by_darts) {
         Ok(solution) => Ok(solution),
-        Err(SolveFault::Infeasible) => Err(unkept(alloc, plane, &meant)),
+        Err(SolveFault::Infeasible) => Err(no_shape_fault(alloc, plane, &by_darts)),
         Err(SolveFault::Memory) => Err(KeepFault::Memory),
     }
 }
 
 /// Why no shape keeps what is given, told of the greatest face that may be outside.
-fn unkept(alloc: Global, plane: &mut Plane, meant: &Meaning) -> KeepFault
-    requires face { meant.now.greatest < plane.old.faces }
-    requires none { HasNoneKeeping (with_outer plane.old meant.now.greatest) meant.now.given }
+fn no_shape_fault(alloc: Global, plane: &mut Plane, by_darts: &DartConditions) -> KeepFault
+    requires face { by_darts.now.greatest < plane.old.faces }
+    requires none { HasNoneKeeping (with_outer plane.old by_darts.now.greatest) by_darts.now.given }
     ensures outer_moved { plane.new ≡ with_outer plane.old plane.new.outer }
-    ensures shown { IsToldOf plane.old meant.now.given meant.now.greatest result }
+    ensures shown { IsToldOf plane.old by_darts.now.given by_darts.now.greatest result }
 {
-    plane.set_outer(meant.greatest);
-    match cut_keeping(alloc, plane, &meant.given()) {
+    plane.set_outer(by_darts.greatest);
+    match violated_cut(alloc, plane, &by_darts.given()) {
         Ok(Some(cut)) => KeepFault::NoShape(Unkept {
-            outer: meant.greatest,
+            outer: by_darts.greatest,
             cut,
         }),
         Ok(None) => unreachable!(),
@@ -75,27 +75,27 @@ fn unkept(alloc: Global, plane: &mut Plane, meant: &Meaning) -> KeepFault
     }
 }
 
-/// What conditions mean for a plane: what is given of its darts, marks of its faces, and the greatest face that is not marked.
+/// Conditions by darts and faces: what is given of the darts of a plane, marks of its faces, and the greatest face that is not marked.
 #[derive(Drop)]
-struct Meaning {
+struct DartConditions {
     angles: Vec<Option<u8>>,
     turns: Vec<Option<i32>>,
     barred: Vec<bool>,
     greatest: u16,
 }
 
-impl Model for Meaning {
+impl Model for DartConditions {
     ghost use Rattle.flow_network.specs.Given.{CanBeGiven};
-    ghost use Rattle.conditions.specs.Meanings.{MeaningModel};
+    ghost use Rattle.conditions.specs.DartConditions.{DartConditionsModel};
 
-    ghost Value = { MeaningModel };
+    ghost Value = { DartConditionsModel };
 
     ghost view = { λ m. record { given = record { angles = m.angles.items; turns = m.turns.items }; barred = m.barred.items; greatest = m.greatest } };
 
     ghost invariant = { λ m. CanBeGiven m.angles.items m.turns.items };
 }
 
-impl Meaning {
+impl DartConditions {
     /// What is given of the darts.
     fn given(&self) -> Given<'_>
         ensures { result ≡ self.now.given }
@@ -104,10 +104,14 @@ impl Meaning {
     }
 }
 
-/// What the conditions mean for the plane.
-fn meant_by(alloc: Global, plane: &Plane, conditions: &Conditions<'_>) -> Result<Meaning, KeepFault>
-    ensures asked { IfOk result (λ meant. IsAsked plane.now conditions.now meant.given meant.barred) }
-    ensures greatest { IfOk result (λ meant. IsGreatestOpen plane.now meant.barred meant.greatest) }
+/// The conditions by darts and faces of the plane.
+fn conditions_by_darts(
+    alloc: Global,
+    plane: &Plane,
+    conditions: &Conditions<'_>,
+) -> Result<DartConditions, KeepFault>
+    ensures asked { IfOk result (λ by_darts. IsAsked plane.now conditions.now by_darts.given by_darts.barred) }
+    ensures greatest { IfOk result (λ by_darts. IsGreatestOpen plane.now by_darts.barred by_darts.greatest) }
     ensures fault { IfErr result (λ fault. (choice : Choice) → IsKeepFault conditions.now choice plane.now fault) }
 {
     // Only the proof needs this: `graph` says that the plane is one.
@@ -127,7 +131,7 @@ fn meant_by(alloc: Global, plane: &Plane, conditions: &Conditions<'_>) -> Result
         return Err(KeepFault::Memory);
     };
     match greatest_open(plane, &barred) {
-        Some(greatest) => Ok(Meaning {
+        Some(greatest) => Ok(DartConditions {
             angles,
             turns,
             barred,
@@ -143,22 +147,22 @@ fn chosen_shape(
     scratch: &mut Scratch,
     plane: &mut Plane,
     choice: Choice,
-    meant: &Meaning,
+    by_darts: &DartConditions,
 ) -> Result<(Shape, Prices), SolveFault>
-    requires { IsGreatestOpen plane.old meant.now.barred meant.now.greatest }
+    requires { IsGreatestOpen plane.old by_darts.now.barred by_darts.now.greatest }
     ensures outer_moved { plane.new ≡ with_outer plane.old plane.new.outer }
-    ensures chosen { OnOk result (IsChosenKeeping choice plane.new meant.now.given meant.now.barred) }
+    ensures chosen { OnOk result (IsChosenKeeping choice plane.new by_darts.now.given by_darts.now.barred) }
     ensures shape { IfOk result (λ found. IsShape plane.new found.0) }
-    ensures least { IfOk result (λ found. IsLeastKeeping plane.new meant.now.given found.0) }
-    ensures proof { IfOk result (λ found. IsProofKeeping plane.new meant.now.given found.0 found.1) }
+    ensures least { IfOk result (λ found. IsLeastKeeping plane.new by_darts.now.given found.0) }
+    ensures proof { IfOk result (λ found. IsProofKeeping plane.new by_darts.now.given found.0 found.1) }
     ensures none { IfErr result (λ fault. fault ≡ SolveFault.Infeasible
-        → HasNoChosen choice plane.old meant.now.given meant.now.barred) }
+        → HasNoChosen choice plane.old by_darts.now.given by_darts.now.barred) }
     ensures none_there { IfErr result (λ fault. fault ≡ SolveFault.Infeasible
-        → HasNoneKeeping (with_outer plane.old meant.now.greatest) meant.now.given) }
+        → HasNoneKeeping (with_outer plane.old by_darts.now.greatest) by_darts.now.given) }
 {
     match choice {
-        Choice::First => first_shape(alloc, scratch, plane, &meant.given(), meant.greatest),
-        Choice::Best => best_shape_keeping(alloc, plane, &meant.given(), &meant.barred),
+        Choice::First => first_shape(alloc, scratch, plane, &by_darts.given(), by_darts.greatest),
+        Choice::Best => best_shape_keeping(alloc, plane, &by_darts.given(), &by_darts.barred),
     }
 }
 

@@ -1,6 +1,6 @@
 //! Why no shape that keeps the conditions was returned.
 
-use cuts::Cut;
+use crate::cuts::Cut;
 use thiserror::Error;
 
 /// The reason why no shape that keeps the conditions was returned.

@@ -4,9 +4,11 @@
 mod asked;
 mod chosen;
 mod conditions;
+mod cuts;
 mod fault;
 mod marks;
 
 pub use chosen::shape_keeping_in;
 pub use conditions::{AngleAt, Conditions, DartEnds, TurnsAlong};
+pub use cuts::{Cut, cut_shows_none, violated_cut};
 pub use fault::{KeepFault, Unkept};

@@ -45,6 +45,7 @@ fn tell<R: Eprint>(rt: &R, call: &str) -> Result<()> {
     Ok(())
 }
 
+/// The records of a file; a call that runs out of memory is repeated once.
 fn records_again<R: Eprint + AllocGlobal>(rt: &R, bytes: &[u8]) -> Result<Vec<Record>> {
     let (records, ending) = match split(rt.alloc(), bytes) {
         Ok(whole) => whole,
@@ -57,6 +58,7 @@ fn records_again<R: Eprint + AllocGlobal>(rt: &R, bytes: &[u8]) -> Result<Vec<Re
     Ok(records)
 }
 
+/// The graph of a record, likewise.
 fn graph_again<R: Eprint + AllocGlobal>(rt: &R, record: &Record) -> Result<Graph> {
     match Graph::read(rt.alloc(), record) {
         Ok(graph) => Ok(graph),
@@ -68,6 +70,7 @@ fn graph_again<R: Eprint + AllocGlobal>(rt: &R, record: &Record) -> Result<Graph
     }
 }
 
+/// The plane of a graph, likewise.
 fn plane_again<R: Eprint + AllocGlobal>(rt: &R, graph: Graph) -> Result<Plane> {
     match Plane::trace(rt.alloc(), graph) {
         Ok(plane) => Ok(plane),
@@ -160,11 +163,13 @@ fn print_shape<R: Print>(rt: &R, plane: &Plane, shape: &Shape) -> Result<()>
     Ok(())
 }
 
+/// Prints the prices of vertices and faces.
 fn print_prices<R: Print>(rt: &R, prices: &Prices) -> Result<()> {
     println!(rt; "{prices:?}")?;
     Ok(())
 }
 
+/// The boxes of a shape; a call that runs out of memory is repeated once.
 fn boxes_again<R: Eprint + AllocGlobal>(rt: &R, plane: &Plane, shape: &Shape) -> Result<Boxes>
     requires { IsShape plane.now shape.now }
 {
@@ -186,6 +191,7 @@ fn print_boxes<R: Print>(rt: &R, boxes: &Boxes) -> Result<()> {
     Ok(())
 }
 
+/// The points of boxes, likewise.
 fn points_again<R: Eprint + AllocGlobal>(rt: &R, boxes: &Boxes) -> Result<Points> {
     match compact(rt.alloc(), boxes) {
         Ok(points) => Ok(points),
@@ -228,6 +234,7 @@ fn drawn(alloc: Global, plane: &Plane, shape: &Shape, points: Points) -> Result<
     }
 }
 
+/// Prints the points of vertices and corners.
 fn print_points<R: Print>(rt: &R, points: &Points) -> Result<()> {
     println!(rt; "{points:?}")?;
     Ok(())

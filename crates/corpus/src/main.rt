@@ -40,6 +40,7 @@ use std::sync::Wait;
 use std::thread::Threads;
 use stress::run_random;
 
+/// Does the task that the first word names, or compares the pieces of files.
 fn main(rt: HostRuntime) -> Result<()> {
     let words = env::args(&rt)?.skip(1).collect::<Vec<String>>(rt.alloc())?;
     let mut task = "pieces";

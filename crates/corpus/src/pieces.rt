@@ -3,11 +3,12 @@ ghost use Rattle.std.specs.Prelude.{◌<◌};
 
 use crate::files::read_file;
 use anyhow::{Result, ensure};
+use collector::run_frames;
 use planar_code::{Ending, Record, split};
 use std::rt::Files;
 use std::sync::Wait;
 use std::thread::Threads;
-use streams::{Frames, Mark, MemTap, run_frames};
+use streams::{Frames, Mark, MemTap};
 
 /// How many bytes a read gives at most.
 const SIZES: [usize; 4] = [1, 2, 7, 65_536];
@@ -39,6 +40,7 @@ fn read_in_pieces<R: AllocGlobal + Threads + Wait + Sync>(
     Ok(run_frames(rt, rt.alloc(), source, 16)?)
 }
 
+/// Prints how many records a file has, and how it ends.
 fn tell<R: Print>(rt: &R, name: &str, count: usize, ending: Ending) -> Result<()> {
     println!(rt; "{name}: {count} records and {ending:?}, in pieces of 1, 2, 7 and 65536 bytes")?;
     Ok(())

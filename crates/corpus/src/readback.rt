@@ -86,6 +86,7 @@ fn shape_of(alloc: Global, value: &Value) -> Option<Shape> {
     }
 }
 
+/// The angles that a line gives.
 fn angles_of(alloc: Global, value: &Value) -> Option<Vec<u8>> {
     let mut angles = Vec::new(alloc);
     for angle in value.as_array()? {
@@ -94,6 +95,7 @@ fn angles_of(alloc: Global, value: &Value) -> Option<Vec<u8>> {
     Some(angles)
 }
 
+/// The strings of turns that a line gives.
 fn strings_of(alloc: Global, value: &Value) -> Option<Vec<Vec<Turn>>> {
     let mut strings = Vec::new(alloc);
     for turns in value.as_array()? {
@@ -118,6 +120,7 @@ fn turns_of(alloc: Global, text: &str) -> Option<Vec<Turn>> {
     Some(turns)
 }
 
+/// The turn that a letter stands for.
 fn turn_of(letter: u8) -> Option<Turn> {
     match letter {
         b'L' => Some(Turn::Left),
@@ -145,6 +148,7 @@ fn point_list(alloc: Global, value: &Value) -> Option<Vec<Point>> {
     Some(points)
 }
 
+/// The point that a pair of whole numbers is.
 fn point_of(pair: &Value) -> Option<Point> {
     match pair.as_array()?.as_slice() {
         [x, y] => Some(Point {
@@ -155,6 +159,7 @@ fn point_of(pair: &Value) -> Option<Point> {
     }
 }
 
+/// A coordinate: a whole number of 32 bits.
 fn coordinate(value: &Value) -> Option<u32> {
     u32::try_from(value.as_u64()?).ok()
 }

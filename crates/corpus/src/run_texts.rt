@@ -2,7 +2,10 @@
 
 use crate::files::read_files;
 use anyhow::{Result, ensure};
-use collector::{Batch, Choice, DrawingKind, Form, IoSink, MemOpener, OpenGate, Style, run_plain};
+use collector::{
+    Batch, Choice, DrawingKind, Form, IoSink, MemOpener, OpenGate, Style, run_plain, write_json,
+    write_report,
+};
 use commands::write_batch;
 use std::alloc::Global;
 use std::rt::Files;
@@ -41,7 +44,10 @@ pub fn compare_texts<R: Files + AllocGlobal + Threads + Wait + Sync>(
 /// The output for a batch in this form.
 fn text_of(alloc: Global, batch: &Batch, form: Form) -> Result<Vec<u8>> {
     let mut sink = IoSink::new(Vec::new(alloc));
-    form.write(alloc, batch, &mut sink)?;
+    match form {
+        Form::Report => write_report(batch, &mut sink)?,
+        Form::Json => write_json(alloc, batch, &mut sink)?,
+    }
     Ok(sink.into_writer())
 }
 

@@ -7,7 +7,8 @@ use crate::files::read_file;
 use crate::runs::{report_of, report_over};
 use anyhow::{Context, Result, bail, ensure};
 use collector::{
-    Choice, DrawingKind, Form, Gate, IoSink, MAX_LANES, MemOpener, Stage, Style, run_plain,
+    Choice, DrawingKind, Form, Gate, IoSink, MAX_CAPACITY, MAX_LANES, MemOpener, Stage, Style,
+    run_plain,
 };
 use commands::write_batch;
 use planar_code::{Ending, HEADER, Record, split};
@@ -18,7 +19,6 @@ use std::sync::atomic::{AtomicU64, Ordering};
 use std::thread;
 use std::thread::Threads;
 use std::time::Duration;
-use streams::MAX_CAPACITY;
 
 /// What is added to the state of a generator at each step, an odd number near 2^64 over the golden ratio.
 const STEP: u64 = 0x9E37_79B9_7F4A_7C15;
@@ -30,6 +30,7 @@ struct Numbers {
 }
 
 impl Numbers {
+    /// The numbers that a seed gives.
     fn of(seed: u64) -> Numbers {
         Numbers {
             state: AtomicU64::new(seed),

@@ -7,8 +7,8 @@ ghost use Rattle.dissect.specs.Boxes.{AreBoxes, IsEdgePath, parts_of, dart_map};
 
 use crate::scratch::Scratch;
 use crate::table::{DartTable, NO_DART};
+use common::FlatLists;
 use geometry::Direction;
-use ortho_rep::FlatLists;
 use std::marker::Model;
 
 /// A dissection of a plane's map: enclosed in a rectangle, and cut until each face but the outside is a box.

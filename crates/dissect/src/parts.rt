@@ -5,8 +5,7 @@ ghost use Rattle.dissect.specs.Paths.{IsPath};
 ghost use Rattle.dissect.specs.Tables.{dart_map_of};
 
 use crate::table::{DartTable, NO_DART};
-use common::emptied;
-use ortho_rep::FlatLists;
+use common::{FlatLists, emptied};
 use std::alloc::AllocError;
 
 /// Appends to a list the darts of the path that ends with a dart, in walking order. Linear in

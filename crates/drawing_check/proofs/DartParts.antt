@@ -9,11 +9,10 @@ use Rattle.ortho_rep.specs.Points.{PointsModel}
 use Rattle.ortho_rep.specs.Edges.{is_lesser, lesser_darts}
 use Rattle.drawing_check.specs.Paths.{path_along, dart_path}
 use Rattle.drawing_check.specs.Regions.{PassesNorth, PassesEast}
-use Rattle.drawing_check.specs.declared.parts.Part.{Part}
-use Rattle.drawing_check.specs.Parts.{passes, pieces, upright_parts, level_parts}
+use Rattle.drawing_check.specs.Parts.{Part, passes, pieces, upright_parts, level_parts}
 use Rattle.drawing_check.proofs.Routing.{lesser_in, lesser_inside, each_lesser}
 use Rattle.drawing_check.proofs.Leaving.{reverse_dart_is_greater}
-use Rattle.drawing_check.proofs.Swept.{contains_head, contains_tail, contains_cases, contains_none}
+use Rattle.drawing_check.proofs.PassingParts.{contains_head, contains_tail, contains_cases, contains_none}
 use Rattle.drawing_check.proofs.Pieces.{GoesAt, between, Found, path_found, path_found_back, path_told, back_in_reverse, goes_in_reverse}
 
 -- ---- lists of lists

@@ -7,9 +7,8 @@ use Rattle.std.proofs.lemmas.List.Elements.{Contains-append_left, Contains-appen
 use Rattle.ortho_rep.specs.declared.points.Point.{Point}
 use Rattle.ortho_rep.specs.Points.{origin}
 use Rattle.drawing_check.specs.Paths.{point_of}
-use Rattle.drawing_check.specs.declared.parts.Part.{Part}
-use Rattle.drawing_check.specs.Parts.{passes, turned_round, upward, on_line, pieces}
-use Rattle.drawing_check.proofs.Swept.{passing_told, passing_from, contains_head, contains_cases, contains_none}
+use Rattle.drawing_check.specs.Parts.{Part, passes, turned_round, upward, on_line, pieces}
+use Rattle.drawing_check.proofs.PassingParts.{passing_told, passing_from, contains_head, contains_cases, contains_none}
 
 -- from a to b along place c of line l
 pub record Goes (line across : Point → ℕ) (a b : Point) (l c : ℕ) : Type 0 where

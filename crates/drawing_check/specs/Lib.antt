@@ -6,5 +6,5 @@ pub mod Routes
 pub mod Shown
 pub mod Regions
 pub mod Parts
-pub mod Cells
-pub mod Ranks
+pub mod Outside
+pub mod Westmost

@@ -1,10 +1,17 @@
--- The parts of edges by the axis along which they lie. Only private contracts speak of them.
+-- The parts of edges by the axis along which they lie. Only proofs speak of them.
 use Rattle.std.specs.Prelude.{ℕ, ◌==◌, ◌&&◌, nat_lt, nat_le, Bool, if◌then◌else◌, List, [], ◌∷◌, ◌++◌}
 use Rattle.faces.specs.Planes.{PlaneModel, reverse_dart, face_at}
 use Rattle.ortho_rep.specs.declared.points.Point.{Point}
 use Rattle.ortho_rep.specs.Points.{PointsModel}
 use Rattle.drawing_check.specs.Paths.{path_along}
-use Rattle.drawing_check.specs.declared.parts.Part.{Part}
+
+-- a part of an edge on a line: where it begins and ends there, and the faces before that line and behind it
+pub record Part : Type 0 where
+  pub line : ℕ
+  pub from : ℕ
+  pub to : ℕ
+  pub before : ℕ
+  pub behind : ℕ
 
 -- the same part the other way round
 abbrev pub turned_round : Part → Part
@@ -41,9 +48,3 @@ level_parts p points d = pieces (level_between (face_at p d) (face_at p (reverse
 -- whether a part passes place c of line l: one unit side, which ends at c
 abbrev pub passes : Part → ℕ → ℕ → Bool
 passes s l c = (s.line == l) && (nat_lt s.from c && nat_le c s.to)
-
--- the face after place c of line l, where v is that before it: the last part that passes there tells, and v stays
--- where none does
-abbrev pub face_behind : List Part → ℕ → ℕ → ℕ → ℕ
-face_behind [] l c v = v
-face_behind (s ∷ rest) l c v = face_behind rest l c (if passes s l c then s.behind else v)

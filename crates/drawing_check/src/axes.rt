@@ -20,7 +20,7 @@ pub(crate) fn is_on_axes(route: &Route<'_>) -> bool
 }
 
 /// Whether two points differ in exactly one coordinate.
-pub(crate) fn is_axis(a: Point, b: Point) -> bool
+pub fn is_axis(a: Point, b: Point) -> bool
     ensures { IsTrue result ↔ IsAxis a b }
 {
     (a.x == b.x) != (a.y == b.y)

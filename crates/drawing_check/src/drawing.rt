@@ -127,8 +127,8 @@ fn find_fault(
     first_fault(alloc, scratch, plane, shape, points, &mut directions)
 }
 
-/// The same, with a list for the directions of as many darts as there can be. It is a function of its own, since a
-/// function pays at entry for the size of its lists.
+/// The first condition that fails, or that memory ran out, for a plane with more than `FEW_DARTS` darts. It is a
+/// function of its own, since a function pays at entry for the size of its lists.
 #[inline(never)]
 fn fault_of_many(
     alloc: Global,
@@ -150,7 +150,7 @@ fn fault_of_many(
     first_fault(alloc, scratch, plane, shape, points, &mut directions)
 }
 
-/// Does the same, and writes the directions of the darts over a list.
+/// The first condition that fails, or that memory ran out. Writes the directions of the darts over a list.
 fn first_fault(
     alloc: Global,
     scratch: &mut Scratch,

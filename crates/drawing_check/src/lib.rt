@@ -6,23 +6,23 @@
 #![tactic(auto)]
 
 mod axes;
-mod cells;
 mod drawing;
 mod edges;
 mod fault;
 mod grid;
 mod meeting;
-mod parts;
+mod outside;
 mod path;
-mod ranks;
-mod regions;
 mod route;
 mod scratch;
 mod turning;
+mod westmost;
 
+pub use axes::is_axis;
 pub use drawing::{Drawing, check, check_in};
 pub use fault::CheckFault;
-pub use regions::has_regions_in;
-pub use route::{Route, route_of};
+pub use outside::regions_are_told_at_one_place;
+pub use route::{Route, distance, route_of};
 pub use scratch::Scratch;
 pub use turning::direction_from;
+pub use westmost::outside_is_outer;

@@ -81,6 +81,7 @@ fn first_step(from: Point, to: Point) -> Point
     }
 }
 
+/// The number one step from `from` toward `to`, or `from` if they are equal.
 fn one_toward(from: u32, to: u32) -> u32
     ensures { result ≡ toward from to 1 }
 {

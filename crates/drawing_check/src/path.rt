@@ -37,7 +37,7 @@ pub(crate) fn both(one: bool, other: bool) -> bool
     one & other
 }
 
-/// Adds the rectangles of a path, if all before it are listed. Whether all are listed now.
+/// Adds the rectangles of a path, if all before it are listed, and returns whether all are listed now.
 fn list_route(rectangles: &mut Vec<Rectangle>, listed: bool, route: &Route<'_>) -> bool
     ensures before { IsTrue result → IsTrue listed }
     ensures added { IsTrue result
@@ -46,7 +46,7 @@ fn list_route(rectangles: &mut Vec<Rectangle>, listed: bool, route: &Route<'_>) 
     listed && add_route(rectangles, route).is_ok()
 }
 
-/// The same of a path of one part.
+/// Adds the rectangles of a path without corners, if all before it are listed, and returns whether all are listed now.
 fn list_straight(rectangles: &mut Vec<Rectangle>, listed: bool, start: Point, end: Point) -> bool
     ensures before { IsTrue result → IsTrue listed }
     ensures added { IsTrue result
@@ -55,8 +55,8 @@ fn list_straight(rectangles: &mut Vec<Rectangle>, listed: bool, start: Point, en
     listed && add_last(rectangles, start, end).is_ok()
 }
 
-/// Looks at a path, and adds its rectangles, if those of all before it are listed. Most paths have no corner, and need
-/// no walk.
+/// What is seen of a path; adds its rectangles, if those of all before it are listed. Most paths have no corner, and
+/// need no walk.
 pub(crate) fn examine_route(
     route: &Route<'_>,
     turns: &[Turn],
@@ -87,7 +87,7 @@ pub(crate) fn examine_route(
     }
 }
 
-/// The same of a path without corners.
+/// What is seen of a path without corners; adds its rectangles, if those of all before it are listed.
 fn examine_straight(
     route: &Route<'_>,
     turns: &[Turn],

@@ -7,9 +7,17 @@ ghost use Rattle.ortho_rep.specs.Edges.{is_lesser, edge_number};
 ghost use Rattle.drawing_check.specs.Paths.{path_along, point_of};
 ghost use Rattle.drawing_check.specs.Routes.{path_of};
 ghost use Rattle.drawing_check.specs.Draws.{HasPoints};
+ghost use Rattle.drawing_check.specs.Walks.{distance};
 
 use faces::Plane;
 use ortho_rep::{Point, Points};
+
+/// How many steps lead from one point to another, along both axes.
+pub fn distance(from: Point, to: Point) -> u64
+    ensures { result ≡ distance from to }
+{
+    u64::from(from.x.abs_diff(to.x)) + u64::from(from.y.abs_diff(to.y))
+}
 
 /// The path of an edge along its lesser dart: from one end by the corners to the other.
 #[derive(Clone, Copy)]

@@ -83,6 +83,7 @@ pub fn direction_from(from: Point, to: Point) -> Direction
     if from.x == to.x { along_y } else { along_x }
 }
 
+/// The direction after a turn.
 fn turn_from(direction: Direction, turn: Turn) -> Direction
     ensures { result ≡ turned turn direction }
 {

@@ -6,9 +6,9 @@ use Rattle.std.proofs.lemmas.Bool.{lt-ltb, le-ltb, cond-true, cond-false}
 use Rattle.std.proofs.lemmas.List.FromFn.{length-map-range_with_len, get_or-map-range_with_len}
 use Rattle.common.specs.Sums.{sum_below}
 use Rattle.common.proofs.Sums.{sum_below-same}
-use Rattle.networks.specs.declared.arc.Arc.{Arc}
-use Rattle.networks.specs.declared.arc.Cap.TheVariants.{AtMost, Any}
-use Rattle.networks.specs.Networks.{NetworkModel, net_of, no_arc, arc_at, supply_at}
+use Rattle.min_cost_flow.specs.declared.arc.Arc.{Arc}
+use Rattle.min_cost_flow.specs.declared.arc.Cap.TheVariants.{AtMost, Any}
+use Rattle.min_cost_flow.specs.Networks.{NetworkModel, net_of, no_arc, arc_at, supply_at}
 use Rattle.faces.specs.Planes.{PlaneModel, IsPlane, darts, vertices, head, reverse_dart, face_at, degree}
 use Rattle.faces.proofs.Ends.{plane_ends}
 use Rattle.flow_network.specs.Given.{nothing_given}

@@ -36,6 +36,3 @@ pub mod Raising
 pub mod Gaps
 pub mod Axes
 pub mod Lowest
-pub mod Remaining
-pub mod WideOnly
-pub mod Drawings

@@ -5,14 +5,13 @@ use Rattle.std.proofs.lemmas.List.{get_or_default}
 use Rattle.std.proofs.lemmas.List.Elements.{All-nil, All-cons}
 use Rattle.std.proofs.lemmas.List.FromFn.{get_or-map-range_with_len}
 use Rattle.ortho_rep.specs.declared.points.Point.{Point}
-use Rattle.ortho_rep.specs.Points.{PointsModel}
+use Rattle.ortho_rep.specs.Points.{PointsModel, AreBelow, IsBelow}
 use Rattle.dissect.specs.DartMaps.{DartMap}
 use Rattle.dissect.specs.Faces.{Below}
 use Rattle.dissect.specs.Paths.{turn_to, turning_vertices}
 use Rattle.dissect.specs.Boxes.{BoxesModel, AreBoxes, dart_map}
 use Rattle.dissect.specs.Monotone.{IsMonotone, AreLeastPoints, point_at}
 use Rattle.drawing_laws.specs.Least.{AreLeast, HasLeast, HasNoGap}
-use Rattle.entries.specs.Lengths.{AreBelow, IsBelow}
 use Rattle.drawing_laws.proofs.Axes.{Follow, HasEnds, least_following, no_gap, few_numbers}
 
 ends_of : (b : BoxesModel) → AreBoxes b → HasEnds (dart_map b)

@@ -7,13 +7,12 @@ use Rattle.std.proofs.lemmas.List.Elements.{All-cons, All-push}
 use Rattle.faces.specs.Planes.{PlaneModel, IsPlane, darts, tail, head, reverse_dart, face_at}
 use Rattle.faces.proofs.Ends.{plane_ends}
 use Rattle.ortho_rep.specs.declared.points.Point.{Point}
-use Rattle.ortho_rep.specs.Points.{PointsModel, origin, vertex_point, corners_at}
+use Rattle.ortho_rep.specs.Points.{PointsModel, origin, vertex_point, corners_at, IsBelow, AreBelow}
 use Rattle.ortho_rep.specs.Edges.{is_lesser, edge_number}
 use Rattle.drawing_check.specs.Paths.{path_along, paths, dart_path, point_of}
 use Rattle.drawing_check.specs.Draws.{AreOnAxes}
 use Rattle.drawing_check.specs.Regions.{GoesNorth, PassesNorth, PassesEast, IsRegionMap}
 use Rattle.drawing_check.proofs.Routing.{axes_each}
-use Rattle.entries.specs.Lengths.{IsBelow, AreBelow}
 use Rattle.drawing_laws.proofs.Segments.{Runs, PathRuns}
 use Rattle.drawing_laws.proofs.DartPaths.{backwards, runs_reversed, lesser_is, greater_is, by_edge, reverse_is_greater}
 

@@ -4,5 +4,3 @@ pub mod CellFaces
 pub mod Parts
 pub mod Orders
 pub mod Least
-pub mod Remaining
-pub mod Drawings

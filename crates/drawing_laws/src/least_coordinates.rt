@@ -1,11 +1,10 @@
 //! The least coordinates that grow along the darts of boxes.
 
 ghost use Rattle.std.specs.Prelude.{ℕ, ◌<◌};
-ghost use Rattle.ortho_rep.specs.Points.{PointsModel};
+ghost use Rattle.ortho_rep.specs.Points.{PointsModel, AreBelow};
 ghost use Rattle.dissect.specs.Boxes.{BoxesModel, AreBoxes, dart_map};
 ghost use Rattle.dissect.specs.Monotone.{IsMonotone, AreLeastPoints};
 ghost use Rattle.drawing_laws.specs.Least.{AreLeast, HasLeast, HasNoGap};
-ghost use Rattle.entries.specs.Lengths.{AreBelow};
 
 /// The least coordinates that grow along the darts of boxes have no gap, and are less than the number of vertices.
 ///

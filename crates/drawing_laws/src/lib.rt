@@ -4,10 +4,8 @@
 #![tactic(auto)]
 
 mod bends;
-mod causes;
 mod cells;
 mod closed_sets;
-mod drawn_answers;
 mod least_coordinates;
 mod orders;
 mod planarity;
@@ -15,10 +13,8 @@ mod prices;
 mod regions;
 
 pub use bends::few_bends;
-pub use causes::{least_points_are_in_grid, only_wide, remaining_causes};
 pub use cells::{cells_are_covered_once, cells_lie_in_faces};
 pub use closed_sets::closed_sets_hold_the_outside;
-pub use drawn_answers::{answers_are_drawn, laid_answers_are_drawn, no_cause_is_shown};
 pub use least_coordinates::{
     least_coordinates_exist, least_coordinates_have_no_gap, least_points_have_no_gap,
 };

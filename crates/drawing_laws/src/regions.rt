@@ -8,14 +8,13 @@
 ghost use Rattle.std.specs.Prelude.{◌≡◌, ◌+◌, ◌<◌, ◌⊎◌, ℕ};
 ghost use Rattle.faces.specs.Planes.{PlaneModel, IsPlane};
 ghost use Rattle.ortho_rep.specs.Shapes.{ShapeModel};
-ghost use Rattle.ortho_rep.specs.Points.{PointsModel};
+ghost use Rattle.ortho_rep.specs.Points.{PointsModel, AreBelow};
 ghost use Rattle.dissect.specs.Boxes.{BoxesModel, dart_map};
 ghost use Rattle.dissect.specs.Boxed.{IsBoxed};
 ghost use Rattle.dissect.specs.Monotone.{IsMonotone, AreTaken, AreLeastPoints};
 ghost use Rattle.drawing_check.specs.Draws.{AreOnAxes};
 ghost use Rattle.drawing_check.specs.Paths.{paths};
 ghost use Rattle.drawing_check.specs.Regions.{HasRegions, IsRegionMap};
-ghost use Rattle.entries.specs.Lengths.{AreBelow};
 
 /// The regions of points derived from coordinates that grow along the darts of boxes are the plane's faces.
 ///

@@ -9,9 +9,8 @@ use ortho_rep::{Shape, is_shape};
 use std::alloc::{AllocError, Global};
 use std::fmt::Debug;
 use std::process::Abort;
-use test_inputs::plane_in;
 use test_tools::records::{EDGE, TRIANGLE};
-use test_tools::same;
+use test_tools::{plane_in, same};
 
 /// The drawing of a shape, which is an orthogonal representation.
 fn bend_of(

@@ -5,9 +5,8 @@ use dissect::Boxes;
 use ortho_rep::Shape;
 use std::alloc::Global;
 use std::process::Abort;
-use test_inputs::plane_in;
 use test_tools::records::{EDGE, TRIANGLE};
-use test_tools::same;
+use test_tools::{plane_in, same};
 
 /// The darts of a straight edge.
 fn expect_edge(rt: &impl Abort, boxes: &Boxes) {

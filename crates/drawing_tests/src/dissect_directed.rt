@@ -6,9 +6,8 @@ use faces::Plane;
 use ortho_rep::{Shape, Turn, is_shape};
 use std::alloc::{AllocError, Global};
 use std::process::Abort;
-use test_inputs::{plane_in, shape_in};
 use test_tools::records::{EDGE, TRIANGLE};
-use test_tools::same;
+use test_tools::{plane_in, same, shape_in};
 
 /// The directions of a shape, by the second call if the first one runs out of memory.
 fn headings_at_last(rt: &impl Abort, alloc: Global, plane: &Plane, shape: &Shape) -> Vec<u8> {

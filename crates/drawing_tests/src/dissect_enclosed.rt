@@ -23,7 +23,7 @@ fn numbers(alloc: Global, first: u32, others: u32) -> Result<Vec<u32>, AllocErro
     Ok(list)
 }
 
-/// The same for small numbers.
+/// A list of the first small number, followed by the other one.
 fn small_numbers(alloc: Global, first: u8, others: u8) -> Result<Vec<u8>, AllocError>
     ensures size { IfOk result (λ v. vec_len v ≡ 42) }
     ensures first { IfOk result (λ v. slice_index v.items 0 ≡ first) }
@@ -73,9 +73,9 @@ fn expect_boxes(rt: &impl Abort, table: &DartTable) {
     same!(rt, (count_of(angles, 1), count_of(angles, 3)), (16, 4));
 }
 
-// If memory runs out, the edge is left as it was, and a second call encloses it.
-// Four boxes lie around the edge: below and above it, and beyond each of its ends. To be run with each allocation
-// refused in turn, too.
+/// If memory runs out, the edge is left as it was, and a second call encloses it.
+/// Four boxes lie around the edge: below and above it, and beyond each of its ends. To be run with each allocation
+/// refused in turn, too.
 #[test]
 fn refused_memory_leaves_the_edge(rt: HostRuntime) {
     let alloc = rt.alloc();

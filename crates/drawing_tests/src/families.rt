@@ -5,9 +5,8 @@ ghost use Rattle.std.specs.Prelude.{◌<◌};
 use crate::planes::{draw, shape_of};
 use std::alloc::{AllocError, Global};
 use std::process::Abort;
-use test_inputs::plane_in;
 use test_tools::records::{EDGE, OCTAHEDRON, TETRAHEDRON, TRIANGLE};
-use test_tools::same;
+use test_tools::{plane_in, same};
 
 /// A grid of this many rows and columns, at most 255 vertices. Neighbours to the north, east, south and west.
 pub(crate) fn grid(alloc: Global, rows: u8, columns: u8) -> Result<Vec<u8>, AllocError>
@@ -109,7 +108,7 @@ fn solids_with_bends(rt: HostRuntime) {
     }
 }
 
-// Paths of 2 to 40 vertices and grids of 2 to 6 rows and columns are drawn without bends.
+/// Paths of 2 to 40 vertices and grids of 2 to 6 rows and columns are drawn without bends.
 #[test]
 fn grids_without_bends(rt: HostRuntime) {
     for (columns, most) in [(1, 40), (2, 6), (3, 6), (4, 6), (5, 6), (6, 6)] {

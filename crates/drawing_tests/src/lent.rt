@@ -8,9 +8,8 @@ use faces::Plane;
 use ortho_rep::{Points, Shape, is_shape};
 use std::alloc::Global;
 use std::process::Abort;
-use test_inputs::plane_in;
 use test_tools::records::{EDGE, TRIANGLE};
-use test_tools::same;
+use test_tools::{plane_in, same};
 
 /// The buffers that all drawings reuse.
 #[derive(Drop)]
@@ -51,7 +50,7 @@ fn draw_shape_in(rt: &impl Abort, alloc: Global, lent: &mut Lent, plane: &Plane,
     expect_drawing(rt, alloc, &mut lent.checks, plane, shape, points);
 }
 
-/// The same for the plane of these bytes.
+/// Draws a shape of the plane of these bytes with reused buffers.
 fn draw_in(rt: &impl Abort, alloc: Global, lent: &mut Lent, bytes: &[u8], shape: Option<Shape>) {
     let shape = shape.expect(rt, "a shape");
     let plane = plane_in(alloc, bytes).expect(rt, "a plane");

@@ -7,8 +7,7 @@ use faces::Plane;
 use ortho_rep::{Points, Shape, Turn, is_shape, least_shape};
 use std::alloc::{AllocError, Global};
 use std::process::Abort;
-use test_inputs::{ONE_BEND, shape_in};
-use test_tools::same;
+use test_tools::{ONE_BEND, same, shape_in};
 
 /// A least shape of a plane, where memory suffices.
 pub(crate) fn shape_of(rt: &impl Abort, alloc: Global, plane: &Plane) -> Shape {

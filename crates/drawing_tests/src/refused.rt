@@ -8,9 +8,8 @@ use faces::Plane;
 use ortho_rep::{Points, Shape};
 use std::alloc::{AllocError, Global};
 use std::process::Abort;
-use test_inputs::plane_in;
 use test_tools::records::TRIANGLE;
-use test_tools::same;
+use test_tools::{plane_in, same};
 
 /// Whether two dissections have the same vertices and darts.
 fn have_same_darts(one: &Boxes, other: &Boxes) -> bool {

@@ -8,9 +8,8 @@ use faces::Plane;
 use ortho_rep::{Shape, Turn};
 use std::alloc::{AllocError, Global};
 use std::process::Abort;
-use test_inputs::plane_in;
-use test_tools::Random;
 use test_tools::records::{EDGE, OCTAHEDRON, TRIANGLE};
+use test_tools::{Random, plane_in};
 
 /// The angles of a shape.
 fn angles_of(alloc: Global, plane: &Plane, shape: &Shape) -> Result<Vec<u8>, AllocError>

@@ -6,9 +6,8 @@ use faces::Plane;
 use ortho_rep::{Point, Points, Shape};
 use std::alloc::{AllocError, Global};
 use std::process::Abort;
-use test_inputs::{Place, plane_in, points_in};
 use test_tools::records::{EDGE, OCTAHEDRON, PATH, TRIANGLE};
-use test_tools::same;
+use test_tools::{Place, plane_in, points_in, same};
 use visibility::{Scratch, compact_by_visibility_in};
 
 /// The points of vertices, and the corners of edges.
@@ -255,7 +254,7 @@ fn expect_shorter(
     true
 }
 
-/// The same for a least shape of these bytes.
+/// Checks the points that compaction finds for a least shape of these bytes; returns whether there are any.
 fn expect_compacted(rt: &impl Abort, alloc: Global, lent: &mut Lent, bytes: &[u8]) -> bool {
     let plane = plane_in(alloc, bytes).expect(rt, "a plane");
     let shape = shape_of(rt, alloc, &plane);
@@ -278,7 +277,7 @@ const TREES: [&[u8]; 3] = [
     ],
 ];
 
-/// The same for prisms and antiprisms.
+/// Checks the points that compaction finds for prisms and antiprisms.
 fn expect_rings(rt: &impl Abort, alloc: Global, lent: &mut Lent) {
     for count in 4..=12 {
         for named in [&PRISM, &ANTIPRISM] {
@@ -288,7 +287,7 @@ fn expect_rings(rt: &impl Abort, alloc: Global, lent: &mut Lent) {
     }
 }
 
-/// The same for a spiral.
+/// Checks the points that compaction finds for a spiral.
 fn expect_spiral(rt: &impl Abort, alloc: Global, lent: &mut Lent) {
     let spiral = spiral_in(alloc, 300).expect(rt, "a shape");
     let plane = plane_in(alloc, EDGE).expect(rt, "a plane");
@@ -328,7 +327,8 @@ fn compacted_at_last(
     }
 }
 
-/// The same for a figure of the edge; `None` if memory runs out before.
+/// What compaction finds for a figure of the edge, by the second call if the first one runs out of memory; `None` if
+/// memory runs out before.
 fn edge_at_last(rt: &impl Abort, alloc: Global, figure: Figure) -> Option<Option<Points>> {
     let points = points_in(alloc, figure.0, figure.1).ok()?;
     let plane = plane_in(alloc, EDGE)?;

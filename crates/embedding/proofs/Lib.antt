@@ -1,3 +1,4 @@
+pub mod WideRecords
 mod Triangle
 pub mod Entries
 pub mod FirstBelow

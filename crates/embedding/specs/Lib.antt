@@ -1,3 +1,4 @@
+pub mod Wide
 pub mod Lists
 pub mod Darts
 pub mod Faces

@@ -65,6 +65,7 @@ fn lacks_pair(pairs: &Pairs, vertex: u16, list: &[u16]) -> bool
     list.iter().any(|v| !pairs.contains(*v, vertex))
 }
 
+/// Whether some entry exceeds the number of lists (rule 1).
 fn breaks_range(lists: &Lists<'_>) -> bool
     ensures { IsTrue result ↔ Breaks lists.now Rule.Range }
 {
@@ -77,6 +78,7 @@ fn breaks_range(lists: &Lists<'_>) -> bool
     false
 }
 
+/// Whether some list names its own vertex (rule 2).
 fn breaks_loop(lists: &Lists<'_>) -> bool
     ensures { IsTrue result ↔ Breaks lists.now Rule.Loop }
 {
@@ -88,6 +90,7 @@ fn breaks_loop(lists: &Lists<'_>) -> bool
     false
 }
 
+/// Whether some list names a vertex twice (rule 3).
 fn breaks_multi(lists: &Lists<'_>) -> bool
     requires { ¬ Breaks lists.now Rule.Range }
     ensures { IsTrue result ↔ Breaks lists.now Rule.Multi }
@@ -101,7 +104,7 @@ fn breaks_multi(lists: &Lists<'_>) -> bool
     false
 }
 
-/// The test of rule 4 for up to 255 lists, by a bit for each pair of vertices.
+/// Whether some entry lacks its pair the other way (rule 4), for up to 255 lists, by a bit for each pair of vertices.
 fn lacks_any_pair(lists: &Lists<'_>) -> bool
     requires few { length lists.now < 256 }
     requires range { ¬ Breaks lists.now Rule.Range }
@@ -130,7 +133,7 @@ fn lacks_return(lists: &Lists<'_>, vertex: u16) -> bool
         .any(|v| !holds(lists.of_vertex(*v), vertex))
 }
 
-/// The test of rule 4 by a search in the list of each entry.
+/// Whether some entry has a list that does not name its vertex (rule 4), by a search in the list of each entry.
 fn lacks_any_return(lists: &Lists<'_>) -> bool
     ensures { IsTrue result ↔ Breaks lists.now Rule.Asymmetric }
 {
@@ -142,6 +145,7 @@ fn lacks_any_return(lists: &Lists<'_>) -> bool
     false
 }
 
+/// Whether some list names a vertex whose list does not name it in turn (rule 4).
 fn breaks_asymmetric(lists: &Lists<'_>) -> bool
     requires { ¬ Breaks lists.now Rule.Range }
     ensures { IsTrue result ↔ Breaks lists.now Rule.Asymmetric }
@@ -153,6 +157,7 @@ fn breaks_asymmetric(lists: &Lists<'_>) -> bool
     }
 }
 
+/// Whether all lists are empty (rule 5).
 fn breaks_edgeless(lists: &Lists<'_>) -> bool
     ensures { IsTrue result ↔ Breaks lists.now Rule.Edgeless }
 {
@@ -164,6 +169,7 @@ fn breaks_edgeless(lists: &Lists<'_>) -> bool
     true
 }
 
+/// Whether some list has more than four entries (rule 6).
 fn breaks_degree(lists: &Lists<'_>) -> bool
     ensures { IsTrue result ↔ Breaks lists.now Rule.Degree }
 {

@@ -3,7 +3,7 @@
 ghost use Rattle.std.specs.Prelude.{◌≡◌, ◌+◌, ◌<◌, ◌≤◌, ◌↔◌, length, IsTrue, MatchOption};
 ghost use Rattle.common.specs.declared.limits.TheConstants.{MAX_VERTICES};
 ghost use Rattle.embedding.specs.Rules.{Breaks, KeepsBefore, FirstBroken};
-ghost use Rattle.planar_code.specs.declared.TheConstants.{MAX_ENTRIES};
+ghost use Rattle.embedding.specs.declared.wide.TheConstants.{MAX_ENTRIES};
 ghost use Rattle.planar_code.specs.Stream.{lists_of};
 
 use crate::breaks::first_broken;
@@ -12,11 +12,12 @@ use crate::lists::Lists;
 use crate::numbering::count_faces;
 use crate::rules::Rule;
 use crate::tables::write_rotation;
+use crate::wide::WideRecord;
 use crate::writing::{
     FEW_ENTRIES, FEW_STARTS, RECORD_ENTRIES, RECORD_STARTS, SOME_ENTRIES, WIDE_STARTS, entry_count,
     find_starts, write_lists,
 };
-use planar_code::{Record, WideRecord};
+use planar_code::Record;
 
 /// How many numbers the rotation of a graph has at most: two for each dart.
 const MAX_ROTATION: usize = 2 * MAX_DARTS;

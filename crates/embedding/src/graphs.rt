@@ -9,7 +9,7 @@ ghost use Rattle.embedding.specs.Faces.{HasFaces, degree_in};
 ghost use Rattle.embedding.specs.Walk.{at};
 ghost use Rattle.embedding.specs.Rules.{KeepsBefore};
 ghost use Rattle.embedding.specs.Faults.{IsReadFault};
-ghost use Rattle.planar_code.specs.declared.TheConstants.{MAX_ENTRIES};
+ghost use Rattle.embedding.specs.declared.wide.TheConstants.{MAX_ENTRIES};
 ghost use Rattle.planar_code.specs.Stream.{lists_of};
 
 use crate::breaks::first_broken;
@@ -17,12 +17,13 @@ use crate::faults::ReadFault;
 use crate::lists::Lists;
 use crate::scratch::Scratch;
 use crate::tables::darts_in;
+use crate::wide::WideRecord;
 use crate::writing::{
     FEW_ENTRIES, FEW_STARTS, RECORD_ENTRIES, RECORD_STARTS, SHORT_ENTRIES, SHORT_STARTS,
     SOME_ENTRIES, WIDE_STARTS, entry_count, find_starts, write_lists,
 };
 use common::MAX_VERTICES;
-use planar_code::{Record, WideRecord};
+use planar_code::Record;
 use std::alloc::{AllocError, Global};
 use std::marker::Model;
 use std::mem;

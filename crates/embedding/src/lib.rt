@@ -17,6 +17,8 @@ mod rows;
 mod rules;
 mod scratch;
 mod tables;
+mod wide;
+pub mod wide_laws;
 mod writing;
 
 pub use faults::ReadFault;
@@ -25,3 +27,4 @@ pub use graphs::{Graph, MAX_DARTS, MAX_EDGES};
 pub use lesser_darts::LesserDarts;
 pub use rules::Rule;
 pub use scratch::Scratch;
+pub use wide::{MAX_ENTRIES, WideFault, WideRecord};

@@ -2,7 +2,7 @@
 
 ghost use Rattle.std.specs.Prelude.{◌≡◌, ℕ, ◌<◌, ◌≤◌, List, length, slice_index, slice_index_or, [], Contains};
 ghost use Rattle.common.specs.declared.limits.TheConstants.{MAX_VERTICES};
-ghost use Rattle.planar_code.specs.declared.TheConstants.{MAX_ENTRIES};
+ghost use Rattle.embedding.specs.declared.wide.TheConstants.{MAX_ENTRIES};
 ghost use Rattle.planar_code.specs.Stream.{lists_in};
 ghost use Rattle.embedding.specs.Lists.{list_of};
 ghost use Rattle.embedding.specs.Darts.{dart_count, first_dart};

@@ -2,7 +2,7 @@
 
 ghost use Rattle.std.specs.Prelude.{◌≡◌, ℕ, ◌+◌, ◌<◌, ◌≤◌, length};
 ghost use Rattle.std.specs.List.{flat_map};
-ghost use Rattle.planar_code.specs.declared.TheConstants.{MAX_ENTRIES};
+ghost use Rattle.embedding.specs.declared.wide.TheConstants.{MAX_ENTRIES};
 ghost use Rattle.planar_code.specs.Stream.{ended, lists_in, lists_of};
 ghost use Rattle.embedding.specs.Split.{AreStarts, HoldsLists};
 

@@ -7,8 +7,8 @@ use Rattle.embedding.specs.declared.graphs.TheConstants.{MAX_DARTS}
 use Rattle.faces.specs.Planes.{PlaneModel, IsPlane, darts, vertices, face_at, degree, with_outer}
 use Rattle.faces.proofs.Ends.{plane_ends}
 use Rattle.faces.proofs.Degrees.{degree_few}
-use Rattle.networks.specs.Networks.{NetworkModel, supply_at, shifted, IsInSupplyRange, HasSuppliesInRange}
-use Rattle.networks.proofs.Moving.{delta, moved_at, length-moved}
+use Rattle.min_cost_flow.specs.Networks.{NetworkModel, supply_at, shifted, IsInSupplyRange, HasSuppliesInRange}
+use Rattle.min_cost_flow.proofs.Moving.{delta, moved_at, length-moved}
 use Rattle.flow_network.specs.Given.{GivenModel}
 use Rattle.flow_network.specs.FaceNet.{IsFaceNet, IsKeepingNet, vertex_degree, beyond_in_face, lefts_in_face}
 use Rattle.flow_network.proofs.GivenParts.{vertex_plain, face_plain}

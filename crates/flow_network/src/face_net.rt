@@ -4,8 +4,8 @@ ghost use Rattle.std.specs.Prelude.{◌≡◌, ◌+◌, ◌-◌, ◌<◌, ◌≤
 ghost use Rattle.common.specs.declared.limits.TheConstants.{MAX_VERTICES};
 ghost use Rattle.embedding.specs.declared.graphs.TheConstants.{MAX_DARTS};
 ghost use Rattle.faces.specs.Planes.{darts, vertices, with_outer};
-ghost use Rattle.networks.specs.Networks.{shifted};
-ghost use Rattle.networks.specs.Flow.{Flow};
+ghost use Rattle.min_cost_flow.specs.Networks.{shifted};
+ghost use Rattle.min_cost_flow.specs.Flow.{Flow};
 ghost use Rattle.flow_network.specs.Given.{nothing_given};
 
 use crate::given::Given;
@@ -63,34 +63,17 @@ impl FaceNet {
         ensures flow { IfOk result (λ n. (y : ℕ → ℕ) × Flow n.network y) }
     {
         let mut scratch = Scratch::empty(alloc);
-        FaceNet::build_in(alloc, &mut scratch, plane)
-    }
-
-    /// The flow network of a plane, exactly as [`FaceNet::build`]; reuses the caller's scratch.
-    ///
-    /// The network takes its lists with it; [`FaceNet::give_back`] returns them.
-    ///
-    /// # Errors
-    ///
-    /// `AllocError` as [`FaceNet::build`]. After a refusal lists of the scratch may be gone.
-    pub fn build_in(
-        alloc: Global,
-        scratch: &mut Scratch,
-        plane: &Plane,
-    ) -> Result<FaceNet, AllocError>
-        ensures net { IfOk result (IsFaceNetOf plane.now) }
-        ensures flow { IfOk result (λ n. (y : ℕ → ℕ) × Flow n.network y) }
-    {
-        FaceNet::build_keeping_in(alloc, scratch, plane, &Given::nothing())
+        FaceNet::build_keeping_in(alloc, &mut scratch, plane, &Given::nothing())
     }
 
     /// The flow network of a plane besides what is given of its shapes.
     ///
-    /// There need not be a flow, unless nothing is given. Linear in the darts. It reuses the caller's scratch.
+    /// There need not be a flow, unless nothing is given. Linear in the darts. It reuses the caller's scratch. The network takes
+    /// its lists with it; [`FaceNet::give_back`] returns them.
     ///
     /// # Errors
     ///
-    /// `AllocError` as [`FaceNet::build_in`].
+    /// `AllocError` as [`FaceNet::build`]. After a refusal lists of the scratch may be gone.
     pub fn build_keeping_in(
         alloc: Global,
         scratch: &mut Scratch,

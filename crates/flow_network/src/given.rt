@@ -92,7 +92,7 @@ impl<'a> Given<'a> {
         self.turns_of_edge(plane, dart)
     }
 
-    /// The same, where the list is not empty.
+    /// The turns that are given along a dart, to the left, where the list of turns is not empty.
     fn turns_of_edge(&self, plane: &Plane, dart: u16) -> Option<i32>
         requires { dart < darts plane.now }
         ensures value { result ≡ turns_given plane.now self.now dart }

@@ -2,7 +2,7 @@
 
 ghost use Rattle.std.specs.Prelude.{◌≡◌, ◌+◌, ◌-◌, ◌<◌, ◌≤◌, ◌==◌, ◌↔◌, if◌then◌else◌, IsTrue, ℕ, pos, negsuc, ◌-ℤ◌, ◌≤ℤ◌, IfOk, length, slice_index_or};
 ghost use Rattle.faces.specs.Planes.{darts, vertices, head, reverse_dart, face_at, degree};
-ghost use Rattle.networks.specs.Networks.{no_arc};
+ghost use Rattle.min_cost_flow.specs.Networks.{no_arc};
 ghost use Rattle.flow_network.specs.Given.{CanBeGiven, nothing_given, angle_given, turns_given, beyond_first};
 ghost use Rattle.flow_network.specs.FaceNet.{vertex_degree, vertex_has_to_turn, face_has_to_turn, corner_cap, crossing_cap};
 
@@ -125,7 +125,7 @@ fn take_given(supplies: &mut [i32], plane: &Plane, given: &Given<'_>)
 }
 
 /// The capacity of the corner arc of a dart: 0 if its angle is given, else 3.
-fn cap_at(given: &Given<'_>, is_nothing: bool, dart: u16) -> Cap
+fn corner_cap(given: &Given<'_>, is_nothing: bool, dart: u16) -> Cap
     requires { IsTrue is_nothing ↔ (given.now ≡ nothing_given) }
     ensures { result ≡ corner_cap (angle_given given.now dart) }
 {
@@ -139,7 +139,7 @@ fn cap_at(given: &Given<'_>, is_nothing: bool, dart: u16) -> Cap
 }
 
 /// The capacity of the crossing arc of a dart: 0 if its turns are given, else unlimited.
-fn cap_across(plane: &Plane, given: &Given<'_>, is_nothing: bool, dart: u16) -> Cap
+fn crossing_cap(plane: &Plane, given: &Given<'_>, is_nothing: bool, dart: u16) -> Cap
     requires within { dart < darts plane.now }
     requires nothing { IsTrue is_nothing ↔ (given.now ≡ nothing_given) }
     ensures { result ≡ crossing_cap (turns_given plane.now given.now dart) }
@@ -205,8 +205,8 @@ fn write_arcs(arcs: &mut [Arc], plane: &Plane, given: &Given<'_>)
         let vertex = u32::from(graph.head(dart)) - 1;
         let face = first_face + u32::from(plane.face_of(dart));
         let across = first_face + u32::from(plane.face_of(graph.reverse(dart)));
-        let corner_cap = cap_at(given, is_nothing, dart);
-        let crossing_cap = cap_across(plane, given, is_nothing, dart);
+        let corner_cap = corner_cap(given, is_nothing, dart);
+        let crossing_cap = crossing_cap(plane, given, is_nothing, dart);
         let place = usize::from(dart);
         arcs[place] = Arc {
             from: vertex,

@@ -3,8 +3,8 @@ use Rattle.std.proofs.Common.{◌≡◌, ◌<◌, ◌≤◌, ℕ, Bool, true, fa
 use Rattle.std.specs.Prelude.{ℤ, pos, negsuc, ◌+ℤ◌, ◌-ℤ◌, ◌≤ℤ◌}
 use Rattle.std.proofs.lemmas.Bool.{eqb-true}
 use Rattle.std.proofs.lemmas.Int.{ints}
-use Rattle.networks.specs.Networks.{NetworkModel, node_count, supply_at, shifted, IsInSupplyRange, HasSuppliesInRange}
-use Rattle.networks.proofs.Moving.{moved_at, length-moved}
+use Rattle.min_cost_flow.specs.Networks.{NetworkModel, node_count, supply_at, shifted, IsInSupplyRange, HasSuppliesInRange}
+use Rattle.min_cost_flow.proofs.Moving.{moved_at, length-moved}
 
 fair_delta : (c d : Bool) (e e' : ℤ) (k : ℕ) → k ≤ 40 → IsInSupplyRange e → (c ≡ true → e ≤ℤ pos 2000) → (d ≡ true → negsuc 1999 ≤ℤ e) → e' ≡ e +ℤ (pos (cond {A = ℕ} c k 0) -ℤ pos (cond {A = ℕ} d k 0)) → IsInSupplyRange e'
 fair_delta true true e e' k few in_range high low is = (omega (arith, ints, in_range), omega (arith, ints, in_range))

@@ -1,7 +1,7 @@
 //! Tests of what no clause says: that calls succeed if there is enough memory, and that the least costs are those that
 //! other solvers found.
 ghost use Rattle.std.specs.Prelude.{◌<◌};
-ghost use Rattle.networks.specs.Flow.{Solves};
+ghost use Rattle.min_cost_flow.specs.Flow.{Solves};
 
 use crate::plain;
 use min_cost_flow::{Arc, Cap, NetFault, Network, SolveFault, Solved, solve};
@@ -290,6 +290,7 @@ pub(crate) fn random_network(rt: &impl Abort, alloc: Global, random: &mut Random
     Network::new(supplies, arcs).expect(rt, "a network")
 }
 
+/// An arc between random nodes.
 fn random_arc(random: &mut Random, nodes: u32) -> Arc
     requires { 0 < nodes }
 {

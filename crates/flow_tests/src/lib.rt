@@ -3,8 +3,16 @@
 #![tactic(auto)]
 
 #[cfg(test)]
+mod certificates;
+#[cfg(test)]
 mod flows;
 #[cfg(test)]
+mod least;
+#[cfg(test)]
+mod made;
+#[cfg(test)]
 mod plain;
+#[cfg(test)]
+mod random;
 #[cfg(test)]
 mod warm_start;

@@ -59,6 +59,7 @@ fn send_from(rt: &impl Abort, alloc: Global, sending: &mut Sending, root: usize)
     true
 }
 
+/// The state before any unit is sent.
 fn begin(rt: &impl Abort, alloc: Global, network: &Network) -> Sending {
     let mut arcs = Vec::new(alloc);
     for i in 0..network.arc_count() {

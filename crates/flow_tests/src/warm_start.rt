@@ -1,6 +1,6 @@
 //! A flow that is kept while supplies move.
 ghost use Rattle.std.specs.Prelude.{◌≡◌, ◌<◌, ◌≤◌, ◌≤ℤ◌, pos, negsuc, true, IfSome};
-ghost use Rattle.networks.specs.Networks.{node_count, supply_at};
+ghost use Rattle.min_cost_flow.specs.Networks.{node_count, supply_at};
 
 use crate::flows::{FREE_WAY, cost_of, network};
 use min_cost_flow::{Network, WarmStart};
@@ -48,9 +48,9 @@ fn moved(
     warm_start.shift(from, to, amount)
 }
 
-// Moved supplies have the least cost of the moved network, or no flow.
-// At first a unit takes the expensive arc. Then the first node supplies one unit less, so that none has to. In the end
-// the second node demands two units, and the one arc to it carries only one.
+/// Moved supplies have the least cost of the moved network, or no flow.
+/// At first a unit takes the expensive arc. Then the first node supplies one unit less, so that none has to. In the end
+/// the second node demands two units, and the one arc to it carries only one.
 #[test]
 fn moved_supplies_have_their_costs(rt: HostRuntime) {
     let twin = network(&rt, rt.alloc(), &[2, 0, -2], &FREE_WAY);

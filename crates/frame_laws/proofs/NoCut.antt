@@ -9,14 +9,14 @@ use Rattle.common.proofs.Sums.{sum_below-same, sum_below-add, sum_below-none, to
 use Rattle.faces.specs.Planes.{PlaneModel, IsPlane, darts, vertices, head, face_at}
 use Rattle.faces.proofs.Ends.{plane_ends}
 use Rattle.faces.proofs.Connected.{faces_connected}
-use Rattle.networks.specs.Networks.{NetworkModel, node_count, supply_at}
+use Rattle.min_cost_flow.specs.Networks.{NetworkModel, node_count, supply_at}
 use Rattle.flow_network.specs.Marks.{is_marked}
 use Rattle.flow_network.specs.Given.{GivenModel, CanBeGiven, IsAngle, angle_given, beyond_first}
 use Rattle.flow_network.specs.FaceNet.{IsKeepingNet, vertex_degree, beyond_at_vertex, vertex_has_to_turn, face_has_to_turn}
 use Rattle.flow_network.proofs.Flowing.{supplies_sum_to_zero, chosen, chosen_arrives}
 use Rattle.flow_network.proofs.VertexDegrees.{search_below, arrivals_most}
-use Rattle.cuts.specs.Cut.{ShowsNone, has_to_turn}
-use Rattle.cuts.proofs.Excluded.{is_net, net_for}
+use Rattle.conditions.specs.Cut.{ShowsNone, has_to_turn}
+use Rattle.conditions.proofs.Excluded.{is_net, net_for}
 use Rattle.frame_laws.specs.Points.{right_angles, given_around, IsGivenAngle, IsPoint, ArePoints}
 
 -- a given angle is one right angle and those beyond

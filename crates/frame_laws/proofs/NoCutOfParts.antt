@@ -12,7 +12,7 @@ use Rattle.flow_network.specs.Given.{GivenModel, CanBeGiven, angle_given, turns_
 use Rattle.flow_network.specs.FaceNet.{vertex_degree, beyond_at_vertex, beyond_in_face, lefts_in_face, vertex_has_to_turn, face_has_to_turn}
 use Rattle.flow_network.proofs.GivenParts.{all_at_vertices, turns_back}
 use Rattle.flow_network.proofs.VertexDegrees.{search_below}
-use Rattle.cuts.specs.Cut.{ShowsNone, has_to_turn}
+use Rattle.conditions.specs.Cut.{ShowsNone, has_to_turn}
 use Rattle.frame_laws.specs.Frames.{FaceSet, IsRim, AreParts}
 use Rattle.frame_laws.proofs.Weights.{IsEven, even_none, even_rest, even_same, even_by_steps}
 use Rattle.frame_laws.proofs.Jumps.{HasBoth, made_up, falls, rises, how_often, equally_often}

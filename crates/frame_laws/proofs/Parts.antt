@@ -10,7 +10,7 @@ use Rattle.flow_network.specs.Given.{GivenModel, IsAngle, angle_given, turns_giv
 use Rattle.flow_network.specs.FaceNet.{vertex_degree, beyond_at_vertex}
 use Rattle.flow_network.proofs.Flowing.{chosen, chosen_arrives}
 use Rattle.flow_network.proofs.VertexDegrees.{search_below, arrivals_most}
-use Rattle.cuts.specs.Cut.{ShowsNone}
+use Rattle.conditions.specs.Cut.{ShowsNone}
 use Rattle.frame_laws.specs.Points.{IsPoint, IsGivenAngle, right_angles, given_around}
 use Rattle.frame_laws.specs.Frames.{FaceSet, IsRim, IsOnRim, IsCorner, IsSide, AreParts, given_inside, angles_outside}
 use Rattle.frame_laws.proofs.Trees.{alike}

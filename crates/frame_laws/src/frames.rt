@@ -3,7 +3,7 @@
 ghost use Rattle.std.specs.Prelude.{ℕ, Bool, List};
 ghost use Rattle.faces.specs.Planes.{PlaneModel, IsPlane};
 ghost use Rattle.flow_network.specs.Given.{GivenModel, CanBeGiven};
-ghost use Rattle.cuts.specs.Cut.{ShowsNone};
+ghost use Rattle.conditions.specs.Cut.{ShowsNone};
 ghost use Rattle.frame_laws.specs.Frames.{FaceSet, AreParts};
 
 /// Where just points and frames are given, no vertices and faces turn more than can leave them.

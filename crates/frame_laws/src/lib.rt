@@ -1,5 +1,5 @@
 //! Angles and turns that can always be given: points, each a vertex with a whole turn of given angles, and frames, each a
-//! cycle of straight edges with four corners, from which at most one edge leaves outwards at every other vertex.
+//! cycle of straight edges with four corners.
 #![tactic(auto)]
 
 mod frames;

@@ -3,7 +3,7 @@
 ghost use Rattle.std.specs.Prelude.{Bool, List};
 ghost use Rattle.faces.specs.Planes.{PlaneModel, IsPlane};
 ghost use Rattle.flow_network.specs.Given.{GivenModel, CanBeGiven};
-ghost use Rattle.cuts.specs.Cut.{ShowsNone};
+ghost use Rattle.conditions.specs.Cut.{ShowsNone};
 ghost use Rattle.frame_laws.specs.Points.{ArePoints};
 
 /// Where just points are given, no vertices and faces turn more than can leave them.

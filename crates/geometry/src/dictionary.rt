@@ -14,7 +14,7 @@ use crate::rectangles::Rectangle;
 use std::alloc::{AllocError, Global};
 use std::collections::BTreeMap;
 
-// Whether no two of the rectangles, sorted by their left columns, have a point in common.
+/// Whether no two of the rectangles, sorted by their left columns, have a point in common.
 pub(crate) fn sweep(alloc: Global, rectangles: &[Rectangle]) -> Result<bool, AllocError>
     requires filled { All IsNonempty rectangles.now }
     requires ordered { IsNonDecreasingBy (λ r. r.left) rectangles.now }
@@ -30,8 +30,8 @@ pub(crate) fn sweep(alloc: Global, rectangles: &[Rectangle]) -> Result<bool, All
     Ok(true)
 }
 
-// Removes the rectangles that share a row with a new one and end left of it; false if one that shares a row reaches its
-// left column.
+/// Removes the rectangles that share a row with a new one and end left of it; false if one that shares a row reaches its
+/// left column.
 fn clear_ended(active: &mut BTreeMap<u32, Rectangle>, new: Rectangle) -> bool
     requires { IsSweepDictionary (get nat_cmp active.old) }
     ensures clears { Clears (get nat_cmp active.old) (get nat_cmp active.new) new }
@@ -50,7 +50,7 @@ fn clear_ended(active: &mut BTreeMap<u32, Rectangle>, new: Rectangle) -> bool
     true
 }
 
-// The entry of the greatest key that is at most `row`.
+/// The entry of the greatest key that is at most `row`.
 fn highest_up_to(active: &BTreeMap<u32, Rectangle>, row: u32) -> Option<(u32, Rectangle)>
     ensures none { IfNone result ((k : ℕ) → k ≤ row → get nat_cmp active.now k ≡ None) }
     ensures below { IfSome result (λ e. e.0 ≤ row) }

@@ -10,8 +10,8 @@ ghost use Rattle.geometry.specs.Frontier.{MovesPast, IsBeyond};
 use crate::rectangles::Rectangle;
 use std::alloc::AllocError;
 
-// Whether no two of the rectangles, sorted by their left columns and all below row `height`, have a point in common.
-// Reuses `frontier` as its table.
+/// Whether no two of the rectangles, sorted by their left columns and all below row `height`, have a point in common.
+/// Reuses `frontier` as its table.
 pub(crate) fn sweep(
     rectangles: &[Rectangle],
     height: usize,
@@ -32,7 +32,7 @@ pub(crate) fn sweep(
     Ok(true)
 }
 
-// Moves the frontier past a new rectangle; false if in one of its rows the frontier is already beyond its left column.
+/// Moves the frontier past a new rectangle; false if in one of its rows the frontier is already beyond its left column.
 fn move_past(frontier: &mut [u64], new: Rectangle) -> bool
     requires filled { IsNonempty new }
     requires low { new.top < length frontier.old }
@@ -47,7 +47,7 @@ fn move_past(frontier: &mut [u64], new: Rectangle) -> bool
     true
 }
 
-// Whether the frontier is beyond a column in one of these rows.
+/// Whether the frontier is beyond a column in one of these rows.
 fn is_beyond(rows: &[u64], left: u64) -> bool
     ensures beyond { OnTrue result (SomeIndex rows.now (λ y. left < slice_index rows.now y)) }
     ensures within { OnFalse result (EachIndex rows.now (λ y. slice_index rows.now y ≤ left)) }

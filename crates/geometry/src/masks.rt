@@ -11,11 +11,11 @@ ghost use Rattle.geometry.specs.Masks.{Flags, IsMet};
 use crate::rectangles::Rectangle;
 use std::alloc::AllocError;
 
-// The number of columns of a row.
+/// The number of columns of a row.
 pub(crate) const COLUMNS: u32 = 63;
 
-// Whether no two of the rectangles, all left of column `COLUMNS` and below row `height`, have a point in common. Reuses
-// `table` for the flags.
+/// Whether no two of the rectangles, all left of column `COLUMNS` and below row `height`, have a point in common. Reuses
+/// `table` for the flags.
 pub(crate) fn flag_all(
     rectangles: &[Rectangle],
     height: usize,
@@ -39,7 +39,7 @@ pub(crate) fn flag_all(
     Ok(true)
 }
 
-// Flags the points of a rectangle; false if one of them is flagged already.
+/// Flags the points of a rectangle; false if one of them is flagged already.
 fn flag(table: &mut [u64], new: Rectangle) -> bool
     requires filled { IsNonempty new }
     requires narrow { new.right < COLUMNS }
@@ -52,7 +52,7 @@ fn flag(table: &mut [u64], new: Rectangle) -> bool
     add_mask(rows, mask)
 }
 
-// The bits of the columns `left` to `right`.
+/// The bits of the columns `left` to `right`.
 fn mask_of(left: u32, right: u32) -> u64
     requires filled { left ≤ right }
     requires narrow { right < COLUMNS }
@@ -61,8 +61,8 @@ fn mask_of(left: u32, right: u32) -> u64
     (1u64 << (right + 1)) - (1u64 << left)
 }
 
-// Adds the bits of the mask to each of these rows; false if a row already has one of these bits. Both are done in one
-// pass, since the end of a loop over few rows is hard to predict.
+/// Adds the bits of the mask to each of these rows; false if a row already has one of these bits. Both are done in one
+/// pass, since the end of a loop over few rows is hard to predict.
 fn add_mask(rows: &mut [u64], mask: u64) -> bool
     ensures free { OnTrue result (EachIndex rows.old (λ y. bit_and (slice_index rows.old y) mask ≡ 0)) }
     ensures met { OnFalse result (SomeIndex rows.old (λ y. bit_and (slice_index rows.old y) mask ≢ 0)) }

@@ -53,7 +53,7 @@ pub fn all_apart_in(
     }
 }
 
-// Whether no two of the rectangles, sorted by their left columns, have a point in common.
+/// Whether no two of the rectangles, sorted by their left columns, have a point in common.
 fn sweep(alloc: Global, rectangles: &[Rectangle], table: &mut Vec<u64>) -> Result<bool, AllocError>
     requires filled { All IsNonempty rectangles.now }
     requires ordered { IsNonDecreasingBy (λ r. r.left) rectangles.now }
@@ -65,8 +65,8 @@ fn sweep(alloc: Global, rectangles: &[Rectangle], table: &mut Vec<u64>) -> Resul
     }
 }
 
-// The number of rows of a table that covers all rows of the rectangles; `None` if the table or all rectangles together
-// would have too many.
+/// The number of rows of a table that covers all rows of the rectangles; `None` if the table or all rectangles together
+/// would have too many.
 fn table_height(rectangles: &[Rectangle]) -> Option<usize>
     requires { All IsNonempty rectangles.now }
     ensures { IfSome result (λ height. All (λ r. r.top < height) rectangles.now) }
@@ -83,10 +83,10 @@ fn table_height(rectangles: &[Rectangle]) -> Option<usize>
     Some(height)
 }
 
-// A number of rows, less than twice as many as needed, that covers all rows of the rectangles, if all of them lie in
-// the columns that have bits; `None` otherwise or if it is too great. Numbers are gathered by `or`, in which no step is
-// a branch. The rows of all rectangles together need no count here: those that are flagged are disjoint, so at most
-// `COLUMNS` of them share a row.
+/// A number of rows, less than twice as many as needed, that covers all rows of the rectangles, if all of them lie in
+/// the columns that have bits; `None` otherwise or if it is too great. Numbers are gathered by `or`, in which no step is
+/// a branch. The rows of all rectangles together need no count here: those that are flagged are disjoint, so at most
+/// `COLUMNS` of them share a row.
 fn narrow_height(rectangles: &[Rectangle]) -> Option<usize>
     ensures narrow { IfSome result (λ _. All (λ r. r.right < COLUMNS) rectangles.now) }
     ensures low { IfSome result (λ height. All (λ r. r.top < height) rectangles.now) }
@@ -104,7 +104,7 @@ fn narrow_height(rectangles: &[Rectangle]) -> Option<usize>
     Some(height)
 }
 
-// Whether all rectangles, none of which goes beyond column `right`, lie in the columns that have bits.
+/// Whether all rectangles, none of which goes beyond column `right`, lie in the columns that have bits.
 fn are_narrow(rectangles: &[Rectangle], right: u32) -> bool
     requires { All (λ r. r.right ≤ right) rectangles.now }
     ensures { OnTrue result (All (λ r. r.right < COLUMNS) rectangles.now) }

@@ -7,8 +7,7 @@ use faces::Plane;
 use ortho_rep::{Point, Points};
 use std::alloc::{AllocError, Global};
 use std::process::Abort;
-use test_inputs::record_of;
-use test_tools::same;
+use test_tools::{record_of, same};
 
 /// How far apart two points are, along the axes.
 fn distance(from: Point, to: Point) -> u32 {
@@ -60,8 +59,9 @@ fn length_keeping(
         angles: &[],
         inner: &[],
     };
-    let made = scratch.shape_keeping(alloc, &rec, &conditions, Choice::First, kind);
-    let kept = made.ok()?.ok()?;
+    let plane = scratch.embed(alloc, &rec).ok()?;
+    let made = scratch.shape_keeping(alloc, plane, &conditions, Choice::First, kind);
+    let kept = made.ok()?;
     let drawing = scratch.draw_keeping(alloc, &kept).ok()?;
     Some(length_of(&kept.plane, drawing.points()))
 }
@@ -70,7 +70,8 @@ fn length_keeping(
 fn shaped(rt: &impl Abort, alloc: Global, bytes: &[u8], kind: DrawingKind) -> ShapedPlane {
     let rec = record_of(alloc, bytes).expect(rt, "a record");
     let mut scratch = RecordScratch::empty(alloc);
-    let made = scratch.shape(alloc, &rec, Choice::First, kind);
+    let plane = scratch.embed(alloc, &rec);
+    let made = scratch.shape(alloc, plane, Choice::First, kind);
     made.ok().expect(rt, "a plane")
 }
 
@@ -81,7 +82,7 @@ fn length_drawn(rt: &impl Abort, alloc: Global, shaped_plane: &ShapedPlane) -> u
     length_of(&shaped_plane.plane, &points.expect(rt, "memory"))
 }
 
-/// The same of a record.
+/// The total length of the edges in a drawing of this kind of a record.
 fn length(rt: &impl Abort, alloc: Global, bytes: &[u8], kind: DrawingKind) -> u32 {
     length_drawn(rt, alloc, &shaped(rt, alloc, bytes, kind))
 }

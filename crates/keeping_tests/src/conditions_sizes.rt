@@ -8,9 +8,8 @@ use faces::Plane;
 use ortho_rep::Scratch;
 use std::alloc::{AllocError, Global};
 use std::process::Abort;
-use test_inputs::plane_in;
 use test_tools::records::SQUARE;
-use test_tools::same;
+use test_tools::{plane_in, same};
 
 /// A grid of this many rows and columns, at most 255 vertices. Neighbours to the north, east, south and west.
 pub(crate) fn grid(alloc: Global, rows: u8, columns: u8) -> Result<Vec<u8>, AllocError>

@@ -9,11 +9,10 @@ use ortho_rep::{
 };
 use std::alloc::{AllocError, Global};
 use std::process::Abort;
-use test_inputs::{Case, L, ONE_BEND, R, plane_in, prices_in, shape_in};
 use test_tools::records::{
     CAPPED_CUBE, CUBE, EDGE, OCTAHEDRON, SIX, SQUARE, TETRAHEDRON, TRIANGLE,
 };
-use test_tools::same;
+use test_tools::{Case, L, ONE_BEND, R, plane_in, prices_in, same, shape_in};
 
 /// Three rows of three vertices.
 const GRID: [u8; 34] = [
@@ -133,7 +132,7 @@ fn bends_of_an_oracle(rt: HostRuntime) {
 /// straight.
 type Best = (u32, u16, (bool, bool));
 
-/// The same with the best outer face among those that are not barred.
+/// These figures of a shape with the best outer face among those that are not barred.
 fn best_keeping(
     alloc: Global,
     plane: &mut Plane,

@@ -1,5 +1,6 @@
 //! Running all lanes of a run.
-ghost use Rattle.std.specs.Prelude.{◌≡◌, List, [], All, IfOk, IfErr, map, vec_len};
+ghost use Rattle.std.specs.Prelude.{◌≡◌, ◌<◌, ◌≤◌, List, [], All, IfOk, IfErr, map, vec_len};
+ghost use Rattle.ruled_lanes.specs.declared.limits.TheConstants.{LANES, MAX_TICKETS};
 ghost use Rattle.ruled_lanes.specs.FanEnds.{given_at};
 ghost use Rattle.ruled_lanes.specs.TicketSeats.{IsSeatOf, IsUnused};
 ghost use Rattle.lanes.specs.Notes.{Note};
@@ -43,6 +44,9 @@ pub fn run_lanes<
     O: Opener,
     G: Gate,
 >(run: &Run<'_, R, O, G>, kind: &L, consumer: C) -> (C, Result<(), RunFault<C::Refusal>>)
+    requires few_files { run.now.files ≤ MAX_TICKETS }
+    requires some { 0 < run.now.lanes }
+    requires few { run.now.lanes ≤ LANES }
     requires empty { C.holds consumer [] }
     requires accepts { AcceptsFiles L.accepts L.ends (O.meaning run.now.opener.now) }
     ensures told { IfOk result.1 (λ _. (ns : List Note) × C.holds result.0 ns
@@ -61,7 +65,7 @@ pub fn run_lanes<
         tickets: &tickets,
         kind,
     };
-    let (consumer, ran) = shared.run_seats(seats, fan, consumer);
+    let (consumer, ran) = shared.gather_in_scope(seats, fan, consumer);
     match ran {
         Ok(seats) => {
             tickets.close(seats);
@@ -73,7 +77,7 @@ pub fn run_lanes<
 
 impl<'s, R: Threads + Wait + Sync, O: Opener, G: Gate, L: LaneKind + 's> Shared<'s, R, O, G, L> {
     /// Runs a lane for each seat, gathers their messages, and joins their threads. Returns the consumer and the seats.
-    fn run_seats<C: Consumer<L::Entry, L::End>>(
+    fn gather_in_scope<C: Consumer<L::Entry, L::End>>(
         &self,
         seats: Vec<Seat>,
         fan: Fan<L::Entry, L::End>,
@@ -92,14 +96,14 @@ impl<'s, R: Threads + Wait + Sync, O: Opener, G: Gate, L: LaneKind + 's> Shared<
                 ensures { LeavesRun C.holds C.gave_up C.stays self.entry.now.run.now.choice (O.meaning self.entry.now.run.now.opener.now) self.entry.now.tickets.now (vec_len seats) consumer result.0 result.1 }
             {
                 let mut consumer = consumer;
-                let ran = self.run_in(scope, seats, fan, &mut consumer);
+                let ran = self.start_and_gather(scope, seats, fan, &mut consumer);
                 (consumer, ran)
             },
         )
     }
 
     /// Starts a lane for each seat and gathers their messages.
-    fn run_in<'e, C: Consumer<L::Entry, L::End>>(
+    fn start_and_gather<'e, C: Consumer<L::Entry, L::End>>(
         &'s self,
         scope: &'s Scope<'s, &'e ()>,
         seats: Vec<Seat>,

@@ -11,9 +11,9 @@ ghost use Rattle.lane_runs.specs.Lanes.{TellsSeat, StartsToRead, StartsLane, Lea
 ghost use Rattle.lane_runs.specs.Accepting.{AcceptsAll};
 
 use crate::lane_kind::LaneKind;
-use crate::links::settle_lane;
-use crate::read_stage::Reading;
+use crate::read_stage::FirstStage;
 use crate::running::{LaneFault, LaneReturn};
+use crate::settling::settle_links;
 use crate::shared::Shared;
 use crate::stages::{LastStage, MiddleStage, Stages, new_stages};
 use crate::starting::{Started, StartedRead, start_stage};
@@ -45,14 +45,14 @@ impl<'s, R: Threads + Wait + Sync, O: Opener, G: Gate, L: LaneKind + 's> Shared<
             lane.giver result.giver result.stop result.seat }
     {
         let Lane { seat, mut giver } = lane;
-        let seat = self.run_stages(scope, seat, &mut giver);
+        let seat = self.work_through_files(scope, seat, &mut giver);
         let stop = giver.give(self.run.rt, Message::Stop);
         LaneReturn { giver, stop, seat }
     }
 
     /// Makes the stages of a lane, starts the first three and runs the last one; returns the lane's seat. It does not
     /// give the stop: that is left to the caller.
-    fn run_stages<'e>(
+    fn work_through_files<'e>(
         &'s self,
         scope: &'s Scope<'s, &'e ()>,
         seat: Seat,
@@ -91,7 +91,7 @@ impl<'s, R: Threads + Wait + Sync, O: Opener, G: Gate, L: LaneKind + 's> Shared<
     fn start_stages<'e>(
         &'s self,
         scope: &'s Scope<'s, &'e ()>,
-        read: Reading<L::Framed, L::End>,
+        read: FirstStage<L::Framed, L::End>,
         embed: MiddleStage<L::Framed, L::End>,
         shape: MiddleStage<L::Embedded, L::End>,
     ) -> Option<StartedStages<L, O>>
@@ -161,7 +161,7 @@ impl<L: LaneKind, O: Opener> StartedStages<L, O> {
             return None;
         };
         let (read, seat) = ends;
-        settle_lane::<L, _>(rt, read, embed, shape, draw);
+        settle_links::<L, _>(rt, read, embed, shape, draw);
         Some(seat)
     }
 }

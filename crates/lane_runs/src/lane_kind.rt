@@ -3,18 +3,10 @@ ghost use Rattle.std.specs.Prelude.{◌≡◌, ◌≤◌, ℕ, List};
 ghost use Rattle.streams.specs.declared.frames.Mark.{Mark};
 
 use common::Choice;
-use lanes::{Numbered, Staged};
+use lanes::{LaneScratch, Numbered, Staged};
 use planar_code::Record;
 use std::alloc::{AllocError, Global};
 use streams::SourceEnd;
-
-/// The scratches of the second, third and fourth stage of a lane.
-#[derive(Drop)]
-pub struct LaneScratch<E: Drop, S: Drop, D: Drop> {
-    pub embed: E,
-    pub shape: S,
-    pub draw: D,
-}
 
 /// The `LaneScratch` of a lane of this kind.
 pub type ScratchOf<L> = LaneScratch<

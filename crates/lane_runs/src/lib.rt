@@ -6,16 +6,16 @@ mod all_lanes;
 mod joining;
 mod lane;
 mod lane_kind;
-mod links;
 mod new_fan;
 mod read_stage;
 mod record_giver;
 mod run;
 mod running;
+mod settling;
 mod shared;
 mod stages;
 mod starting;
 
 pub use all_lanes::run_lanes;
-pub use lane_kind::{LaneKind, LaneScratch, ScratchOf};
+pub use lane_kind::{LaneKind, ScratchOf};
 pub use run::Run;

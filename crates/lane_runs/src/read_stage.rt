@@ -16,7 +16,7 @@ use std::sync::Wait;
 ///
 /// By the seat it draws files, of each of which a piece at a time is read into the buffer.
 #[derive(Drop)]
-pub struct Reading<A: Numbered, M: Drop + Send> {
+pub struct FirstStage<A: Numbered, M: Drop + Send> {
     pub lane: u32,
     pub seat: Seat,
     pub buffer: Vec<u8>,
@@ -30,14 +30,14 @@ impl<R: Wait, O: Opener, G: Gate, L: LaneKind> Shared<'_, R, O, G, L> {
     /// `None` if the other end of its link was gone.
     pub fn read_stage(
         &self,
-        reading: Reading<L::Framed, L::End>,
+        reading: FirstStage<L::Framed, L::End>,
     ) -> Option<(Giver<Message<L::Framed, L::End>>, Seat)>
         requires { StartsToRead self.now.tickets.now reading.seat (vec_len reading.buffer) reading.giver
             × AcceptsAll L.accepts L.ends (O.meaning self.now.run.now.opener.now) }
         ensures { IfSome result (λ ends.
             ReadsSeat L.Framed.about self.now.run.now.choice (O.meaning self.now.run.now.opener.now) self.now.tickets.now reading.giver ends.0 ends.1) }
     {
-        let Reading {
+        let FirstStage {
             lane,
             mut seat,
             mut buffer,
@@ -90,6 +90,7 @@ impl<R: Wait, O: Opener, G: Gate, L: LaneKind> Shared<'_, R, O, G, L> {
         let end = read_file(run.opener, run.alloc, file, run.choice, buffer, gives)?;
         gives.give_all()?;
         let mark = end.mark;
+        run.opener.ended(file, mark);
         let known = self.kind.end(file, end);
         gives.giver.give(run.rt, Message::End(file, mark, known))?;
         Ok(())

@@ -6,7 +6,7 @@ ghost use Rattle.lanes.specs.Notes.{notes, notes_of_items};
 
 use crate::lane_kind::LaneKind;
 use common::Choice;
-use lanes::{Filling, Gate, Gone, Keep, Message, Pauses, Stage};
+use lanes::{Filling, Gate, Gone, Message, Pauses, RecordSink, Stage};
 use planar_code::Record;
 use ruled_lanes::Giver;
 use std::alloc::Global;
@@ -15,7 +15,7 @@ use std::sync::Wait;
 /// The number of bytes of records from which on a message takes no more.
 const MOST_BYTES: usize = 4096;
 
-/// A `Keep` that calls the gate for each record, and sends the records in messages of several.
+/// A `RecordSink` that calls the gate for each record, and sends the records in messages of several.
 ///
 /// No record waits for the next read of its file. After each read it blocks as long as the file is paused.
 #[derive(Drop)]
@@ -34,7 +34,7 @@ pub struct RecordGiver<'s, R, G, L: LaneKind> {
     pub most: usize,
 }
 
-impl<R: Wait, G: Gate, L: LaneKind> Keep for RecordGiver<'_, R, G, L> {
+impl<R: Wait, G: Gate, L: LaneKind> RecordSink for RecordGiver<'_, R, G, L> {
     type Refusal = Gone;
 
     ghost kept = { λ g. notes L.Framed.about (given g.giver) ++ notes_of_items L.Framed.about g.filling.items.items };

@@ -1,6 +1,6 @@
 //! The parameters of a run of lanes.
-ghost use Rattle.std.specs.Prelude.{◌≤◌, ◌<◌};
-ghost use Rattle.ruled_lanes.specs.declared.limits.TheConstants.{LANES, MAX_CAPACITY, MAX_TICKETS};
+ghost use Rattle.std.specs.Prelude.{◌≤◌};
+ghost use Rattle.ruled_lanes.specs.declared.limits.TheConstants.{MAX_CAPACITY};
 
 use common::Choice;
 use lanes::Pauses;
@@ -27,9 +27,6 @@ pub struct Run<'r, R, O, G> {
     pub capacity: u32,
     /// The rule by which the outer face of each plane is chosen.
     pub choice: Choice,
-    ghost few_files: { files ≤ MAX_TICKETS },
-    ghost some: { 0 < lanes },
-    ghost few: { lanes ≤ LANES },
     ghost least: { 1 ≤ capacity },
     ghost most: { capacity ≤ MAX_CAPACITY },
 }

@@ -4,11 +4,10 @@ ghost use Rattle.ruled_lanes.specs.declared.limits.TheConstants.{MAX_CAPACITY};
 ghost use Rattle.streams.specs.declared.reading.TheConstants.{PIECE};
 ghost use Rattle.lane_runs.specs.Lanes.{IsNewLink};
 
-use crate::lane_kind::{LaneKind, LaneScratch};
-use crate::links::{Links, new_links};
-use crate::read_stage::Reading;
-use lanes::{Message, Staged};
-use ruled_lanes::{Giver, Seat, Taker};
+use crate::lane_kind::LaneKind;
+use crate::read_stage::FirstStage;
+use lanes::{LaneScratch, Message, Staged};
+use ruled_lanes::{Giver, Seat, Taker, link};
 use std::alloc::{AllocError, Global};
 use streams::piece_buffer;
 
@@ -30,7 +29,7 @@ pub struct LastStage<A: Staged, M: Drop + Send> {
 /// The four stages of a lane that do not run yet. A link leads from each to the next.
 #[derive(Drop)]
 pub struct Stages<L: LaneKind> {
-    pub read: Reading<L::Framed, L::End>,
+    pub read: FirstStage<L::Framed, L::End>,
     pub embed: MiddleStage<L::Framed, L::End>,
     pub shape: MiddleStage<L::Embedded, L::End>,
     pub draw: LastStage<L::Shaped, L::End>,
@@ -58,15 +57,16 @@ pub fn new_stages<L: LaneKind>(
     let Ok(LaneScratch { embed, shape, draw }) = kind.scratch(alloc, capacity) else {
         return Err(AllocError);
     };
-    let Ok(links) = new_links::<L>(alloc, capacity) else {
+    let Ok((giver, framed)) = link(alloc, capacity) else {
         return Err(AllocError);
     };
-    let Links {
-        framed: (giver, framed),
-        embedded: (embedded_giver, embedded),
-        shaped: (shaped_giver, shaped),
-    } = links;
-    let read = Reading {
+    let Ok((embedded_giver, embedded)) = link(alloc, capacity) else {
+        return Err(AllocError);
+    };
+    let Ok((shaped_giver, shaped)) = link(alloc, capacity) else {
+        return Err(AllocError);
+    };
+    let read = FirstStage {
         lane,
         seat,
         buffer,

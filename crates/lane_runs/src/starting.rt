@@ -6,7 +6,7 @@ ghost use Rattle.lane_runs.specs.Lanes.{ReadsSeat, StartsToRead};
 ghost use Rattle.lane_runs.specs.Accepting.{AcceptsAll};
 
 use crate::lane_kind::LaneKind;
-use crate::read_stage::Reading;
+use crate::read_stage::FirstStage;
 use crate::shared::Shared;
 use crate::stages::MiddleStage;
 use common::Choice;
@@ -62,7 +62,7 @@ impl<'s, R: Threads + Wait + Sync, O: Opener, G: Gate, L: LaneKind + 's> Shared<
     pub fn start_read<'e>(
         &'s self,
         scope: &'s Scope<'s, &'e ()>,
-        reading: Reading<L::Framed, L::End>,
+        reading: FirstStage<L::Framed, L::End>,
     ) -> Option<StartedRead<L::Framed, L::End, O>>
         requires { StartsToRead self.now.tickets.now reading.seat (vec_len reading.buffer) reading.giver
             × AcceptsAll L.accepts L.ends (O.meaning self.now.run.now.opener.now) }

@@ -4,23 +4,24 @@
 #![tactic(auto)]
 
 mod batch;
-mod bench;
 mod consumer;
 mod drafts;
 mod fault;
+mod file_receiver;
 mod filling;
 mod gate;
 mod gathering;
-mod keep;
+mod lane_scratch;
 mod mem_opener;
 mod message;
 mod numbered;
 mod opener;
 mod outlet;
 mod pauses;
-mod placing;
 mod reading;
+mod record_sink;
 mod return_queue;
+mod running_stage;
 mod stage;
 
 pub use batch::Batch;
@@ -30,7 +31,7 @@ pub use fault::RunFault;
 pub use filling::{Filling, MOST_IN_LISTS, MOST_ITEMS};
 pub use gate::{Gate, OpenGate, Stage};
 pub use gathering::gather;
-pub use keep::Keep;
+pub use lane_scratch::LaneScratch;
 pub use mem_opener::MemOpener;
 pub use message::Message;
 pub use numbered::{Numbered, Staged};
@@ -38,5 +39,6 @@ pub use opener::{OpenFault, Opener};
 pub use outlet::{Gone, Outlet};
 pub use pauses::Pauses;
 pub use reading::read_file;
+pub use record_sink::RecordSink;
 pub use return_queue::ReturnQueue;
 pub use stage::{StageWork, run_stage, run_until_stop};

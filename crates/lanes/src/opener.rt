@@ -3,7 +3,7 @@ ghost use Rattle.std.specs.Prelude.{ℕ};
 ghost use Rattle.lanes.specs.Opening.{Meaning, Opens};
 
 use std::alloc::Global;
-use streams::Tap;
+use streams::{Mark, Tap};
 
 /// The reason why a file was not opened.
 #[derive(Clone, Copy, Debug, PartialEq, Eq)]
@@ -31,4 +31,7 @@ pub trait Opener: Sync {
     /// `Io` if it could not be opened, `Memory` if memory ran out.
     fn open(&self, alloc: Global, file: u32) -> Result<Self::Source, OpenFault>
         ensures { Opens Self.Source.to_come Self.Source.fails (meaning self.now file) result };
+
+    /// Called once a file of a run has been read, with its mark. It has no influence on results.
+    fn ended(&self, _file: u32, _mark: Mark) {}
 }

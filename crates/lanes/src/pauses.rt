@@ -23,7 +23,7 @@ impl Pauses {
     }
 
     /// Pauses the files after this one; it and those before it go on.
-    pub fn pause_behind(&self, file: u32) {
+    pub fn pause_after(&self, file: u32) {
         self.set(u64::from(file) + 1);
     }
 
@@ -43,7 +43,7 @@ impl Pauses {
         }
     }
 
-    // Writes the word if it changes, and wakes all threads that sleep on it.
+    /// Writes the word if it changes, and wakes all threads that sleep on it.
     fn set(&self, first: u64) {
         if self.first.load(Ordering::SeqCst) != first {
             self.first.store(first, Ordering::SeqCst);

@@ -4,12 +4,12 @@ ghost use Rattle.ruled_lanes.specs.LinkEnds.{given, taken, TakesFromSame};
 ghost use Rattle.lanes.specs.Notes.{notes, GoOn, Stop};
 ghost use Rattle.lanes.specs.Stages.{HandedOnAll};
 
-use crate::bench::Bench;
 use crate::filling::Filling;
 use crate::gate::Gate;
 use crate::message::Message;
 use crate::numbered::Staged;
 use crate::outlet::Outlet;
+use crate::running_stage::RunningStage;
 use ruled_lanes::{Giver, Taker};
 use std::alloc::Global;
 use std::sync::Wait;
@@ -66,7 +66,7 @@ pub fn run_until_stop<A: Staged, M: Drop, R: Wait, G: Gate, O: Outlet<A::Next, M
     ensures told { IfSome result (λ took. notes A.about (taken took) ≡ O.told to.new ++ Stop ∷ []) }
 {
     let StageWork { lane, scratch } = work;
-    let mut bench = Bench::<A, R, G> {
+    let mut running = RunningStage::<A, R, G> {
         rt,
         alloc,
         gate,
@@ -77,13 +77,13 @@ pub fn run_until_stop<A: Staged, M: Drop, R: Wait, G: Gate, O: Outlet<A::Next, M
     for _ in rt.forever() {
         match taker.take(rt) {
             Ok(Message::Item(item)) => {
-                let next = bench.work_on(item);
+                let next = running.work_on(item);
                 match to.tell(rt, Message::Item(next)) {
                     Ok(()) => {}
                     Err(_) => return None,
                 }
             }
-            Ok(Message::Items(batch)) => match bench.pass_on(batch, to) {
+            Ok(Message::Items(batch)) => match running.pass_on(batch, to) {
                 Ok(()) => {}
                 Err(_) => return None,
             },

@@ -54,7 +54,7 @@ pub(crate) fn certify(
     if !have_ends(segments, wires) || !are_sights(segments, sights) {
         return Ok(false);
     }
-    let kept = balance.sweep.keep_order(segments, coordinates)?;
+    let kept = balance.sweep.is_order_kept(segments, coordinates)?;
     if !kept {
         return Ok(false);
     }
@@ -123,7 +123,7 @@ fn stands_before(first: Segment, second: Segment) -> bool
 }
 
 /// Whether segments keep their order with these coordinates, checked segment by segment.
-pub(crate) fn keep_order(segments: &[Segment], coordinates: &[u16]) -> bool
+pub(crate) fn is_order_kept(segments: &[Segment], coordinates: &[u16]) -> bool
     requires { length coordinates.now ≡ length segments.now }
     ensures { (result ≡ true) ↔ KeepsOrder segments.now (coordinates_in coordinates.now) }
 {

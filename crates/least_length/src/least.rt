@@ -12,8 +12,8 @@ use crate::segments::{MAX_SEGMENTS, MAX_SIGHTS, MAX_WIRES, Segment, Wire};
 use crate::sweep::highest;
 use std::alloc::AllocError;
 
-/// Writes coordinates of the segments with which the total length of the wires is least into `coordinates`, and returns
-/// whether any were found.
+/// Looks for coordinates that shorten the wires; if it finds any, writes those of least total length into `coordinates` and
+/// returns true.
 ///
 /// There is one coordinate for each segment. With them segments keep their order on each level, and no such coordinates
 /// give a lesser total length. The segments must be given in the order of their coordinates; wires run along levels, to
@@ -23,37 +23,15 @@ use std::alloc::AllocError;
 /// to segments that are pulled down: over segments that are next to each other, and if these lead no further, all
 /// segments reached move up together (the primal-dual method for least-cost flow: Ahuja, Magnanti and Orlin, Network
 /// Flows, 1993). True is returned only if [`certify_lengths`](crate::certify_lengths) accepts the result. It is false if
-/// more than 16,384 pairs are met, if more than 65,536 wires or 65,533 segments are given, or if the input is other than
-/// said above; that it is never false otherwise is measured and not proved. It reuses the caller's scratch and list; if
-/// it is false, what the list holds does not matter.
+/// the wires are no shorter than with the segments' own coordinates; if the search would go over more segments than there
+/// are `looks`, of which it takes one for each segment, each time, and all if they are too few; if more than 16,384 pairs
+/// are met, if more than 65,536 wires or 65,533 segments are given, or if the input is other than said above. That it is
+/// never false otherwise is measured and not proved. It reuses the caller's scratch and list; if it is false, what the
+/// list holds does not matter.
 ///
 /// # Errors
 ///
 /// `AllocError` if there is no memory for the coordinates or for the search.
-pub fn find_shortest(
-    scratch: &mut Scratch,
-    segments: &[Segment],
-    wires: &[Wire],
-    coordinates: &mut Vec<u16>,
-) -> Result<bool, AllocError>
-    ensures least { IfOk result (λ found. found ≡ true → IsShortest segments.now wires.now (coordinates_in coordinates.new.items)) }
-    ensures count { IfOk result (λ found. found ≡ true → length coordinates.new.items ≡ length segments.now) }
-{
-    if wires.len() > MAX_WIRES {
-        return Ok(false);
-    }
-    let mut looks = u64::MAX;
-    if !balance(scratch, segments, wires, &mut looks)? {
-        return Ok(false);
-    }
-    write_certified(scratch, segments, wires, coordinates)
-}
-
-/// Looks for coordinates that shorten the wires; if it finds any, writes those of least total length and returns true.
-///
-/// Exactly as [`find_shortest`], but also false if the wires are no shorter than with the segments' own coordinates, or if
-/// the search would go over more segments than there are `looks`. It takes one of them for each segment, each time, and all
-/// if they are too few.
 pub fn find_shorter(
     scratch: &mut Scratch,
     segments: &[Segment],
@@ -107,7 +85,7 @@ pub fn take_shorter(
         return Ok(false);
     }
     let sweep = &mut scratch.balance.sweep;
-    if !sweep.keep_order(segments, coordinates.as_slice())? {
+    if !sweep.is_order_kept(segments, coordinates.as_slice())? {
         return Ok(false);
     }
     Ok(is_shorter(segments, wires, coordinates.as_slice()))

@@ -20,6 +20,6 @@ mod sweep;
 
 pub use certificate::certify_lengths;
 pub use laws::{shortest_are_equally_long, shortest_keep_order, weights_bound_lengths};
-pub use least::{find_shorter, find_shortest, take_shorter};
+pub use least::{find_shorter, take_shorter};
 pub use scratch::Scratch;
 pub use segments::{MAX_SIGHTS, MAX_WIRES, Segment, Sight, Wire};

@@ -3,7 +3,7 @@
 ghost use Rattle.std.specs.Prelude.{◌≡◌, ◌<◌, ◌≤◌, ◌+◌, ◌^◌, ◌↔◌, ℕ, [], length, true, IfOk, slice_index};
 ghost use Rattle.least_length.specs.Lengths.{coordinates_in, segment_at, HasLevel, KeepsOrder};
 
-use crate::certificate::keep_order;
+use crate::certificate::is_order_kept;
 use crate::segments::Segment;
 use std::alloc::{AllocError, Global};
 
@@ -26,7 +26,7 @@ impl Sweep {
 
     /// Whether segments keep their order with these coordinates. The time is linear in their levels if they are listed
     /// in the order of their own coordinates, and otherwise quadratic in the segments.
-    pub(crate) fn keep_order(
+    pub(crate) fn is_order_kept(
         &mut self,
         segments: &[Segment],
         coordinates: &[u16],
@@ -36,19 +36,19 @@ impl Sweep {
     {
         self.frontier.clear();
         self.frontier.resize(usize::from(highest(segments)) + 1, 0)?;
-        Ok(keep_order_in(self.frontier.as_mut_slice(), segments, coordinates))
+        Ok(is_order_kept_in(self.frontier.as_mut_slice(), segments, coordinates))
     }
 }
 
 /// Whether segments keep their order, by a sweep or segment by segment.
-fn keep_order_in(frontier: &mut [u32], segments: &[Segment], coordinates: &[u16]) -> bool
+fn is_order_kept_in(frontier: &mut [u32], segments: &[Segment], coordinates: &[u16]) -> bool
     requires { length coordinates.now ≡ length segments.now }
     ensures { (result ≡ true) ↔ KeepsOrder segments.now (coordinates_in coordinates.now) }
 {
     if is_swept(frontier, segments, coordinates) {
         return true;
     }
-    keep_order(segments, coordinates)
+    is_order_kept(segments, coordinates)
 }
 
 /// Whether each segment, in the order in which they are listed, has a coordinate above those of all segments before it

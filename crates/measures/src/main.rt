@@ -27,6 +27,7 @@ use std::rt::{Clock, Files};
 use std::sync::Wait;
 use std::thread::Threads;
 
+/// Runs the command that the first word names.
 fn main(rt: HostRuntime) -> Result<()> {
     let words = env::args(&rt)?.skip(1).collect::<Vec<String>>(rt.alloc())?;
     let [command, rest @ ..] = words.as_slice() else {

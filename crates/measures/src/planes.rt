@@ -33,11 +33,13 @@ fn tell_plane<R: Print + AllocGlobal>(rt: &R, number: u64, record: &Record) -> R
     }
 }
 
+/// Prints the rule that a graph breaks.
 fn tell_refused<R: Print>(rt: &R, number: u64, rule: &str) -> Result<()> {
     println!(rt; "graph {number} refused {rule}")?;
     Ok(())
 }
 
+/// Prints the numbers of vertices, edges and faces of a plane.
 fn tell_sizes<R: Print>(rt: &R, number: u64, plane: &Plane) -> Result<()> {
     let n = plane.graph().vertices();
     let m = plane.graph().edges();

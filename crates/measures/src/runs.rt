@@ -4,12 +4,11 @@ ghost use Rattle.std.specs.Prelude.{◌≤◌};
 
 use crate::files::read_file;
 use anyhow::{Result, bail};
-use collector::{Batch, Choice, MemOpener, OpenGate, run_batch, run_plain};
+use collector::{Batch, Choice, MAX_CAPACITY, MemOpener, OpenGate, run_batch, run_plain};
 use std::rt::{Clock, Files};
 use std::sync::Wait;
 use std::thread::Threads;
 use std::time::Instant;
-use streams::MAX_CAPACITY;
 
 /// How many bytes a read gives at most.
 const MOST: usize = 65_536;
@@ -32,7 +31,7 @@ pub fn time_plain<R: Files + Print + AllocGlobal + Clock>(rt: &R, names: &[Strin
     tell(rt, &batch, start)
 }
 
-/// The same for a run over lanes. The first two arguments are the number of lanes and the room of a link, 1 to 64
+/// Prints these numbers for a run over lanes. The first two arguments are the number of lanes and the room of a link, 1 to 64
 /// messages.
 pub fn time_lanes<R: Files + Print + AllocGlobal + Clock + Threads + Wait + Sync>(
     rt: &R,
@@ -46,7 +45,7 @@ pub fn time_lanes<R: Files + Print + AllocGlobal + Clock + Threads + Wait + Sync
     time_over(rt, names, lanes, capacity)
 }
 
-/// The same with these numbers of lanes and of messages that a link holds.
+/// Prints these numbers for a run over so many lanes, with room for so many messages in a link.
 fn time_over<R: Files + Print + AllocGlobal + Clock + Threads + Wait + Sync>(
     rt: &R,
     names: &[String],

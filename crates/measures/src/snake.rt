@@ -58,6 +58,7 @@ fn snake(alloc: Global, parts: u32) -> Result<Vec<Point>, AllocError> {
     Ok(points)
 }
 
+/// One coordinate less another.
 fn difference(a: u32, b: u32) -> i64 {
     i64::from(a).wrapping_sub(i64::from(b))
 }

@@ -107,6 +107,7 @@ pub fn tell_stages<R: Files + Print + AllocGlobal + Clock>(
     Ok(())
 }
 
+/// Prints the nanoseconds that a stage took.
 fn print_time<R: Print>(rt: &R, stage: &str, time: Duration) -> Result<()> {
     let taken = time.as_nanos();
     print!(rt; " {stage}={taken}")?;

@@ -5,8 +5,8 @@ use Rattle.std.proofs.lemmas.Bool.{cases_eq, eq-eqb, ne_eqb, cond-true, cond-fal
 use Rattle.std.proofs.lemmas.Int.{ints}
 use Rattle.common.specs.Sums.{sum_below}
 use Rattle.common.proofs.Sums.{sum_below-changed}
-use Rattle.networks.specs.Networks.{NetworkModel, arc_count, arc_at, supply_at}
-use Rattle.networks.specs.Flow.{outflow, inflow, net_outflow, IsUnsaturated, IsResidual, HasPotentials, start_of, end_of, reduced_cost}
+use Rattle.min_cost_flow.specs.Networks.{NetworkModel, arc_count, arc_at, supply_at}
+use Rattle.min_cost_flow.specs.Flow.{outflow, inflow, net_outflow, IsUnsaturated, IsResidual, HasPotentials, start_of, end_of, reduced_cost}
 use Rattle.min_cost_flow.specs.Excess.{HasExcess, Carries}
 use Rattle.min_cost_flow.specs.Residual.{IsMoved}
 

@@ -6,7 +6,7 @@ use lib.Signed.{lt_z}
 use mathlib.Core.Bool.{not}
 use mir.Syntax.{w32}
 use mir.Val.{SFits, of_z, to_z}
-use Rattle.networks.proofs.Signs.{plain_lt, plain_ge}
+use Rattle.min_cost_flow.proofs.Signs.{plain_lt, plain_ge}
 
 pub lt_true : (a b : ℤ) → a <ℤ b → lt_z a b ≡ true
 lt_true a b h = grind (arith, ints)

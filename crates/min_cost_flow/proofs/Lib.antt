@@ -1,3 +1,11 @@
+pub mod Moving
+pub mod Ends
+pub mod Links
+pub mod Building
+pub mod Reaching
+pub mod Distinct
+pub mod Signs
+pub mod Searching
 pub mod Duality
 pub mod Cut
 pub mod OverfullSets

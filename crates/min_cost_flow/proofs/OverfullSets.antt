@@ -7,11 +7,11 @@ use Rattle.std.proofs.lemmas.Int.{ints}
 use borrow.Author.Differences.{up}
 use Rattle.common.specs.Sums.{sum_below}
 use Rattle.common.proofs.Sums.{sum_below-same, sum_below-le, sum_below-add, sum_below-member, exchanged, total_below-same, total_below-parts}
-use Rattle.networks.specs.declared.arc.Cap.{Cap}
-use Rattle.networks.specs.declared.arc.Cap.TheVariants.{AtMost, Any}
-use Rattle.networks.specs.Networks.{NetworkModel, node_count, arc_count, arc_at, supply_at, HasEnds}
-use Rattle.networks.specs.Flow.{outflow, inflow, IsWithinCap, IsUnsaturated, HasNoFlow}
-use Rattle.networks.specs.ResidualArcs.{units_of}
+use Rattle.min_cost_flow.specs.declared.arc.Cap.{Cap}
+use Rattle.min_cost_flow.specs.declared.arc.Cap.TheVariants.{AtMost, Any}
+use Rattle.min_cost_flow.specs.Networks.{NetworkModel, node_count, arc_count, arc_at, supply_at, HasEnds}
+use Rattle.min_cost_flow.specs.Flow.{outflow, inflow, IsWithinCap, IsUnsaturated, HasNoFlow}
+use Rattle.min_cost_flow.specs.ResidualArcs.{units_of}
 use Rattle.min_cost_flow.specs.Excess.{HasExcess, IsClosedOut}
 use Rattle.min_cost_flow.specs.Overfull.{leads_out, supply_of, capacity_out, IsOverfull}
 use Rattle.min_cost_flow.proofs.Duality.{at_starts, at_ends}

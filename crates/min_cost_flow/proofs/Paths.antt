@@ -4,13 +4,13 @@ use Rattle.std.specs.Prelude.{ℤ, pos, negsuc, ◌≤ℤ◌, ◌<ℤ◌}
 use Rattle.std.proofs.lemmas.Bool.{both_ways, ltb-true, lt-ltb}
 use Rattle.std.proofs.lemmas.Int.{ints}
 use borrow.Author.Differences.{up}
-use Rattle.networks.specs.declared.arc.Cap.{Cap}
-use Rattle.networks.specs.declared.arc.Cap.TheVariants.{AtMost, Any}
-use Rattle.networks.specs.Networks.{NetworkModel, node_count, arc_count, arc_at, HasEnds}
-use Rattle.networks.specs.Flow.{IsUnsaturated, IsResidual, start_of, end_of, HasNoFlow}
+use Rattle.min_cost_flow.specs.declared.arc.Cap.{Cap}
+use Rattle.min_cost_flow.specs.declared.arc.Cap.TheVariants.{AtMost, Any}
+use Rattle.min_cost_flow.specs.Networks.{NetworkModel, node_count, arc_count, arc_at, HasEnds}
+use Rattle.min_cost_flow.specs.Flow.{IsUnsaturated, IsResidual, start_of, end_of, HasNoFlow}
 use Rattle.min_cost_flow.specs.Excess.{HasExcess, IsClosedOut, IsResidualPath, HasNoAugmentingPath}
 use Rattle.min_cost_flow.proofs.Cut.{no_flow_out}
-use Rattle.networks.proofs.Ends.{end_in}
+use Rattle.min_cost_flow.proofs.Ends.{end_in}
 use Rattle.min_cost_flow.proofs.Rounds.{sign_of, over_or_not, no_flow_wanting}
 use Rattle.min_cost_flow.proofs.Spreading.{Steps, IsClosedUnder, Passes, spread_from, found_below}
 

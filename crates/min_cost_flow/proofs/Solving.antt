@@ -6,33 +6,33 @@ use Rattle.std.proofs.lemmas.Bool.{cases_eq, cases_lt, cases_Bool, eq-eqb, ne_eq
 use Rattle.std.proofs.lemmas.Int.{ints, to_z-of_z}
 use mir.Syntax.{w16, w32}
 use mir.Val.{of_z, to_z}
-use Rattle.networks.specs.declared.network.TheConstants.{MAX_NODES}
-use Rattle.networks.specs.declared.residual.TheConstants.{SATURATED}
+use Rattle.min_cost_flow.specs.declared.network.TheConstants.{MAX_NODES}
+use Rattle.min_cost_flow.specs.declared.residual.TheConstants.{SATURATED}
 use lib.Signed.{lt_z}
 use Rattle.common.specs.Sums.{sum_below}
 use Rattle.common.proofs.Sums.{sum_below-le, sum_below-constant}
-use Rattle.networks.specs.declared.arc.Cap.{Cap}
-use Rattle.networks.specs.declared.arc.Cap.TheVariants.{AtMost, Any}
-use Rattle.networks.specs.declared.residual.ResidualArc.{ResidualArc}
-use Rattle.networks.specs.Networks.{NetworkModel, node_count, arc_count, arc_at, HasUnitCosts, IsNetwork}
-use Rattle.networks.specs.Flow.{IsUnsaturated, IsResidual, HasPotentials, start_of, end_of, unit_cost, reduced_cost}
+use Rattle.min_cost_flow.specs.declared.arc.Cap.{Cap}
+use Rattle.min_cost_flow.specs.declared.arc.Cap.TheVariants.{AtMost, Any}
+use Rattle.min_cost_flow.specs.declared.residual.ResidualArc.{ResidualArc}
+use Rattle.min_cost_flow.specs.Networks.{NetworkModel, node_count, arc_count, arc_at, HasUnitCosts, IsNetwork}
+use Rattle.min_cost_flow.specs.Flow.{IsUnsaturated, IsResidual, HasPotentials, start_of, end_of, unit_cost, reduced_cost}
 use Rattle.min_cost_flow.specs.declared.resume.TheConstants.{MAX_CARRIED}
 use Rattle.min_cost_flow.specs.Round.{IsRound}
-use Rattle.networks.specs.declared.residual.Residual.{Residual}
-use Rattle.networks.specs.Flow.{at_nodes}
-use Rattle.networks.specs.declared.state.Search.{Search}
-use Rattle.networks.specs.declared.state.Visit.{Visit}
+use Rattle.min_cost_flow.specs.declared.residual.Residual.{Residual}
+use Rattle.min_cost_flow.specs.Flow.{at_nodes}
+use Rattle.min_cost_flow.specs.declared.search_state.Search.{Search}
+use Rattle.min_cost_flow.specs.declared.search_state.Visit.{Visit}
 use Rattle.min_cost_flow.specs.SolverState.{IsReadyIn, CanAugmentIn, IsCleared}
-use Rattle.networks.specs.ResidualArcs.{start_at, end_at, cost_at, reverse_of, capacity_at, StartsAt, out_degree, number_of, units_of, AreResidualArcs, carried}
-use Rattle.networks.specs.Search.{far, IsArcCost, HasResidualCapacity, IsGraph, AreFeasiblePotentials, IsNear, IsReached, IsHit, IsNearest, AreFeasible, IsRemaining, IsPut, IsWithinFar, looked, place_at, labels, predecessors, orders, places}
+use Rattle.min_cost_flow.specs.ResidualArcs.{start_at, end_at, cost_at, reverse_of, capacity_at, StartsAt, out_degree, number_of, units_of, AreResidualArcs, carried}
+use Rattle.min_cost_flow.specs.Search.{far, IsArcCost, HasResidualCapacity, IsGraph, AreFeasiblePotentials, IsNear, IsReached, IsHit, IsNearest, AreFeasible, IsRemaining, IsPut, IsWithinFar, looked, place_at, labels, predecessors, orders, places}
 use Rattle.min_cost_flow.specs.Path.{HasTightPath}
 use Rattle.min_cost_flow.specs.Overfull.{IsOverfull}
 use Rattle.min_cost_flow.proofs.OverfullSets.{overfull_where_closed}
-use Rattle.networks.proofs.Ends.{start_in, end_in}
-use Rattle.networks.proofs.Links.{reverse_twice, reverse_below, number_parts, arc_below, start_is, starts_there, some_start}
-use Rattle.networks.proofs.Signs.{plain_lt, fits_within, label_fits}
+use Rattle.min_cost_flow.proofs.Ends.{start_in, end_in}
+use Rattle.min_cost_flow.proofs.Links.{reverse_twice, reverse_below, number_parts, arc_below, start_is, starts_there, some_start}
+use Rattle.min_cost_flow.proofs.Signs.{plain_lt, fits_within, label_fits}
 use Rattle.min_cost_flow.proofs.Comparisons.{lt_true}
-use Rattle.networks.proofs.Reaching.{below_or_not, not_less}
+use Rattle.min_cost_flow.proofs.Reaching.{below_or_not, not_less}
 
 -- ---- costs, capacities and residual arcs
 

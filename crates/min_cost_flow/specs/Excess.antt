@@ -1,7 +1,7 @@
 -- Amounts on the way to a flow: what each node still has to send out, or still wants.
 use Rattle.std.specs.Prelude.{ℕ, zero, suc, ◌<◌, ◌==◌, ◌≡◌, ℤ, pos, ◌+ℤ◌, ◌<ℤ◌, Bool, true, if◌then◌else◌}
-use Rattle.networks.specs.Networks.{NetworkModel, node_count, arc_count, arc_at, supply_at}
-use Rattle.networks.specs.Flow.{net_outflow, IsWithinCap, IsResidual, start_of, end_of}
+use Rattle.min_cost_flow.specs.Networks.{NetworkModel, node_count, arc_count, arc_at, supply_at}
+use Rattle.min_cost_flow.specs.Flow.{net_outflow, IsWithinCap, IsResidual, start_of, end_of}
 
 abbrev pub IsWithinCaps : NetworkModel → (ℕ → ℕ) → Type 0
 IsWithinCaps net x = (i : ℕ) → i < arc_count net → IsWithinCap (arc_at net i).cap (x i)

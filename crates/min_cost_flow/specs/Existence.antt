@@ -2,8 +2,8 @@
 -- carry any number of units.
 use Rattle.std.specs.Prelude.{ℕ, ◌<◌, ◌≡◌, ℤ, pos, ◌<ℤ◌, Bool, true}
 use Rattle.common.specs.Sums.{total_below}
-use Rattle.networks.specs.declared.arc.Cap.TheVariants.{Any}
-use Rattle.networks.specs.Networks.{NetworkModel, node_count, arc_count, arc_at, supply_at}
+use Rattle.min_cost_flow.specs.declared.arc.Cap.TheVariants.{Any}
+use Rattle.min_cost_flow.specs.Networks.{NetworkModel, node_count, arc_count, arc_at, supply_at}
 
 -- no unlimited arc leads out of the set
 pub record IsClosedAny (net : NetworkModel) (s : ℕ → Bool) : Type 0 where

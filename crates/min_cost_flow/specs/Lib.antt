@@ -1,3 +1,9 @@
+pub mod Networks
+pub mod Fault
+pub mod Flow
+pub mod ResidualArcs
+pub mod Residuals
+pub mod Search
 pub mod Excess
 pub mod Residual
 pub mod Path

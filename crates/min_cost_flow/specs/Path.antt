@@ -1,9 +1,9 @@
 -- A path of unsaturated residual arcs of reduced cost 0, from a node with an excess to one with
 -- a deficit.
 use Rattle.std.specs.Prelude.{ℕ, zero, suc, ◌<◌, ◌≡◌, ℤ, pos, ◌+ℤ◌, ◌-ℤ◌, Bool, true, false, List}
-use Rattle.networks.specs.declared.residual.ResidualArc.{ResidualArc}
-use Rattle.networks.specs.ResidualArcs.{start_at, end_at, cost_at, capacity_at, StartsAt}
-use Rattle.networks.specs.Search.{HasResidualCapacity}
+use Rattle.min_cost_flow.specs.declared.residual.ResidualArc.{ResidualArc}
+use Rattle.min_cost_flow.specs.ResidualArcs.{start_at, end_at, cost_at, capacity_at, StartsAt}
+use Rattle.min_cost_flow.specs.Search.{HasResidualCapacity}
 
 -- residual arc k leads from node u to node v, has capacity, and its reduced cost is 0
 pub record IsTight (arcs : List ResidualArc) (p : ℕ → ℤ) (u k v : ℕ) : Type 0 where

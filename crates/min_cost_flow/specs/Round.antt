@@ -2,9 +2,9 @@
 use Rattle.std.specs.Prelude.{ℕ, ◌+◌, ◌*◌, ◌<◌, ◌≤◌, ◌≡◌, ◌≢◌, ◌⊎◌, ◌==◌, if◌then◌else◌, ℤ, pos, ◌+ℤ◌, ◌≤ℤ◌, ◌<ℤ◌}
 use borrow.Author.Differences.{up}
 use Rattle.common.specs.Sums.{sum_below}
-use Rattle.networks.specs.Networks.{NetworkModel, node_count, arc_count, supply_at, IsInSupplyRange}
+use Rattle.min_cost_flow.specs.Networks.{NetworkModel, node_count, arc_count, supply_at, IsInSupplyRange}
 use Rattle.min_cost_flow.specs.declared.resume.TheConstants.{MAX_CARRIED}
-use Rattle.networks.specs.Flow.{Flow, HasPotentials}
+use Rattle.min_cost_flow.specs.Flow.{Flow, HasPotentials}
 use Rattle.min_cost_flow.specs.Excess.{IsWithinCaps, HasExcess}
 
 -- what remains to be sent

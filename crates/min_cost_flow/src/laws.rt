@@ -3,8 +3,8 @@
 ghost use Rattle.std.specs.Prelude.{◌≡◌, ◌≢◌, ◌<◌, ℕ, ℤ, pos};
 ghost use Rattle.min_cost_flow.specs.Excess.{IsWithinCaps, HasExcess, HasNoAugmentingPath};
 ghost use Rattle.min_cost_flow.specs.Existence.{SuppliesSumToZero, HasUnlimitedPaths};
-ghost use Rattle.networks.specs.Flow.{Flow, HasNoFlow, HasPotentials, IsLeastCost};
-ghost use Rattle.networks.specs.Networks.{HasEnds, NetworkModel, node_count};
+ghost use Rattle.min_cost_flow.specs.Flow.{Flow, HasNoFlow, HasPotentials, IsLeastCost};
+ghost use Rattle.min_cost_flow.specs.Networks.{HasEnds, NetworkModel, node_count};
 
 /// A flow has least cost if under some potentials no unsaturated residual arc has a reduced cost below 0.
 ///

@@ -1,13 +1,13 @@
 //! Why a network has no flow: a set of nodes that supplies more than the arcs out of it can carry (Gale 1957).
 ghost use Rattle.std.specs.Prelude.{◌≡◌, ◌<◌, IfOk, IfSome, IfNone, ℕ, Bool, length};
-ghost use Rattle.networks.specs.Networks.{HasEnds, NetworkModel, node_count};
-ghost use Rattle.networks.specs.Flow.{Flow, HasNoFlow};
+ghost use Rattle.min_cost_flow.specs.Networks.{HasEnds, NetworkModel, node_count};
+ghost use Rattle.min_cost_flow.specs.Flow.{Flow, HasNoFlow};
 ghost use Rattle.min_cost_flow.specs.Existence.{SuppliesSumToZero};
 ghost use Rattle.min_cost_flow.specs.Overfull.{IsOverfull, is_in, was_reached};
 
 use crate::scratch::Scratch;
+use crate::{FAR, Network, Visit};
 use common::emptied;
-use networks::{FAR, Network, Visit};
 use std::alloc::{AllocError, Global};
 
 /// If the network has no flow, a set of nodes that supplies more than the arcs out of it can carry; otherwise `None`.

@@ -4,17 +4,17 @@
 //! A move is of at most 12,008 units. It takes as many searches as units at most, each of which looks at each residual
 //! arc once at most, and allocates nothing; if it solves from nothing, it takes as long as that.
 ghost use Rattle.std.specs.Prelude.{◌≡◌, ◌≢◌, ◌<◌, ◌≤◌, ◌+◌, ◌*◌, ℕ, length, pos, ◌≤ℤ◌, ◌+ℤ◌, ◌-ℤ◌, true};
-ghost use Rattle.networks.specs.declared.fault.TheConstants.{MAX_SUPPLY};
-ghost use Rattle.networks.specs.declared.network.TheConstants.{MAX_NODES};
+ghost use Rattle.min_cost_flow.specs.declared.fault.TheConstants.{MAX_SUPPLY};
+ghost use Rattle.min_cost_flow.specs.declared.network.TheConstants.{MAX_NODES};
 ghost use Rattle.min_cost_flow.specs.declared.resume.TheConstants.{MAX_CARRIED};
-ghost use Rattle.networks.specs.Networks.{NetworkModel, node_count, HasSuppliesInRange, shifted};
-ghost use Rattle.networks.specs.Flow.{at_nodes};
-ghost use Rattle.networks.specs.ResidualArcs.{capacity_at, carried};
+ghost use Rattle.min_cost_flow.specs.Networks.{NetworkModel, node_count, HasSuppliesInRange, shifted};
+ghost use Rattle.min_cost_flow.specs.Flow.{at_nodes};
+ghost use Rattle.min_cost_flow.specs.ResidualArcs.{capacity_at, carried};
 ghost use Rattle.min_cost_flow.specs.SolverState.{excess_at, IsReady, IsAllSent, IsVerdict};
 
 use crate::solver::{carried_by, has_deficit};
 use crate::state::Solver;
-use networks::{MAX_NODES, MAX_SUPPLY, Network, move_units};
+use crate::{MAX_NODES, MAX_SUPPLY, Network, move_units};
 
 /// How many units an arc carries at most: as many as all nodes of a network can supply.
 pub(crate) const MAX_CARRIED: u32 = MAX_NODES as u32 * MAX_SUPPLY;

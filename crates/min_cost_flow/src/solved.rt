@@ -1,6 +1,6 @@
 //! Solutions: a flow of least cost and potentials that show it.
 ghost use Rattle.std.specs.Prelude.{◌≡◌, ◌<◌, length, slice_index};
-ghost use Rattle.networks.specs.Flow.{SolvedModel, at_nodes};
+ghost use Rattle.min_cost_flow.specs.Flow.{SolvedModel, at_nodes};
 
 use crate::scratch::Scratch;
 use std::marker::Model;

@@ -8,12 +8,12 @@
 //! fit along the path, but no more than the excess where it starts or the deficit where it ends. Potentials stay then:
 //! along the path reduced costs are 0, so the residual arcs back, which get capacity, have reduced costs of 0 too.
 ghost use Rattle.std.specs.Prelude.{◌≡◌, ◌≢◌, ◌<◌, ◌≤◌, ◌+◌, ◌*◌, ◌^◌, ℕ, length, pos, ◌≤ℤ◌, ◌<ℤ◌, ◌+ℤ◌, ◌-ℤ◌, IfOk, IfErr, true, false, IfSome, IfNone};
-ghost use Rattle.networks.specs.declared.network.TheConstants.{MAX_NODES};
+ghost use Rattle.min_cost_flow.specs.declared.network.TheConstants.{MAX_NODES};
 ghost use Rattle.min_cost_flow.specs.declared.solver.SolveFault.TheVariants.{Memory};
-ghost use Rattle.networks.specs.Networks.{NetworkModel, arc_count, node_count, IsNetwork};
-ghost use Rattle.networks.specs.Flow.{amounts, at_nodes, HasNoFlow, Solves};
-ghost use Rattle.networks.specs.ResidualArcs.{start_at, capacity_at, carried};
-ghost use Rattle.networks.specs.Search.{far, labels, orders, label_at, IsPut, IsWithinFar, place_at};
+ghost use Rattle.min_cost_flow.specs.Networks.{NetworkModel, arc_count, node_count, IsNetwork};
+ghost use Rattle.min_cost_flow.specs.Flow.{amounts, at_nodes, HasNoFlow, Solves};
+ghost use Rattle.min_cost_flow.specs.ResidualArcs.{start_at, capacity_at, carried};
+ghost use Rattle.min_cost_flow.specs.Search.{far, labels, orders, label_at, IsPut, IsWithinFar, place_at};
 ghost use Rattle.min_cost_flow.specs.Existence.{SuppliesSumToZero};
 ghost use Rattle.min_cost_flow.specs.Overfull.{IsOverfull, HasStopped, was_reached};
 ghost use Rattle.min_cost_flow.specs.Round.{carrying, supply_sum, IsRoundDone, HasSupply, AreInBounds};
@@ -22,7 +22,7 @@ ghost use Rattle.min_cost_flow.specs.SolverState.{excess_at, potential_at, flow_
 use crate::scratch::Scratch;
 use crate::solved::Solved;
 use crate::state::{Nodes, Solver};
-use networks::{FAR, Network, Residual, Search, SearchInput, Visit, move_units, reverse};
+use crate::{FAR, Network, Residual, Search, SearchInput, Visit, move_units, reverse};
 use std::alloc::{AllocError, Global};
 use std::mem;
 use thiserror::Error;

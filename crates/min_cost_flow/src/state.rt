@@ -2,7 +2,7 @@
 ghost use Rattle.std.specs.Prelude.{OnOk};
 ghost use Rattle.min_cost_flow.specs.SolverState.{IsSized};
 
-use networks::{FAR, Network, Residual, ResidualArc, Visit};
+use crate::{FAR, Network, Residual, ResidualArc, Visit};
 use std::alloc::{AllocError, Global};
 
 /// The state of each node of a network.

@@ -1,16 +1,16 @@
 //! Sensitivity analysis (Ahuja, Magnanti and Orlin, Network Flows, 1993, section 9.11): successive shortest paths from
 //! the flow that is there, as supplies move.
 ghost use Rattle.std.specs.Prelude.{◌≡◌, ◌<◌, ◌≤◌, ◌+◌, ◌^◌, IfOk, IfErr, IfSome, IfNone, length};
-ghost use Rattle.networks.specs.declared.fault.TheConstants.{MAX_SUPPLY};
-ghost use Rattle.networks.specs.Networks.{NetworkModel, node_count, arc_count, shifted, HasSuppliesInRange, IsNetwork};
-ghost use Rattle.networks.specs.Flow.{HasNoFlow, Solves, at_nodes, cost_of};
-ghost use Rattle.networks.specs.ResidualArcs.{capacity_at, carried};
+ghost use Rattle.min_cost_flow.specs.declared.fault.TheConstants.{MAX_SUPPLY};
+ghost use Rattle.min_cost_flow.specs.Networks.{NetworkModel, node_count, arc_count, shifted, HasSuppliesInRange, IsNetwork};
+ghost use Rattle.min_cost_flow.specs.Flow.{HasNoFlow, Solves, at_nodes, cost_of};
+ghost use Rattle.min_cost_flow.specs.ResidualArcs.{capacity_at, carried};
 ghost use Rattle.min_cost_flow.specs.SolverState.{IsAllSent, IsShown};
 
+use crate::Network;
 use crate::solved::Solved;
 use crate::solver::{SolveFault, carried_by, read_flow};
 use crate::state::Solver;
-use networks::Network;
 use std::alloc::{AllocError, Global};
 use std::marker::Model;
 

@@ -8,11 +8,12 @@ use crate::source::NotedSource;
 use lanes::{OpenFault, Opener};
 use std::alloc::Global;
 use std::sync::atomic::{AtomicU64, Ordering};
+use streams::Mark;
 
 /// An opener of the files in a list of file names; a file's number is the index of its name.
 ///
 /// A name may be listed more than once. A number past the list is not opened. Each call of `open` for a name is counted
-/// in `opened`, even if it is refused. How each file begins, and why it fails, is written to `notes`.
+/// in `opened`, even if it is refused. How each file begins and ends, and why it fails, is written to `notes`.
 ///
 /// In contracts what is known of a file is what `files` says of its name.
 #[derive(Drop)]
@@ -52,5 +53,9 @@ impl<'r, N: NamedFiles> Opener for FileOpener<'r, '_, N> {
                 Err(refused.fault)
             }
         }
+    }
+
+    fn ended(&self, file: u32, mark: Mark) {
+        self.notes.end(file, mark);
     }
 }

@@ -26,6 +26,7 @@ impl<R> KeepsReason for ReadTap<R> {
 impl<R: Read> ReadTap<R> {
     ghost use Rattle.named_sources.specs.Readers.{reader_of};
 
+    /// This reader as a source of which nothing was read yet.
     pub(crate) fn new(reader: R) -> ReadTap<R>
         ensures { reader_of result ≡ reader }
     {

@@ -9,9 +9,9 @@ use Rattle.common.specs.declared.limits.TheConstants.{MAX_VERTICES}
 use Rattle.common.specs.Sums.{sum_below}
 use Rattle.common.proofs.Sums.{sum_below-same, sum_below-add, sum_below-none, sum_below-split, sum_below-turned}
 use Rattle.faces.specs.Planes.{PlaneModel, HasEnds, darts, vertices, head, reverse_dart, face_at, degree}
-use Rattle.networks.specs.declared.arc.Arc.{Arc}
-use Rattle.networks.specs.Networks.{NetworkModel, arc_count, arc_at}
-use Rattle.networks.specs.Flow.{Flow, HasPotentials, IsWithinCap, IsUnsaturated, outflow, inflow, net_outflow}
+use Rattle.min_cost_flow.specs.declared.arc.Arc.{Arc}
+use Rattle.min_cost_flow.specs.Networks.{NetworkModel, arc_count, arc_at}
+use Rattle.min_cost_flow.specs.Flow.{Flow, HasPotentials, IsWithinCap, IsUnsaturated, outflow, inflow, net_outflow}
 use Rattle.ortho_rep.specs.declared.turn.TheConstants.{MAX_REPEATS}
 use Rattle.ortho_rep.specs.declared.turn.Turn.TheVariants.{Left, Right}
 use Rattle.flow_network.specs.Given.{GivenModel, CanBeGiven, angle_given, turns_given, walked_back, beyond_first}

@@ -6,10 +6,10 @@ use Rattle.std.proofs.lemmas.List.{ext_get_or, get_or-map, length-map, drop_at}
 use Rattle.std.proofs.lemmas.List.FromFn.{get_or-map-range_with_len, length-map-range_with_len}
 use Rattle.ortho_rep.specs.declared.points.Point.{Point}
 use Rattle.ortho_rep.specs.Points.{origin}
-use Rattle.ortho_rep.specs.Storage.{slices_at, AreStarts}
+use Rattle.common.specs.Slices.{slices_at, AreStarts}
 use Rattle.ortho_rep.specs.FlatPoints.{span_at, spans_of, spans_in, points_in, AreConcatenated}
-use Rattle.ortho_rep.proofs.Pieces.{length-slices_at, get_or-slices_at}
-use Rattle.ortho_rep.proofs.PushedLists.{slice_range-append}
+use Rattle.common.proofs.Pieces.{length-slices_at, get_or-slices_at}
+use Rattle.common.proofs.PushedLists.{slice_range-append}
 
 length-spans : (starts : List ℕ) → length (spans_of starts) ≡ length starts - 1
 length-spans starts = length-map-range_with_len (span_at starts) 0 (length starts - 1)

@@ -7,7 +7,6 @@ pub mod Representation
 pub mod Keeping
 pub mod OfFlow
 pub mod Prices
-pub mod PriceStores
 pub mod Points
 pub mod FlatPoints
 pub mod PointStores

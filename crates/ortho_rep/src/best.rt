@@ -70,7 +70,8 @@ pub fn best_shape(alloc: Global, plane: &mut Plane) -> Result<(Shape, Prices), A
     }
 }
 
-/// Does the same, but if memory runs out, some face that was tried may be left as the outer one.
+/// A least shape with the best outer face, and prices that prove it. If memory runs out, some face that was tried may
+/// be left as the outer one.
 fn best_found(alloc: Global, plane: &mut Plane) -> Result<(Shape, Prices), AllocError>
     ensures outer_moved { plane.new ≡ with_outer plane.old plane.new.outer }
     ensures best { OnOk result (IsBest plane.new) }
@@ -146,7 +147,7 @@ fn best_incumbent(
     try_faces(alloc, plane, moving, &mut bounds)
 }
 
-/// The same, in a list of bounds, which rise.
+/// The best face and its flow, found with a list of bounds on the bends of each face, which rise.
 fn try_faces(
     alloc: Global,
     plane: &mut Plane,

@@ -52,7 +52,8 @@ pub fn best_shape_keeping(
     }
 }
 
-/// The same, but after a refusal some face that was tried may be left as the outer one.
+/// A least shape that keeps what is given, with the best outer face, and prices that prove it. After a refusal some
+/// face that was tried may be left as the outer one.
 fn best_found(
     alloc: Global,
     scratch: &mut Scratch,

@@ -2,7 +2,7 @@
 
 ghost use Rattle.std.specs.Prelude.{◌≡◌, ◌++◌, ◌<◌, ◌≤◌, length, vec_len, IfOk, OnOk, All, ◌^◌};
 ghost use Rattle.ortho_rep.specs.Points.{corners_at};
-ghost use Rattle.ortho_rep.specs.Storage.{slices_at, AreStarts};
+ghost use Rattle.common.specs.Slices.{slices_at, AreStarts};
 ghost use Rattle.ortho_rep.specs.FlatPoints.{spans_of};
 
 use crate::points::Point;

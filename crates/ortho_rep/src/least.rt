@@ -2,10 +2,8 @@
 //! that keep what is given.
 
 ghost use Rattle.std.specs.Prelude.{◌≡◌, ◌+◌, ◌<◌, ◌≤◌, ◌++◌, nat_abs, None, OnOk, IfOk, IfErr, length, map, replicate, slice_index, slice_index_or, vec_len, ◌^◌};
-ghost use Rattle.std.specs.List.{range_with_len};
 ghost use Rattle.faces.specs.Planes.{darts, vertices, reverse_dart};
-ghost use Rattle.networks.specs.Networks.{node_count};
-ghost use Rattle.networks.specs.Flow.{Solves, amounts, at_nodes};
+ghost use Rattle.min_cost_flow.specs.Flow.{Solves, amounts, at_nodes};
 ghost use Rattle.flow_network.specs.Given.{CanBeGiven, nothing_given, turns_given};
 ghost use Rattle.flow_network.specs.declared.given.TheConstants.{MAX_GIVEN_TURNS};
 ghost use Rattle.flow_network.specs.FaceNet.{IsKeepingNetOf};
@@ -121,12 +119,14 @@ pub(crate) fn shape_in(
     let vertices = plane.graph().vertices();
     let lent = mem::replace(&mut lists.darts, Vec::new(alloc));
     let darts = darts_in(lent, plane, given, net, solved)?;
-    let lent = mem::replace(&mut lists.prices, Vec::new(alloc));
-    let prices = prices_in(lent, plane, net, solved)?;
-    Ok((
-        Shape::of_darts(darts),
-        Prices::concatenated(prices, usize::from(vertices)),
-    ))
+    let (of_vertices, of_faces) = solved.potentials().split_at(usize::from(vertices));
+    let lent = mem::replace(&mut lists.vertex_prices, Vec::new(alloc));
+    let vertex_prices = copy_into(lent, of_vertices)?;
+    let lent = mem::replace(&mut lists.face_prices, Vec::new(alloc));
+    let face_prices = copy_into(lent, of_faces)?;
+    let shape = Shape::of_darts(darts);
+    let prices = Prices::new(vertex_prices, face_prices);
+    Ok((shape, prices))
 }
 
 /// What the crossing arc of a dart carries.
@@ -158,7 +158,8 @@ fn darts_in(
     darts_with(lent, plane, given, net, solved)
 }
 
-/// The same. It is inlined, so that no list is read where nothing is given.
+/// The angles and the turns of a flow with what is given, in the buffer of a list. It is inlined, so that no list is
+/// read where nothing is given.
 #[inline(always)]
 fn darts_with(
     lent: Vec<DartShape>,
@@ -258,20 +259,11 @@ fn given_turns(turns: i32) -> (Turn, u16)
     }
 }
 
-/// The potentials of the vertices followed by those of the faces, as in the network, in the buffer of one list.
-fn prices_in(
-    lent: Vec<i32>,
-    plane: &Plane,
-    net: &FaceNet,
-    solved: &Solved,
-) -> Result<Vec<i32>, AllocError>
-    requires nodes { node_count net.now.network ≡ vertices plane.now + plane.now.faces }
-    requires solves { Solves net.now.network solved.now }
-    ensures { IfOk result (λ prices. prices.items
-        ≡ map (at_nodes solved.now.potential) (range_with_len 0 (vertices plane.now + plane.now.faces))) }
+/// These numbers, in the memory of a list.
+fn copy_into(lent: Vec<i32>, numbers: &[i32]) -> Result<Vec<i32>, AllocError>
+    ensures { IfOk result (λ copy. copy.items ≡ numbers.now) }
 {
-    let potentials = solved.potentials();
-    let mut prices = emptied(lent, potentials.len())?;
-    prices.extend_from_slice(potentials)?;
-    Ok(prices)
+    let mut copy = emptied(lent, numbers.len())?;
+    copy.extend_from_slice(numbers)?;
+    Ok(copy)
 }

@@ -2,7 +2,8 @@
 
 ghost use Rattle.std.specs.Prelude.{◌≡◌, ◌<◌, ◌≤◌, length, IfOk};
 ghost use Rattle.ortho_rep.specs.Points.{vertex_point, corners_at};
-ghost use Rattle.ortho_rep.specs.Storage.{lists_in, slices_at, AreStarts};
+ghost use Rattle.ortho_rep.specs.Storage.{lists_in};
+ghost use Rattle.common.specs.Slices.{slices_at, AreStarts};
 
 use crate::flat_points::FlatPoints;
 use std::alloc::AllocError;

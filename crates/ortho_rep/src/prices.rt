@@ -1,6 +1,6 @@
 //! Prices of vertices and faces.
 
-ghost use Rattle.std.specs.Prelude.{◌≡◌, ◌<◌, ◌≤◌, length, take, drop};
+ghost use Rattle.std.specs.Prelude.{◌≡◌, ◌<◌, ◌≤◌, length};
 ghost use Rattle.ortho_rep.specs.Prices.{vertex_price, face_price};
 
 use crate::scratch::Scratch;
@@ -12,25 +12,16 @@ use std::marker::Model;
 /// takes constant time.
 #[derive(Debug, Drop)]
 pub struct Prices {
-    store: PriceStore,
-}
-
-#[derive(Debug, Drop)]
-enum PriceStore {
-    InTwoLists { vertices: Vec<i32>, faces: Vec<i32> },
-    // those of this many vertices, followed by those of the faces
-    Concatenated { prices: Vec<i32>, vertices: usize },
+    vertices: Vec<i32>,
+    faces: Vec<i32>,
 }
 
 impl Model for Prices {
     ghost use Rattle.ortho_rep.specs.Prices.{PricesModel};
-    ghost use Rattle.ortho_rep.specs.PriceStores.{prices_of, HasVertices};
 
     ghost Value = { PricesModel };
 
-    ghost view = { λ a. prices_of a.store };
-
-    ghost invariant = { λ a. HasVertices a.store };
+    ghost view = { λ a. record { vertices = a.vertices.items; faces = a.faces.items } };
 }
 
 impl Prices {
@@ -40,55 +31,27 @@ impl Prices {
     pub fn new(vertices: Vec<i32>, faces: Vec<i32>) -> Prices
         ensures { result ≡ record { vertices = vertices.items; faces = faces.items } }
     {
-        Prices {
-            store: PriceStore::InTwoLists { vertices, faces },
-        }
+        Prices { vertices, faces }
     }
 
-    /// The prices of this many vertices, followed by those of the faces, in one list.
-    pub(crate) fn concatenated(prices: Vec<i32>, vertices: usize) -> Prices
-        requires { vertices ≤ length prices.items }
-        ensures { result ≡ record { vertices = take vertices prices.items; faces = drop vertices prices.items } }
-    {
-        Prices {
-            store: PriceStore::Concatenated { prices, vertices },
-        }
-    }
-
-    /// Returns the list of these prices to the scratch, to be reused. It allocates nothing.
-    ///
-    /// Prices that are not in one list, as [`least_shape_in`](crate::least_shape_in) makes them, are dropped.
+    /// Returns the lists of these prices to the scratch, to be reused. It allocates nothing.
     pub fn give_back(self, scratch: &mut Scratch) {
-        match self.store {
-            PriceStore::Concatenated {
-                prices,
-                vertices: _,
-            } => scratch.lists.prices = prices,
-            PriceStore::InTwoLists {
-                vertices: _,
-                faces: _,
-            } => {}
-        }
+        scratch.lists.vertex_prices = self.vertices;
+        scratch.lists.face_prices = self.faces;
     }
 
     /// The number of vertices that have a price.
     pub fn vertex_count(&self) -> usize
         ensures { result ≡ length self.now.vertices }
     {
-        match &self.store {
-            PriceStore::InTwoLists { vertices, .. } => vertices.len(),
-            PriceStore::Concatenated { vertices, .. } => *vertices,
-        }
+        self.vertices.len()
     }
 
     /// The number of faces that have a price.
     pub fn face_count(&self) -> usize
         ensures { result ≡ length self.now.faces }
     {
-        match &self.store {
-            PriceStore::InTwoLists { faces, .. } => faces.len(),
-            PriceStore::Concatenated { prices, vertices } => prices.len() - *vertices,
-        }
+        self.faces.len()
     }
 
     /// The price of a vertex, numbered from 1.
@@ -97,11 +60,7 @@ impl Prices {
         requires within { vertex ≤ length self.now.vertices }
         ensures { result ≡ vertex_price self.now vertex }
     {
-        let place = usize::from(vertex) - 1;
-        match &self.store {
-            PriceStore::InTwoLists { vertices, .. } => vertices[place],
-            PriceStore::Concatenated { prices, .. } => prices[place],
-        }
+        self.vertices[usize::from(vertex) - 1]
     }
 
     /// The price of a face, numbered from 0.
@@ -109,10 +68,6 @@ impl Prices {
         requires { face < length self.now.faces }
         ensures { result ≡ face_price self.now face }
     {
-        let place = usize::from(face);
-        match &self.store {
-            PriceStore::InTwoLists { faces, .. } => faces[place],
-            PriceStore::Concatenated { prices, vertices } => prices[*vertices + place],
-        }
+        self.faces[usize::from(face)]
     }
 }

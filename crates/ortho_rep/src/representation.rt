@@ -85,7 +85,7 @@ fn angles_sum_to_four(plane: &Plane, shape: &Shape) -> bool
     }
 }
 
-/// The same, by N sums.
+/// Whether the angles round each vertex sum to 4, by N sums.
 #[inline(never)]
 fn angles_sum_to_four_in<const N: usize>(plane: &Plane, shape: &Shape) -> bool
     requires darts { HasDarts plane.now shape.now }
@@ -106,7 +106,7 @@ fn angles_sum_to_four_in<const N: usize>(plane: &Plane, shape: &Shape) -> bool
 }
 
 /// Sums the angles that arrive at each vertex.
-fn add_angles(plane: &Plane, shape: &Shape, sums: &mut [u32])
+pub fn add_angles(plane: &Plane, shape: &Shape, sums: &mut [u32])
     requires darts { HasDarts plane.now shape.now }
     requires room { vertices plane.now < length sums.old }
     requires clear { sums.old ≡ replicate (length sums.old) 0 }
@@ -136,7 +136,8 @@ fn turns_faces(plane: &Plane, shape: &Shape) -> bool
     }
 }
 
-/// The same, by N sums of left turns, and as many of right turns.
+/// Whether the darts of each inner face turn once to the left, and those of the outer face to the right, by N sums of
+/// left turns, and as many of right turns.
 #[inline(never)]
 fn turns_faces_in<const N: usize>(plane: &Plane, shape: &Shape) -> bool
     requires darts { HasDarts plane.now shape.now }
@@ -171,7 +172,7 @@ fn turns_once(left_sum: u64, right_sum: u64, is_outer: bool) -> bool
 }
 
 /// Sums round each face what its darts turn to the left, and what they turn to the right.
-fn add_turns(plane: &Plane, shape: &Shape, left_sums: &mut [u64], right_sums: &mut [u64])
+pub fn add_turns(plane: &Plane, shape: &Shape, left_sums: &mut [u64], right_sums: &mut [u64])
     requires darts { HasDarts plane.now shape.now }
     requires left_sum_room { plane.now.faces ≤ length left_sums.old }
     requires right_sum_room { plane.now.faces ≤ length right_sums.old }

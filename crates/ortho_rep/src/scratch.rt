@@ -31,7 +31,8 @@ impl Scratch {
 #[derive(Drop)]
 pub(crate) struct ShapeLists {
     pub(crate) darts: Vec<DartShape>,
-    pub(crate) prices: Vec<i32>,
+    pub(crate) vertex_prices: Vec<i32>,
+    pub(crate) face_prices: Vec<i32>,
 }
 
 impl ShapeLists {
@@ -39,7 +40,8 @@ impl ShapeLists {
     pub(crate) fn empty(alloc: Global) -> ShapeLists {
         ShapeLists {
             darts: Vec::new(alloc),
-            prices: Vec::new(alloc),
+            vertex_prices: Vec::new(alloc),
+            face_prices: Vec::new(alloc),
         }
     }
 }

@@ -12,4 +12,3 @@ pub mod Walking
 pub mod Plains
 pub mod Oversize
 pub mod Parsing
-pub mod WideRecords

@@ -7,4 +7,3 @@ pub mod Framer
 pub mod Step
 pub mod Plain
 pub mod Parse
-pub mod Wide

@@ -7,8 +7,6 @@ ghost use Rattle.planar_code.specs.Stream.{IsRecord, HasLongList, lists_of};
 ghost use Rattle.planar_code.specs.Split.{IsSplit, MayGoOn};
 ghost use Rattle.planar_code.specs.FramerState.{FramerState, StandsAt, HasNotFailed};
 ghost use Rattle.planar_code.specs.Parse.{IsParseFault};
-ghost use Rattle.planar_code.specs.declared.wide.WideFault.{WideFault};
-ghost use Rattle.planar_code.specs.Wide.{IsWideRecord, IsWideFault};
 
 use crate::HEADER;
 
@@ -80,23 +78,4 @@ pub fn oversize_is_long()
         → All (λ byte. byte < 256) stream
         → IsSplit stream records Ending.Oversize
         → HasLongList stream }
-{}
-
-/// The bytes of a record are the entries of a wide record.
-pub fn record_is_wide()
-    ensures { (bytes : List ℕ) → IsRecord bytes → IsWideRecord bytes }
-{}
-
-/// A wide record's lists are those that its entries encode.
-pub fn wide_record_lists()
-    ensures { (entries : List ℕ) (r : IsWideRecord entries) → lists_of entries ≡ r.lists }
-{}
-
-/// At most one fault fits given entries; entries that are one wide record have none.
-pub fn one_wide_fault()
-    ensures one { (entries : List ℕ) (fault other : WideFault)
-        → IsWideFault entries fault
-        → IsWideFault entries other
-        → fault ≡ other }
-    ensures none { (entries : List ℕ) (fault : WideFault) → IsWideFault entries fault → IsWideRecord entries → ⊥ }
 {}

@@ -4,9 +4,6 @@
 //! 1 to 255 and n neighbour lists, each of at most 254 bytes other than 0 with one byte 0 after it. (The format is that
 //! of plantri by Brinkmann and McKay; the bound on a list is this crate's: no simple graph on 255 vertices has a longer
 //! one.)
-//!
-//! A wide record is written likewise in entries of 16 bits, n from 1 to 1,200, and its lists may have any length. No
-//! stream has any.
 #![tactic(auto)]
 
 mod ending;
@@ -19,7 +16,6 @@ mod pieces;
 mod plain;
 mod record;
 mod scan;
-mod wide;
 
 pub use ending::Ending;
 pub use fault::FeedFault;
@@ -28,16 +24,12 @@ pub use parse::ParseFault;
 pub use pieces::frame;
 pub use plain::split;
 pub use record::Record;
-pub use wide::{WideFault, WideRecord};
 
 /// The 15 bytes with which every stream begins.
 pub const HEADER: [u8; 15] = *b">>planar_code<<";
 
 /// The maximum number of entries of a neighbour list.
 pub const MAX_LIST: usize = 254;
-
-/// The maximum number of entries of a wide record, with its first and the zeros.
-pub const MAX_ENTRIES: usize = 65_535;
 
 /// The maximum number of records of a stream.
 pub const MAX_RECORDS: u32 = 1_000_000;

@@ -6,6 +6,7 @@ use std::io;
 use std::io::IsTerminal;
 use std::process::ExitCode;
 
+/// Runs the command that the arguments ask for, and returns the exit status.
 fn main(rt: HostRuntime) -> ExitCode {
     let files = SystemFiles {
         rt: &rt,

@@ -5,8 +5,8 @@ use Rattle.common.specs.declared.choice.Choice.{Choice}
 use Rattle.faces.specs.Planes.{PlaneModel, IsPlane}
 use Rattle.ortho_rep.specs.Shapes.{ShapeModel}
 use Rattle.ortho_rep.specs.Prices.{PricesModel}
-use Rattle.entries.specs.declared.cause.Cause.TheVariants as cause
-use Rattle.entries.specs.Drawn.{IsCause}
+use Rattle.reports.specs.declared.cause.Cause.TheVariants as cause
+use Rattle.reports.specs.Drawn.{IsCause}
 use Rattle.conditions.specs.declared.conditions.Conditions.{Conditions}
 use Rattle.conditions.specs.declared.fault.KeepFault.TheVariants as keep
 use Rattle.conditions.specs.declared.fault.Unkept.{Unkept}

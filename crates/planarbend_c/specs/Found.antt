@@ -15,7 +15,7 @@ use Rattle.ortho_rep.specs.Representation.{IsShape, IsLeast, bends_of}
 use Rattle.ortho_rep.specs.Best.{IsChosen}
 use Rattle.conditions.specs.declared.conditions.Conditions.{Conditions}
 use Rattle.conditions.specs.Chosen.{IsKept}
-use Rattle.entries.specs.Lengths.{IsQuick}
+use Rattle.reports.specs.Lengths.{IsQuick}
 use Rattle.answers.specs.Drawings.{IsDrawing}
 use Rattle.answers.specs.Kept.{AreDrawnStraight, KeepsAsked}
 use Rattle.planarbend_c.specs.declared.counts.Counts.{Counts}

@@ -1,7 +1,7 @@
 -- What a caller gives as one record, in entries of 8 or of 16 bits.
 use Rattle.std.specs.Prelude.{ℕ, Bool, true, false, List, ⊤}
 use Rattle.planar_code.specs.Stream.{IsRecord, lists_of}
-use Rattle.planar_code.specs.Wide.{IsWideRecord, BeginsAboveLimit}
+use Rattle.embedding.specs.Wide.{IsWideRecord, BeginsAboveLimit}
 use Rattle.planarbend_c.specs.declared.parsed.Parsed.{Parsed}
 use Rattle.planarbend_c.specs.declared.parsed.Parsed.TheVariants as parsed
 use Rattle.planarbend_c.specs.declared.source.Source.{Source}

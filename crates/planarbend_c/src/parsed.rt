@@ -1,9 +1,9 @@
 //! Records that are parsed.
 
 ghost use Rattle.std.specs.Prelude.{◌≡◌, ◌≢◌, ◌<◌, length, IfOk, IfErr};
-ghost use Rattle.planar_code.specs.declared.TheConstants.{MAX_ENTRIES};
+ghost use Rattle.embedding.specs.declared.wide.TheConstants.{MAX_ENTRIES};
 ghost use Rattle.answers.specs.Kept.{IsKeptPlane, IsUnkept};
-ghost use Rattle.answers.specs.Steps.{IsRefused, IsShaped};
+ghost use Rattle.answers.specs.Steps.{IsEmbedded, IsRefused, IsShaped};
 ghost use Rattle.planarbend_c.specs.Sources.{Bytes, Entries, IsOneRecord, input_lists, input_of, parsed_lists};
 ghost use Rattle.planarbend_c.specs.Faults.{IsUnparsed};
 
@@ -12,8 +12,9 @@ use crate::source::Source;
 use answers::{KeptPlane, RecordScratch, ShapedPlane};
 use common::{Choice, DrawingKind, MAX_VERTICES};
 use conditions::{Conditions, KeepFault};
-use embedding::ReadFault;
-use planar_code::{MAX_ENTRIES, ParseFault, Record, WideFault, WideRecord};
+use embedding::{MAX_ENTRIES, ReadFault, WideFault, WideRecord};
+use faces::Plane;
+use planar_code::{ParseFault, Record};
 use std::alloc::Global;
 
 /// A record in entries of 8 or of 16 bits.
@@ -24,6 +25,16 @@ pub(crate) enum Parsed {
 }
 
 impl Parsed {
+    /// The plane of the record, as [`RecordScratch::embed`].
+    fn embed(&self, alloc: Global, scratch: &mut RecordScratch) -> Result<Plane, ReadFault>
+        ensures { IsEmbedded (parsed_lists self.now) result }
+    {
+        match self {
+            Parsed::Bytes(rec) => scratch.embed(alloc, rec),
+            Parsed::Entries(rec) => scratch.embed_wide(alloc, rec),
+        }
+    }
+
     /// The plane of the record with a least shape, as [`RecordScratch::shape`].
     pub(crate) fn shape(
         &self,
@@ -35,10 +46,8 @@ impl Parsed {
         ensures shaped { IsShaped choice (parsed_lists self.now) result }
         ensures kind { IfOk result (λ shaped_plane. shaped_plane.drawing_kind ≡ drawing_kind) }
     {
-        match self {
-            Parsed::Bytes(rec) => scratch.shape(alloc, rec, choice, drawing_kind),
-            Parsed::Entries(rec) => scratch.shape_wide(alloc, rec, choice, drawing_kind),
-        }
+        let plane = self.embed(alloc, scratch);
+        scratch.shape(alloc, plane, choice, drawing_kind)
     }
 
     /// The plane of the record with a shape that keeps the conditions, as [`RecordScratch::shape_keeping`].
@@ -55,22 +64,8 @@ impl Parsed {
         ensures unkept { IfOk result (λ made. IfErr made (IsUnkept conditions.now choice (parsed_lists self.now))) }
         ensures refused { IfErr result (IsRefused (parsed_lists self.now)) }
     {
-        match self {
-            Parsed::Bytes(rec) => scratch.shape_keeping(
-                alloc,
-                rec,
-                conditions,
-                choice,
-                drawing_kind,
-            ),
-            Parsed::Entries(rec) => scratch.shape_wide_keeping(
-                alloc,
-                rec,
-                conditions,
-                choice,
-                drawing_kind,
-            ),
-        }
+        let plane = self.embed(alloc, scratch)?;
+        Ok(scratch.shape_keeping(alloc, plane, conditions, choice, drawing_kind))
     }
 }
 

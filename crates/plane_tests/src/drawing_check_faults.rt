@@ -5,8 +5,7 @@ use faces::Plane;
 use ortho_rep::{Points, Shape, Turn, is_shape};
 use std::alloc::Global;
 use std::process::Abort;
-use test_inputs::{L, Place, R, plane_in, points_in};
-use test_tools::{records, same};
+use test_tools::{L, Place, R, plane_in, points_in, records, same};
 
 /// The record of a plane, and the angles and strings of a shape of it.
 pub(crate) struct Figure {
@@ -62,7 +61,7 @@ pub(crate) const FOUR: [&[Place]; 4] = [&[]; 4];
 
 /// The shape of a figure; `None` if memory runs out.
 pub(crate) fn shape_in(alloc: Global, figure: &Figure) -> Option<Shape> {
-    test_inputs::shape_in(alloc, figure.angles, figure.strings)
+    test_tools::shape_in(alloc, figure.angles, figure.strings)
 }
 
 /// The result of `check`, once its conditions are seen to hold.
@@ -96,7 +95,7 @@ fn faults_of(
     }
 }
 
-/// The same for points at these places; `None` if memory runs out before.
+/// The faults that both calls find for points at these places; `None` if memory runs out before.
 pub(crate) fn faults_at(
     rt: &impl Abort,
     alloc: Global,
@@ -211,8 +210,8 @@ fn drawings_by_hand(rt: HostRuntime) {
     }
 }
 
-// If memory runs out, the points come back, and a second call accepts them.
-// To be run with each allocation refused in turn, too.
+/// If memory runs out, the points come back, and a second call accepts them.
+/// To be run with each allocation refused in turn, too.
 #[test]
 fn refused_memory_gives_the_points_back(rt: HostRuntime) {
     let vertices = [(0, 0), (3, 0), (3, 3), (1, 3), (1, 1)];
@@ -240,7 +239,7 @@ const FAULTS: [(&[Place], CheckFault); 3] = [
     ),
 ];
 
-// The first three conditions are checked without taking memory.
+/// The first three conditions are checked without taking memory.
 #[test]
 fn three_conditions_need_no_memory(rt: HostRuntime) {
     for (vertices, fault) in FAULTS {

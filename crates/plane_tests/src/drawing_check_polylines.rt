@@ -4,8 +4,7 @@ use crate::drawing_check_faults::{BENT_EDGE, FOUR, PATH, faults_at};
 use drawing_check::CheckFault;
 use std::alloc::Global;
 use std::process::Abort;
-use test_inputs::Place;
-use test_tools::same;
+use test_tools::{Place, same};
 
 /// Where the line begins: two columns to the left of the last one.
 const START: Place = (65_533, 9);
@@ -100,8 +99,8 @@ fn place_of(found: Option<CheckFault>) -> usize {
     }
 }
 
-// Each line has the fault that the plain reading finds.
-// How often each answer comes was counted by a program that lists all places of a line.
+/// Each line has the fault that the plain reading finds.
+/// How often each answer comes was counted by a program that lists all places of a line.
 #[test]
 fn lines_have_the_plain_fault(rt: HostRuntime) {
     let mut seen = [0u32; 6];

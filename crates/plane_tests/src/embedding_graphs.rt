@@ -4,9 +4,8 @@ use embedding::{Graph, ReadFault, Rule};
 use planar_code::ParseFault;
 use std::alloc::Global;
 use std::process::Abort;
-use test_inputs::record_of;
 use test_tools::records::{EDGE, OCTAHEDRON, STAR, TETRAHEDRON, TRIANGLE};
-use test_tools::same;
+use test_tools::{record_of, same};
 
 /// The faults of records and graphs have their messages.
 #[test]

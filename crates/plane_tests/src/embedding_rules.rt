@@ -3,9 +3,8 @@
 use embedding::{Graph, ReadFault, Rule, broken_rule};
 use faces::{Plane, TraceFault};
 use std::alloc::{AllocError, Global};
-use test_inputs::{read, record_of};
 use test_tools::records::{EDGE, TETRAHEDRON, TETRAHEDRON_ON_A_TORUS};
-use test_tools::same;
+use test_tools::{read, record_of, same};
 
 /// The rule that the faces of a graph break, if any.
 fn broken_by_faces(alloc: Global, graph: Graph) -> Result<Option<Rule>, AllocError> {
@@ -63,7 +62,7 @@ fn each_rule_is_named(rt: HostRuntime) {
     }
 }
 
-/// The same rules are found without a graph.
+/// The first rule that each record breaks is found without a graph, too.
 /// `checks/refuse-allocations` tests that this takes no memory.
 #[test]
 fn rules_are_found_in_no_memory(rt: HostRuntime) {

@@ -2,9 +2,8 @@
 
 use crate::embedding_rules::RECORDS;
 use common::MAX_VERTICES;
-use embedding::{Graph, MAX_DARTS, MAX_EDGES, ReadFault, Rule, broken_wide_rule};
+use embedding::{Graph, MAX_DARTS, MAX_EDGES, ReadFault, Rule, WideRecord, broken_wide_rule};
 use faces::{MAX_FACES, Plane, TraceFault};
-use planar_code::WideRecord;
 use std::alloc::{AllocError, Global};
 use std::process::Abort;
 use test_tools::same;

@@ -4,11 +4,10 @@ use embedding::Graph;
 use faces::{Plane, TraceFault};
 use std::alloc::Global;
 use std::process::Abort;
-use test_inputs::{plane_in, read};
 use test_tools::records::{
     CUBE, EDGE, OCTAHEDRON, PATH, STAR, TETRAHEDRON, TETRAHEDRON_ON_A_TORUS, TRIANGLE,
 };
-use test_tools::same;
+use test_tools::{plane_in, read, same};
 
 /// The numbers of vertices, edges and faces, the outer face, and its degree.
 fn counts(plane: &Plane) -> (u16, u16, u16, u16, u16) {
@@ -53,8 +52,8 @@ fn plane_at_last(rt: &impl Abort, alloc: Global, graph: Graph) -> Plane {
     Plane::trace(alloc, graph).ok().expect(rt, "a plane")
 }
 
-// If memory runs out, the graph comes back, and a second call finds its plane.
-// To be run with each allocation refused in turn. A refusal before the walk ends the test.
+/// If memory runs out, the graph comes back, and a second call finds its plane.
+/// To be run with each allocation refused in turn. A refusal before the walk ends the test.
 #[test]
 fn memory_hands_the_graph_back(rt: HostRuntime) {
     if let Ok(graph) = read(rt.alloc(), TRIANGLE) {

@@ -8,6 +8,7 @@ use std::alloc::{AllocError, Global};
 use std::process::Abort;
 use test_tools::same;
 
+/// Whether no rectangle is empty.
 fn are_filled(rectangles: &[Rectangle]) -> bool
     ensures { IsTrue result ↔ All IsNonempty rectangles.now }
 {
@@ -16,8 +17,8 @@ fn are_filled(rectangles: &[Rectangle]) -> bool
         .all(|r| r.left <= r.right && r.bottom <= r.top)
 }
 
-// A rectangle from its left and right columns and its bottom and top rows, moved right and up by these numbers of
-// columns and rows, or as far as possible.
+/// A rectangle from its left and right columns and its bottom and top rows, moved right and up by these numbers of
+/// columns and rows, or as far as possible.
 fn rectangle(sides: [u32; 4], by: [u32; 2]) -> Rectangle {
     let [left, right, bottom, top] = sides;
     let [across, up] = by;
@@ -29,6 +30,7 @@ fn rectangle(sides: [u32; 4], by: [u32; 2]) -> Rectangle {
     }
 }
 
+/// Whether three rectangles are apart, moved by these numbers of columns and rows.
 fn answer(
     rt: &impl Abort,
     alloc: Global,
@@ -71,10 +73,10 @@ fn count_lacking(rt: &impl Abort, found: Result<bool, AllocError>, apart: bool) 
     }
 }
 
-// Rectangles that are apart are told from others, by bits, by a table and by a map.
-// All but the last are in few rows and columns, which are flagged by bits. Moved a thousand columns to the right they
-// go into a table, and moved a thousand rows up into a map. To be run with each allocation refused in turn, too: one
-// answer is then missing, and the others are right.
+/// Rectangles that are apart are told from others, by bits, by a table and by a map.
+/// All but the last are in few rows and columns, which are flagged by bits. Moved a thousand columns to the right they
+/// go into a table, and moved a thousand rows up into a map. To be run with each allocation refused in turn, too: one
+/// answer is then missing, and the others are right.
 #[test]
 fn tells_what_is_apart(rt: HostRuntime) {
     let mut lacking = 0u8;

@@ -1,9 +1,11 @@
-//! Tests of sources, records, graphs, planes and the check of drawings: known bytes, each rule that they may break, points
+//! Tests of records, graphs, planes and the check of drawings: known bytes, each rule that they may break, points
 //! by hand, ten thousand lines against a plain reading of the conditions, rectangles, and refused allocations.
 #![tactic(auto)]
 
 #[cfg(test)]
 mod drawing_check_faults;
+#[cfg(test)]
+mod drawing_check_outsides;
 #[cfg(test)]
 mod drawing_check_polylines;
 #[cfg(test)]
@@ -12,6 +14,8 @@ mod embedding_graphs;
 mod embedding_rules;
 #[cfg(test)]
 mod embedding_wide;
+#[cfg(test)]
+mod embedding_wide_entries;
 #[cfg(test)]
 mod faces_planes;
 #[cfg(test)]
@@ -22,9 +26,3 @@ mod planar_code_cuts;
 mod planar_code_framing;
 #[cfg(test)]
 mod planar_code_parsing;
-#[cfg(test)]
-mod planar_code_wide;
-#[cfg(test)]
-mod region_laws_regions;
-#[cfg(test)]
-mod streams_frames;

@@ -14,7 +14,7 @@ fn framed(rt: &impl Abort, alloc: Global, text: &[u8]) -> (usize, Ending) {
     (records.len(), ending)
 }
 
-/// The same by the plain splitter.
+/// The number of records that the plain splitter finds in a text, and how the text ends.
 fn divided(rt: &impl Abort, alloc: Global, text: &[u8]) -> (usize, Ending) {
     let (records, ending) = split(alloc, text).expect(rt, "memory");
     (records.len(), ending)

@@ -63,6 +63,7 @@ const FILES: [(&str, &[&[u8]]); 9] = [
     ("none.jsonl", &[]),
 ];
 
+/// Makes all files that are checked.
 fn make_files<R: Files + AllocGlobal + Abort>(rt: &R) {
     for (name, parts) in FILES {
         make_file(rt, name, parts);

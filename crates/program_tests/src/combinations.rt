@@ -6,6 +6,7 @@ use std::process::Abort;
 use std::rt::Files;
 use std::sync::Wait;
 use std::thread::Threads;
+use streams::Form;
 use test_tools::records::{EDGE, HEADER, TRIANGLE};
 use test_tools::same;
 
@@ -13,11 +14,11 @@ const LANES: [&str; 2] = ["", " --lanes 8"];
 
 const OUTER: [&str; 2] = ["", " --outer best"];
 
-const FORMS: [&str; 4] = [
-    "",
-    " --json",
-    " --json --drawing short",
-    " --drawing=quick --json",
+const FORMS: [(&str, Form); 4] = [
+    ("", Form::Report),
+    (" --json", Form::Json),
+    (" --json --drawing short", Form::Json),
+    (" --drawing=quick --json", Form::Json),
 ];
 
 const WAITING: [&str; 2] = ["", " --waiting 1"];
@@ -59,7 +60,7 @@ fn line_of(alloc: Global, options: &[&str], files: u32) -> Result<String, AllocE
 fn check_options<R: Files + AllocGlobal + Threads + Wait + Sync + Abort>(
     rt: &R,
     options: &[&str],
-    is_json: bool,
+    form: Form,
 )
 where
     R::File: Send,
@@ -68,7 +69,10 @@ where
     for (files, report, json) in ENDS {
         let line = line_of(rt.alloc(), options, files).expect(rt, "memory");
         let ran = run(rt, line.as_str());
-        let end = if is_json { json } else { report };
+        let end = match form {
+            Form::Report => report,
+            Form::Json => json,
+        };
         same!(rt, ran.out.as_slice().ends_with(end.as_bytes()), true);
         same!(rt, (ran.status, ran.err.len()), (0, 0));
     }
@@ -80,11 +84,11 @@ fn takes_each_combination_of_options(rt: HostRuntime) {
     make_file(&rt, "all.pc", &[HEADER, EDGE]);
     for lanes in LANES {
         for outer in OUTER {
-            for form in FORMS {
+            for (with_form, form) in FORMS {
                 for waiting in WAITING {
                     for progress in PROGRESS {
-                        let options = [lanes, outer, form, waiting, progress];
-                        check_options(&rt, &options, !form.is_empty());
+                        let options = [lanes, outer, with_form, waiting, progress];
+                        check_options(&rt, &options, form);
                     }
                 }
             }

@@ -132,6 +132,7 @@ struct Ticking<'a> {
 }
 
 impl<'a> Ticking<'a> {
+    /// A clock that moves by a step at each look, and the texts that are expected.
     fn new(terminal: bool, step: u64, wanted: &'a [&'a str]) -> Ticking<'a> {
         Ticking {
             terminal,

@@ -1,16 +1,16 @@
 //! Whether the parts of paths are parallel to an axis.
 
 ghost use Rattle.std.specs.Prelude.{◌↔◌, IsTrue, OnOk, OnErr, IfErr};
-ghost use Rattle.drawing_check.specs.Draws.{IsAxis, IsOnAxes, AreInGrid, AreOnAxes};
+ghost use Rattle.drawing_check.specs.Draws.{IsOnAxes, AreInGrid, AreOnAxes};
 ghost use Rattle.drawing_check.specs.Paths.{paths};
 ghost use Rattle.drawing_check.specs.Routes.{path_of};
 ghost use Rattle.referee.specs.Drawings.{HasBoundedPoints};
 ghost use Rattle.referee.specs.Faults.{IsAxisFault, IsFirstFailure};
 
 use crate::fault::Fault;
-use drawing_check::{Route, route_of};
+use drawing_check::{Route, is_axis, route_of};
 use faces::Plane;
-use ortho_rep::{Point, Points};
+use ortho_rep::Points;
 
 /// That each part of each path is parallel to an axis.
 pub(crate) fn check_axes(plane: &Plane, points: &Points) -> Result<(), Fault>
@@ -44,11 +44,4 @@ fn check_route(route: &Route<'_>, edge: u16) -> Result<(), Fault>
         }
     }
     Ok(())
-}
-
-/// Whether two points differ in exactly one coordinate.
-fn is_axis(a: Point, b: Point) -> bool
-    ensures { IsTrue result ↔ IsAxis a b }
-{
-    (a.x == b.x) != (a.y == b.y)
 }

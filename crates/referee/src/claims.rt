@@ -75,6 +75,7 @@ pub fn false_claim(plane: &Plane, shape: &Shape, claims: &Claims) -> Option<Fals
     None
 }
 
+/// Whether the angles that are claimed, if any, are those of the shape.
 fn angles_hold(shape: &Shape, claim: &Option<Vec<u8>>) -> bool
     requires { length shape.now.angles ≤ MAX_DARTS }
     ensures { IsTrue result ↔ HasAngles shape.now claim.now }
@@ -101,6 +102,7 @@ fn are_angles(shape: &Shape, angles: &[u8]) -> bool
     true
 }
 
+/// Whether the turns that are claimed, if any, are those of the shape.
 fn turns_hold(shape: &Shape, claim: &Option<Vec<Vec<Turn>>>) -> bool
     ensures { IsTrue result ↔ HasTurns shape.now claim.now }
 {
@@ -125,6 +127,7 @@ fn are_turns(shape: &Shape, strings: &[Vec<Turn>]) -> bool
     true
 }
 
+/// Whether two strings are equal, turn by turn.
 fn same_turns(first: &[Turn], second: &[Turn]) -> bool
     ensures { IsTrue result ↔ (first.now ≡ second.now) }
 {
@@ -139,6 +142,7 @@ fn same_turns(first: &[Turn], second: &[Turn]) -> bool
     true
 }
 
+/// Whether the prices that are claimed, if any, prove the shape least.
 fn prices_hold(plane: &Plane, shape: &Shape, claim: &Option<Prices>) -> bool
     requires { IsShape plane.now shape.now }
     ensures exact { IsTrue result ↔ IfSome claim.now (IsProof plane.now shape.now) }
@@ -150,6 +154,7 @@ fn prices_hold(plane: &Plane, shape: &Shape, claim: &Option<Prices>) -> bool
     }
 }
 
+/// Whether the number of bends that is claimed, if any, is that of the shape.
 fn bends_hold(shape: &Shape, claim: Option<u32>) -> bool
     ensures { IsTrue result ↔ HasBends shape.now claim }
 {
@@ -159,6 +164,7 @@ fn bends_hold(shape: &Shape, claim: Option<u32>) -> bool
     }
 }
 
+/// Whether the outer face that is claimed, if any, is that of the plane.
 fn outer_holds(plane: &Plane, claim: Option<u16>) -> bool
     ensures { IsTrue result ↔ IfSome claim (λ outer. outer ≡ plane.now.outer) }
 {

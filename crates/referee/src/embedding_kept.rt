@@ -8,7 +8,7 @@ ghost use Rattle.referee.specs.Faults.{AreOrdered, IsDisorderFault};
 
 use crate::fault::Fault;
 use faces::Plane;
-use ortho_rep::Shape;
+use ortho_rep::{Shape, add_angles};
 
 /// That the angles round each vertex sum to four quarters, by adding them up in a list of zeros.
 pub(crate) fn check_embedding(plane: &Plane, shape: &Shape, sums: &mut [u32]) -> Result<(), Fault>
@@ -25,18 +25,4 @@ pub(crate) fn check_embedding(plane: &Plane, shape: &Shape, sums: &mut [u32]) ->
         }
     }
     Ok(())
-}
-
-/// Sums the angles that arrive at each vertex.
-fn add_angles(plane: &Plane, shape: &Shape, sums: &mut [u32])
-    requires darts { HasDarts plane.now shape.now }
-    requires room { vertices plane.now < length sums.old }
-    requires clear { sums.old ≡ replicate (length sums.old) 0 }
-    ensures { (v : ℕ) → v ≤ vertices plane.now
-        → slice_index sums.new v ≡ angles_around plane.now (angle_at shape.now) v }
-{
-    let graph = plane.graph();
-    for dart in 0..graph.darts() {
-        sums[usize::from(graph.head(dart))] += u32::from(shape.angle(dart));
-    }
 }

@@ -20,6 +20,7 @@ pub(crate) fn check_grid(plane: &Plane, points: &Points) -> Result<(), Fault>
     check_corners(plane, points)
 }
 
+/// The first vertex out of the grid, as an error.
 fn check_vertices(plane: &Plane, points: &Points) -> Result<(), Fault>
     requires { HasBoundedPoints plane.now points.now }
     ensures inside { OnOk result (All IsInGrid points.now.vertices) }
@@ -35,6 +36,7 @@ fn check_vertices(plane: &Plane, points: &Points) -> Result<(), Fault>
     Ok(())
 }
 
+/// The first corner out of the grid, edge by edge, as an error.
 fn check_corners(plane: &Plane, points: &Points) -> Result<(), Fault>
     requires { HasBoundedPoints plane.now points.now }
     ensures inside { OnOk result (All (All IsInGrid) points.now.corners) }
@@ -47,6 +49,7 @@ fn check_corners(plane: &Plane, points: &Points) -> Result<(), Fault>
     Ok(())
 }
 
+/// The first corner of an edge out of the grid, as an error.
 fn check_edge(corners: &[Point], edge: u16) -> Result<(), Fault>
     ensures inside { OnOk result (All IsInGrid corners.now) }
     ensures refused { OnErr result (¬ All IsInGrid corners.now) }
@@ -60,6 +63,7 @@ fn check_edge(corners: &[Point], edge: u16) -> Result<(), Fault>
     Ok(())
 }
 
+/// Whether both coordinates are at most the greatest of the grid.
 fn is_in_grid(point: Point) -> bool
     ensures { IsTrue result ↔ IsInGrid point }
 {

@@ -1,12 +1,12 @@
 //! The outer face of a drawing: the one that turns once to the right.
 
-ghost use Rattle.std.specs.Prelude.{◌≡◌, ◌≢◌, ◌≤◌, ◌<◌, ◌↔◌, ℕ, IsTrue, IfOk, IfErr, OnErr, negsuc, length, replicate, slice_index, pos, ◌-ℤ◌};
+ghost use Rattle.std.specs.Prelude.{◌≡◌, ◌≢◌, ◌<◌, ◌↔◌, ℕ, IsTrue, IfOk, IfErr, OnErr, negsuc, replicate, pos, ◌-ℤ◌};
 ghost use Rattle.ortho_rep.specs.Shapes.{angle_at, turns_at};
 ghost use Rattle.ortho_rep.specs.Representation.{HasDarts, turning_around};
 
 use crate::fault::Fault;
 use faces::Plane;
-use ortho_rep::{Shape, count_lefts};
+use ortho_rep::{Shape, add_turns};
 
 /// The first face that turns once to the right, by adding turns up in two lists of zeros.
 pub(crate) fn find_outer(
@@ -39,24 +39,4 @@ fn turns_right(lefts: u64, rights: u64) -> bool
     ensures { IsTrue result ↔ ((pos lefts -ℤ pos rights) ≡ negsuc 3) }
 {
     rights >= 4 && rights - 4 == lefts
-}
-
-/// Sums round each face what its darts turn to the left, and what they turn to the right.
-fn add_turns(plane: &Plane, shape: &Shape, left_sums: &mut [u64], right_sums: &mut [u64])
-    requires darts { HasDarts plane.now shape.now }
-    requires left_sum_room { plane.now.faces ≤ length left_sums.old }
-    requires right_sum_room { plane.now.faces ≤ length right_sums.old }
-    requires clear_left_sums { left_sums.old ≡ replicate (length left_sums.old) 0 }
-    requires clear_right_sums { right_sums.old ≡ replicate (length right_sums.old) 0 }
-    ensures { (f : ℕ) → f < plane.now.faces
-        → turning_around plane.now (angle_at shape.now) (turns_at shape.now) f
-        ≡ (pos (slice_index left_sums.new f) -ℤ pos (slice_index right_sums.new f)) }
-{
-    for dart in 0..plane.graph().darts() {
-        let face = usize::from(plane.face_of(dart));
-        let turns = shape.turns(dart);
-        let lefts = count_lefts(turns);
-        left_sums[face] += 2 + lefts as u64;
-        right_sums[face] += u64::from(shape.angle(dart)) + (turns.len() - lefts) as u64;
-    }
 }

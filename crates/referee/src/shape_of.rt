@@ -37,7 +37,7 @@ pub(crate) fn shape_of(
     shape_in(alloc, directions.as_mut_slice(), plane, points)
 }
 
-/// The same, with a list for the directions of the darts.
+/// The shape of these points, if each path turns at each of its corners, found with a list for the directions of darts.
 fn shape_in(
     alloc: Global,
     directions: &mut [Direction],

@@ -133,6 +133,7 @@ fn mirror(alloc: Global, turns: &[Turn]) -> Result<Vec<Turn>, AllocError>
     Ok(back)
 }
 
+/// The turn to the other side.
 fn opposite(turn: Turn) -> Turn
     ensures { result ≡ opposite turn }
 {

@@ -15,9 +15,9 @@ use Rattle.streams.specs.Text as marks
 use Rattle.embedding.specs.declared.rules.Rule.{Rule}
 use Rattle.embedding.specs.declared.rules.Rule.TheVariants.{Range, Loop, Multi, Asymmetric, Edgeless, Degree, Disconnected, Genus}
 use Rattle.embedding.specs.Words as rules
-use Rattle.entries.specs.declared.cause.Cause.{Cause}
-use Rattle.entries.specs.declared.cause.Cause.TheVariants.{Wide, OutOfGrid, NotAxis, WrongTurn, Meet}
-use Rattle.entries.specs.CauseWords.{word_of}
+use Rattle.reports.specs.declared.cause.Cause.{Cause}
+use Rattle.reports.specs.declared.cause.Cause.TheVariants.{Wide, OutOfGrid, NotAxis, WrongTurn, Meet}
+use Rattle.reports.specs.CauseWords.{word_of}
 use Rattle.reports.specs.LineData.{array_of, letter_of}
 
 -- one text after another

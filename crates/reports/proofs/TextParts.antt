@@ -5,8 +5,8 @@ use Rattle.streams.specs.declared.faults.WriteFault.{WriteFault}
 use Rattle.streams.specs.declared.faults.WriteFault.TheVariants.{Write, Memory}
 use Rattle.streams.specs.Sink.{IsInTransit, AppendsPrefix, StaysInTransit}
 use Rattle.streams.specs.declared.frames.Mark.{Mark}
-use Rattle.entries.specs.declared.entry.Entry.{Entry}
-use Rattle.entries.specs.Books.{BookModel}
+use Rattle.reports.specs.declared.entry.Entry.{Entry}
+use Rattle.reports.specs.Books.{BookModel}
 use Rattle.reports.specs.Report.{numbered_texts, file_line, entry_line, end_line, book_text}
 
 module _ {A : Type 0} (text : ℕ → A → List ℕ) where

@@ -2,8 +2,8 @@
 use Rattle.std.specs.Prelude.{◌≡◌, ◌≢◌, All}
 use Rattle.planar_code.specs.declared.ending.Ending.{Ending}
 use Rattle.streams.specs.declared.frames.Mark.{Mark}
-use Rattle.entries.specs.declared.answer.Answer.{Answer}
-use Rattle.entries.specs.Books.{BookModel}
+use Rattle.reports.specs.declared.answer.Answer.{Answer}
+use Rattle.reports.specs.Books.{BookModel}
 
 -- the file ended complete, and each of its records has an answer, since memory did not run out
 pub record IsFlawlessBook (book : BookModel) : Type 0 where

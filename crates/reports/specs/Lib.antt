@@ -1,3 +1,10 @@
+pub mod CauseWords
+pub mod Lengths
+pub mod Drawn
+pub mod Answers
+pub mod Abouts
+pub mod Books
+pub mod AllBooks
 pub mod Adding
 pub mod Answered
 pub mod LineData

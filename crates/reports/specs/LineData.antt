@@ -15,10 +15,10 @@ use Rattle.ortho_rep.specs.Shapes.{ShapeModel, turns_at}
 use Rattle.ortho_rep.specs.Points.{PointsModel, corners_at}
 use Rattle.ortho_rep.specs.Prices.{PricesModel}
 use Rattle.ortho_rep.specs.Representation.{bends_of}
-use Rattle.entries.specs.declared.cause.Cause.{Cause}
-use Rattle.entries.specs.declared.answer.Answer.{Answer}
-use Rattle.entries.specs.declared.answer.Answer.TheVariants.{Laid, Refused, NoMemory}
-use Rattle.entries.specs.CauseWords as causes
+use Rattle.reports.specs.declared.cause.Cause.{Cause}
+use Rattle.reports.specs.declared.answer.Answer.{Answer}
+use Rattle.reports.specs.declared.answer.Answer.TheVariants.{Laid, Refused, NoMemory}
+use Rattle.reports.specs.CauseWords as causes
 
 -- ---- numbers, texts, arrays and objects
 

@@ -7,12 +7,12 @@ use Rattle.faces.specs.Planes.{PlaneModel, vertices, darts}
 use Rattle.ortho_rep.specs.Shapes.{ShapeModel, turns_at}
 use Rattle.ortho_rep.specs.Points.{PointsModel}
 use Rattle.ortho_rep.specs.Representation.{bends_of}
-use Rattle.entries.specs.declared.cause.Cause.{Cause}
-use Rattle.entries.specs.declared.answer.Answer.{Answer}
-use Rattle.entries.specs.declared.answer.Answer.TheVariants.{Laid, Refused, NoMemory}
-use Rattle.entries.specs.declared.entry.Entry.{Entry}
-use Rattle.entries.specs.CauseWords as causes
-use Rattle.entries.specs.Books.{BookModel}
+use Rattle.reports.specs.declared.cause.Cause.{Cause}
+use Rattle.reports.specs.declared.answer.Answer.{Answer}
+use Rattle.reports.specs.declared.answer.Answer.TheVariants.{Laid, Refused, NoMemory}
+use Rattle.reports.specs.declared.entry.Entry.{Entry}
+use Rattle.reports.specs.CauseWords as causes
+use Rattle.reports.specs.Books.{BookModel}
 
 -- the texts of several things, one after another, of which the first has this number
 abbrev pub numbered_texts : {A : Type 0} → (ℕ → A → List ℕ) → ℕ → List A → List ℕ

@@ -6,7 +6,7 @@ ghost use Rattle.reports.specs.Report.{numbered_texts};
 ghost use Rattle.reports.specs.Json.{json_text, book_json, entry_json, end_json};
 
 use crate::json_lines::{end_line, entry_line};
-use entries::{Batch, Book, Entry};
+use crate::{Batch, Book, Entry};
 use std::alloc::Global;
 use streams::{LINE, Mark, Sink, TextBuffer, WriteFault};
 

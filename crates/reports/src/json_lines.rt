@@ -2,7 +2,7 @@
 ghost use Rattle.std.specs.Prelude.{◌≡◌, IfOk};
 ghost use Rattle.ortho_rep.specs.Representation.{HasDarts};
 ghost use Rattle.ortho_rep.specs.Prices.{HasPrices};
-ghost use Rattle.entries.specs.declared.answer.Answer.TheVariants.{NoMemory, Refused};
+ghost use Rattle.reports.specs.declared.answer.Answer.TheVariants.{NoMemory, Refused};
 ghost use Rattle.reports.specs.Json.{end_json};
 ghost use Rattle.reports.specs.LineData.{answer_data, laid_data, line_of, points_in};
 ghost use Rattle.reports.specs.Answered.{IsAnswer};
@@ -11,9 +11,9 @@ use crate::json_objects::{
     natural_at, put_drawing, put_end, put_place, put_prices, put_shape, put_sizes,
 };
 use crate::json_text::bytes;
+use crate::{Answer, Cause, Entry};
 use drawing_check::Drawing;
 use embedding::Rule;
-use entries::{Answer, Cause, Entry};
 use faces::Plane;
 use ortho_rep::{Points, Prices, Shape};
 use std::alloc::{AllocError, Global};

@@ -9,11 +9,11 @@ ghost use Rattle.ortho_rep.specs.Prices.{HasPrices};
 ghost use Rattle.reports.specs.LineData.{natural, array_of, turns_data, prices_data, points_data, drawn_data, points_in};
 ghost use Rattle.reports.specs.Adding.{member_text};
 
+use crate::Cause;
 use crate::json_arrays::{
     put_angles, put_corners, put_face_prices, put_points, put_turns, put_vertex_prices,
 };
 use crate::json_text::{bytes, natural};
-use entries::Cause;
 use faces::Plane;
 use ortho_rep::{Points, Prices, Shape};
 use std::alloc::AllocError;

@@ -4,7 +4,7 @@ ghost use Rattle.streams.specs.Sink.{Writes, StaysInTransit};
 ghost use Rattle.reports.specs.Report.{report_text, book_text, entry_line, numbered_texts};
 
 use crate::line::ReportLine;
-use entries::{Batch, Book, Entry};
+use crate::{Batch, Book, Entry};
 use streams::{Sink, TextBuffer, WriteFault};
 
 /// Writes the report of a batch: for each file a line with its number, a line for each entry and a line for its mark.

@@ -2,14 +2,14 @@
 ghost use Rattle.std.specs.Prelude.{◌≡◌, ◌+◌, ◌≤◌, ◌++◌, length, Ok as Drawn};
 ghost use Rattle.ortho_rep.specs.Points.{PointsModel};
 ghost use Rattle.ortho_rep.specs.Prices.{PricesModel};
-ghost use Rattle.entries.specs.declared.answer.Answer.TheVariants.{Laid};
+ghost use Rattle.reports.specs.declared.answer.Answer.TheVariants.{Laid};
 ghost use Rattle.reports.specs.Report.{file_line, end_line, graph_line, answer_text, sizes_text, drawn_text, cause_text};
 ghost use Rattle.reports.specs.declared.line.TheConstants.{LONGEST};
 ghost use Rattle.reports.specs.declared.words.TheConstants.{ANSWER, SIZES, DRAWN};
 
 use crate::line::ReportLine;
+use crate::{Answer, Cause};
 use drawing_check::Drawing;
-use entries::{Answer, Cause};
 use faces::Plane;
 use ortho_rep::Shape;
 use streams::{Mark, mark_word};

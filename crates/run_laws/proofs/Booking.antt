@@ -10,7 +10,7 @@ use Rattle.streams.specs.Marks.{IsMarked, IsInterrupted}
 use Rattle.streams.specs.Reading.{IsKnownOf}
 use Rattle.common.specs.declared.choice.Choice.{Choice}
 use Rattle.lanes.specs.Opening.{Meaning, known_of, fails_of}
-use Rattle.entries.specs.Books.{BookModel, IsBook}
+use Rattle.reports.specs.Books.{BookModel, IsBook}
 
 -- a mark that does not say that memory ran out
 split_by : (bytes : List ℕ) (fails : Bool) (records : List (List ℕ)) (end : Ending) → Ended end ≢ Ended ending.Memory

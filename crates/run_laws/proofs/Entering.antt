@@ -4,11 +4,11 @@ use Rattle.std.proofs.Math.Logic.{∥∥₁_map}
 use Rattle.planar_code.specs.Stream.{lists_of}
 use Rattle.common.specs.declared.choice.Choice.{Choice}
 use Rattle.lanes.specs.Notes.{numbered}
-use Rattle.entries.specs.declared.answer.Answer.{Answer}
-use Rattle.entries.specs.declared.answer.Answer.TheVariants.{Laid, Refused, NoMemory}
-use Rattle.entries.specs.declared.entry.Entry.{Entry}
-use Rattle.entries.specs.Answers.{Answers}
-use Rattle.entries.specs.Abouts.{about_of}
+use Rattle.reports.specs.declared.answer.Answer.{Answer}
+use Rattle.reports.specs.declared.answer.Answer.TheVariants.{Laid, Refused, NoMemory}
+use Rattle.reports.specs.declared.entry.Entry.{Entry}
+use Rattle.reports.specs.Answers.{Answers}
+use Rattle.reports.specs.Abouts.{about_of}
 use Rattle.run_laws.proofs.Memory.{IsDecided}
 
 -- the entries decide the records, each the one at its place

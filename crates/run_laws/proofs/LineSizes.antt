@@ -5,8 +5,8 @@ use Rattle.faces.specs.Planes.{PlaneModel, vertices, darts}
 use Rattle.ortho_rep.specs.Shapes.{ShapeModel}
 use Rattle.ortho_rep.specs.Points.{PointsModel}
 use Rattle.ortho_rep.specs.Prices.{PricesModel}
-use Rattle.entries.specs.declared.cause.Cause.{Cause}
-use Rattle.entries.specs.Answers.{IsLaid}
+use Rattle.reports.specs.declared.cause.Cause.{Cause}
+use Rattle.reports.specs.Answers.{IsLaid}
 use Rattle.reports.specs.Report.{sizes_text}
 use Rattle.run_laws.proofs.Planes.{same_plane, same_bends}
 

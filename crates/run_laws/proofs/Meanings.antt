@@ -17,9 +17,9 @@ use Rattle.ortho_rep.specs.Prices.{PricesModel, IsAnglePriced, AreTurnsPriced, I
 use Rattle.ortho_rep.proofs.Priced.{plain_angle, plain_turns}
 use Rattle.ortho_rep.specs.Representation.{Rep, IsLeast, whole_turn}
 use Rattle.ortho_rep.specs.Best.{IsBest, IsChosen}
-use Rattle.entries.specs.declared.cause.Cause.{Cause}
-use Rattle.entries.specs.Answers.{IsLaid}
-use Rattle.entries.specs.Drawn.{IsDrawingOf, IsDrawn}
+use Rattle.reports.specs.declared.cause.Cause.{Cause}
+use Rattle.reports.specs.Answers.{IsLaid}
+use Rattle.reports.specs.Drawn.{IsDrawingOf, IsDrawn}
 use Rattle.run_laws.specs.Laid.{Represents, IsFirstBest, HasOuter, ProveLeast, AreDrawn, IsCauseShown, IsLaidPlainly}
 
 -- ---- representations, in both words

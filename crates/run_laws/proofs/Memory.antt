@@ -4,10 +4,10 @@ use Rattle.planar_code.specs.declared.ending.Ending.TheVariants as ending
 use Rattle.streams.specs.declared.frames.Mark.TheVariants.{Ended}
 use Rattle.embedding.specs.Rules.{FirstBroken}
 use Rattle.common.specs.declared.choice.Choice.{Choice}
-use Rattle.entries.specs.declared.answer.Answer.{Answer}
-use Rattle.entries.specs.declared.answer.Answer.TheVariants.{Laid, Refused, NoMemory}
-use Rattle.entries.specs.Answers.{IsLaid}
-use Rattle.entries.specs.Books.{BookModel}
+use Rattle.reports.specs.declared.answer.Answer.{Answer}
+use Rattle.reports.specs.declared.answer.Answer.TheVariants.{Laid, Refused, NoMemory}
+use Rattle.reports.specs.Answers.{IsLaid}
+use Rattle.reports.specs.Books.{BookModel}
 
 -- the answer decides the graph with these neighbour lists
 abbrev pub IsDecided : Choice → List (List ℕ) → Answer → Type 0

@@ -7,7 +7,7 @@ use Rattle.std.proofs.lemmas.Bool.{cases_eq, eq-eqb, ne_eqb, cond-true, cond-fal
 use Rattle.common.specs.Sums.{sum_below}
 use Rattle.common.proofs.Sums.{sum_below-same, sum_below-split}
 use Rattle.faces.specs.Planes.{PlaneModel, IsPlane, vertices, degree}
-use Rattle.networks.specs.Networks.{NetworkModel, supply_at}
+use Rattle.min_cost_flow.specs.Networks.{NetworkModel, supply_at}
 use Rattle.flow_network.specs.FaceNet.{FaceNetModel, IsFaceNetOf, vertex_degree}
 use Rattle.flow_network.proofs.GivenParts.{vertex_plain, face_plain}
 use Rattle.min_cost_flow.specs.Round.{supply_sum}

@@ -13,13 +13,13 @@ use Rattle.faces.specs.Planes.{PlaneModel}
 use Rattle.ortho_rep.specs.Shapes.{ShapeModel}
 use Rattle.ortho_rep.specs.Points.{PointsModel}
 use Rattle.ortho_rep.specs.Prices.{PricesModel}
-use Rattle.entries.specs.declared.cause.Cause.{Cause}
-use Rattle.entries.specs.declared.answer.Answer.{Answer}
-use Rattle.entries.specs.declared.answer.Answer.TheVariants.{Laid, Refused, NoMemory}
-use Rattle.entries.specs.declared.entry.Entry.{Entry}
-use Rattle.entries.specs.Answers.{IsLaid}
-use Rattle.drawing_laws.proofs.Drawings.{drawn}
-use Rattle.entries.specs.Books.{BookModel, IsBook, AreBooks}
+use Rattle.reports.specs.declared.cause.Cause.{Cause}
+use Rattle.reports.specs.declared.answer.Answer.{Answer}
+use Rattle.reports.specs.declared.answer.Answer.TheVariants.{Laid, Refused, NoMemory}
+use Rattle.reports.specs.declared.entry.Entry.{Entry}
+use Rattle.reports.specs.Answers.{IsLaid}
+use Rattle.answers.proofs.DrawnAnswers.{drawn}
+use Rattle.reports.specs.Books.{BookModel, IsBook, AreBooks}
 use Rattle.reports.specs.Report.{numbered_texts, drawn_text, answer_text, entry_line, end_line, file_line, book_text}
 use Rattle.run_laws.specs.Reports.{IsReport, AreKnownAlike, AreAllKnownAlike, HasNoMemoryWord}
 use Rattle.run_laws.proofs.Memory.{IsDecided, HasMemory}

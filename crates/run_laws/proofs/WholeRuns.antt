@@ -5,14 +5,14 @@ use Rattle.planar_code.proofs.Splits.{split_same}
 use Rattle.planar_code.specs.Stream.{lists_of}
 use Rattle.streams.specs.declared.frames.Mark.TheVariants.{Ended}
 use Rattle.common.specs.declared.choice.Choice.{Choice}
-use Rattle.entries.specs.declared.answer.Answer.{Answer}
-use Rattle.entries.specs.declared.answer.Answer.TheVariants.{Laid, Refused, NoMemory}
-use Rattle.entries.specs.declared.entry.Entry.{Entry}
+use Rattle.reports.specs.declared.answer.Answer.{Answer}
+use Rattle.reports.specs.declared.answer.Answer.TheVariants.{Laid, Refused, NoMemory}
+use Rattle.reports.specs.declared.entry.Entry.{Entry}
 use Rattle.lanes.specs.Opening.{Meaning}
-use Rattle.entries.specs.Books.{BookModel}
+use Rattle.reports.specs.Books.{BookModel}
 use Rattle.reports.specs.Report.{book_text, report_text}
-use Rattle.reports.specs.declared.form.Form.TheVariants.{Report}
-use Rattle.printing.specs.Whole.{IsAllWritten}
+use Rattle.streams.specs.declared.form.Form.TheVariants.{Report}
+use Rattle.collector.specs.Whole.{IsAllWritten}
 use Rattle.collector.specs.Headline.{IsDecided, AreOneForEach, IsWholeRun}
 use Rattle.run_laws.specs.Reports.{IsReport}
 use Rattle.run_laws.proofs.Memory as memory

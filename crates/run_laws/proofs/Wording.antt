@@ -3,10 +3,10 @@ use Rattle.std.proofs.Common.{◌≡◌, ℕ, zero, suc, ◌+◌, ◌<◌, List,
 use Rattle.planar_code.specs.declared.ending.Ending.TheVariants as ending
 use Rattle.streams.specs.declared.frames.Mark.{Mark}
 use Rattle.streams.specs.declared.frames.Mark.TheVariants.{Ended}
-use Rattle.entries.specs.declared.answer.Answer.{Answer}
-use Rattle.entries.specs.declared.answer.Answer.TheVariants.{NoMemory}
-use Rattle.entries.specs.declared.entry.Entry.{Entry}
-use Rattle.entries.specs.Books.{BookModel}
+use Rattle.reports.specs.declared.answer.Answer.{Answer}
+use Rattle.reports.specs.declared.answer.Answer.TheVariants.{NoMemory}
+use Rattle.reports.specs.declared.entry.Entry.{Entry}
+use Rattle.reports.specs.Books.{BookModel}
 use Rattle.reports.specs.Report.{numbered_texts, answer_text, entry_line, end_line, file_line, book_text, report_text}
 use Rattle.run_laws.proofs.Memory.{HasMemory}
 use Rattle.run_laws.specs.Reports.{HasNoMemoryWord}

@@ -15,7 +15,7 @@ use Rattle.ortho_rep.specs.declared.turn.Turn.TheVariants.{Left}
 use Rattle.ortho_rep.specs.declared.points.Point.{Point}
 use Rattle.ortho_rep.specs.Turns.{opposite, lefts, rights}
 use Rattle.ortho_rep.specs.Shapes.{ShapeModel, angle_at, turns_at}
-use Rattle.ortho_rep.specs.Points.{PointsModel}
+use Rattle.ortho_rep.specs.Points.{PointsModel, AreBelow}
 use Rattle.ortho_rep.specs.Prices.{PricesModel, vertex_price, face_price}
 use Rattle.ortho_rep.specs.Edges.{lesser_darts}
 use Rattle.drawing_check.specs.Paths.{path_along, paths, point_of}
@@ -24,9 +24,9 @@ use Rattle.drawing_check.specs.Draws.{direction_of, turned, leaving}
 use Rattle.drawing_check.specs.Regions.{HasRegions}
 use Rattle.dissect.specs.Boxes.{BoxesModel}
 use Rattle.dissect.specs.Boxed.{IsBoxed}
-use Rattle.entries.specs.declared.cause.Cause.{Cause}
-use Rattle.entries.specs.Lengths.{AreBelow, IsNoLonger}
-use Rattle.entries.specs.Drawn.{ShowsCause}
+use Rattle.reports.specs.declared.cause.Cause.{Cause}
+use Rattle.reports.specs.Lengths.{IsNoLonger}
+use Rattle.reports.specs.Drawn.{ShowsCause}
 
 -- ---- representations
 

@@ -2,8 +2,8 @@
 use Rattle.std.specs.Prelude.{◌≡◌, ◌≢◌, ℕ, ◌<◌, List, ◌++◌, Some, codes}
 use Rattle.common.specs.declared.choice.Choice.{Choice}
 use Rattle.lanes.specs.Opening.{Meaning, known_of, fails_of}
-use Rattle.entries.specs.Books.{BookModel}
-use Rattle.entries.specs.AllBooks.{AreAllBooks}
+use Rattle.reports.specs.Books.{BookModel}
+use Rattle.reports.specs.AllBooks.{AreAllBooks}
 use Rattle.reports.specs.Report.{report_text}
 
 -- the text is the report of books that are right for this many files under this choice

@@ -11,8 +11,8 @@ ghost use Rattle.ortho_rep.specs.Representation.{IsLeast};
 ghost use Rattle.drawing_laws.specs.Bound.{bend_bound, bends, edges};
 ghost use Rattle.dissect.specs.Boxed.{IsBoxed};
 ghost use Rattle.dissect.specs.Boxes.{BoxesModel};
-ghost use Rattle.entries.specs.declared.cause.Cause.{Cause};
-ghost use Rattle.entries.specs.Answers.{IsLaid};
+ghost use Rattle.reports.specs.declared.cause.Cause.{Cause};
+ghost use Rattle.reports.specs.Answers.{IsLaid};
 
 /// The shape of a laid answer has at most one bend for each edge and four for each inner face.
 ///

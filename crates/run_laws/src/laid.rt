@@ -6,8 +6,8 @@ ghost use Rattle.faces.specs.Planes.{PlaneModel};
 ghost use Rattle.ortho_rep.specs.Shapes.{ShapeModel};
 ghost use Rattle.ortho_rep.specs.Points.{PointsModel};
 ghost use Rattle.ortho_rep.specs.Prices.{PricesModel};
-ghost use Rattle.entries.specs.declared.cause.Cause.{Cause};
-ghost use Rattle.entries.specs.Answers.{IsLaid};
+ghost use Rattle.reports.specs.declared.cause.Cause.{Cause};
+ghost use Rattle.reports.specs.Answers.{IsLaid};
 ghost use Rattle.run_laws.specs.Laid.{IsLaidPlainly};
 
 /// The plane, the shape, the prices and the coordinates of a laid answer are right for its graph.

@@ -2,17 +2,17 @@
 
 ghost use Rattle.std.specs.Prelude.{◌≡◌, ◌≤◌, ℕ, List, length, All};
 ghost use Rattle.planar_code.specs.Stream.{IsRecord, lists_of};
-ghost use Rattle.planar_code.specs.Wide.{IsWideRecord};
+ghost use Rattle.embedding.specs.Wide.{IsWideRecord};
 ghost use Rattle.faces.specs.Planes.{PlaneModel, IsPlane, darts, vertices};
-ghost use Rattle.networks.specs.declared.network.TheConstants.{MAX_NODES, MAX_ARCS};
-ghost use Rattle.networks.specs.declared.fault.TheConstants.{MAX_SUPPLY};
+ghost use Rattle.min_cost_flow.specs.declared.network.TheConstants.{MAX_NODES, MAX_ARCS};
+ghost use Rattle.min_cost_flow.specs.declared.fault.TheConstants.{MAX_SUPPLY};
 
 use common::MAX_VERTICES;
-use embedding::{MAX_DARTS, MAX_EDGES};
-use entries::MAX_FILES;
+use embedding::{MAX_DARTS, MAX_EDGES, MAX_ENTRIES};
 use faces::MAX_FACES;
 use ortho_rep::{MAX_COORDINATE, MAX_TURNS};
-use planar_code::{MAX_ENTRIES, MAX_LIST, MAX_RECORDS};
+use planar_code::{MAX_LIST, MAX_RECORDS};
+use reports::MAX_FILES;
 use ruled_lanes::{LANES, MAX_CAPACITY, MAX_TICKETS};
 
 // The entries of a neighbour list, and the records of a file.

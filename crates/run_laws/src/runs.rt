@@ -3,10 +3,10 @@
 ghost use Rattle.std.specs.Prelude.{◌≡◌, ℕ, List, ◌++◌, Some};
 ghost use Rattle.common.specs.declared.choice.Choice.{Choice};
 ghost use Rattle.lanes.specs.Opening.{Meaning};
-ghost use Rattle.entries.specs.Books.{BookModel};
+ghost use Rattle.reports.specs.Books.{BookModel};
 ghost use Rattle.reports.specs.Report.{book_text};
-ghost use Rattle.reports.specs.declared.form.Form.{Form};
-ghost use Rattle.printing.specs.Whole.{IsAllWritten};
+ghost use Rattle.streams.specs.declared.form.Form.{Form};
+ghost use Rattle.collector.specs.Whole.{IsAllWritten};
 ghost use Rattle.collector.specs.Headline.{IsWholeRun};
 ghost use Rattle.run_laws.specs.Reports.{IsReport};
 

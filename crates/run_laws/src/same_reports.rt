@@ -3,7 +3,7 @@
 ghost use Rattle.std.specs.Prelude.{◌≡◌, ℕ, List};
 ghost use Rattle.common.specs.declared.choice.Choice.{Choice};
 ghost use Rattle.lanes.specs.Opening.{Meaning};
-ghost use Rattle.entries.specs.Books.{BookModel, IsBook};
+ghost use Rattle.reports.specs.Books.{BookModel, IsBook};
 ghost use Rattle.reports.specs.Report.{book_text};
 ghost use Rattle.run_laws.specs.Reports.{IsReport, AreKnownAlike, AreAllKnownAlike, HasNoMemoryWord};
 

@@ -7,8 +7,7 @@ use faces::Plane;
 use ortho_rep::Point;
 use std::alloc::{AllocError, Global};
 use std::process::Abort;
-use test_inputs::record_of;
-use test_tools::same;
+use test_tools::{record_of, same};
 
 /// The point of a vertex, or the origin if there is none.
 fn place_of(places: &[Point], vertex: u16) -> Point {
@@ -106,7 +105,7 @@ fn is_path_of_four(rt: &impl Abort, answer: &Answer) -> bool {
     true
 }
 
-/// The same for the answer to the record of that path; true if memory runs out for the record itself.
+/// Whether the answer to the record of that path is a short drawing; true if memory runs out for the record itself.
 fn answers_path_of_four(rt: &impl Abort, alloc: Global) -> bool {
     match record_of(alloc, &[4, 2, 0, 1, 3, 0, 2, 4, 0, 3, 0]) {
         Some(rec) => {

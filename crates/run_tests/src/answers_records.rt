@@ -1,17 +1,16 @@
 //! Known graphs and refused records, answered as a whole and stage by stage.
 
-use answers::{Answer, Cause, Entry, Framed, Keeping, Task, answer};
+use answers::{Answer, Cause, Entry, Framed, KeepEntries, Task, answer};
 use common::{Choice, DrawingKind};
 use embedding::Rule;
 use lanes::{Numbered, Staged};
 use planar_code::Record;
 use std::alloc::Global;
 use std::process::Abort;
-use test_inputs::record_of;
 use test_tools::records::{
     CAPPED_CUBE, LONGER_CUBE, OCTAHEDRON, STAR, TETRAHEDRON, TETRAHEDRON_ON_A_TORUS, TRIANGLE,
 };
-use test_tools::same;
+use test_tools::{record_of, same};
 
 /// The expected answer to a record.
 #[derive(Clone, Copy)]
@@ -105,7 +104,7 @@ pub(crate) fn staged(
             choice,
             drawing_kind,
         },
-        purpose: Keeping,
+        purpose: KeepEntries,
         rec,
         state: (),
     };
@@ -159,7 +158,7 @@ fn is_of_a_triangle(rt: &impl Abort, answer: &Answer) -> bool {
     true
 }
 
-/// The same for the entry of a triangle; true if memory runs out for the record itself.
+/// Whether the entry of a triangle has the answer to it; true if memory runs out for the record itself.
 fn answers_a_triangle(rt: &impl Abort, alloc: Global) -> bool {
     match record_of(alloc, TRIANGLE) {
         Some(rec) => {

@@ -5,14 +5,13 @@ ghost use Rattle.lanes.specs.Notes.{Item};
 
 use crate::reported::EDGES;
 use common::Choice;
-use lanes::{Keep, MemOpener, OpenFault, Opener, read_file};
+use lanes::{MemOpener, OpenFault, Opener, RecordSink, read_file};
 use planar_code::{Ending, Record};
 use std::alloc::{AllocError, Global};
 use std::process::Abort;
 use std::sync::atomic::{AtomicU32, Ordering};
 use streams::{Mark, SourceEnd, piece_buffer};
-use test_inputs::Failing;
-use test_tools::same;
+use test_tools::{Failing, same};
 
 const CUT: &[u8] = b">>planar_code<<\x02\x02\x00\x01\x00\x02\x02\x00\x01";
 
@@ -33,7 +32,7 @@ struct Shelf {
     records: Vec<Shelved>,
 }
 
-impl Keep for Shelf {
+impl RecordSink for Shelf {
     type Refusal = AllocError;
 
     ghost kept = { λ s. map (λ r. Item (record { file = r.file; ordinal = r.ordinal; bytes = r.rec; choice = r.choice })) s.records.items };
@@ -93,6 +92,7 @@ impl<'c> Opener for &'c Breaking {
     }
 }
 
+/// The bytes of three files: complete, cut and with too large a record.
 fn files(alloc: Global) -> Result<Vec<Vec<u8>>, AllocError> {
     let mut files = Vec::new(alloc);
     for bytes in [EDGES, CUT, LARGE] {

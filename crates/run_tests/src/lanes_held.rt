@@ -14,6 +14,7 @@ struct HoldsEach {
 }
 
 impl HoldsEach {
+    /// A gate that no stage has come to.
     fn new() -> HoldsEach {
         HoldsEach {
             calls: AtomicU32::new(0),

@@ -32,6 +32,7 @@ enum Ended {
     Lost,
 }
 
+/// How a run ended.
 fn end_of<T: Drop>(answer: Result<T, RunFault<Infallible>>) -> Ended {
     match answer {
         Ok(_) => Ended::Well,

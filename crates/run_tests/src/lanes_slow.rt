@@ -4,16 +4,16 @@ ghost use Rattle.std.specs.Prelude.{◌≡◌, ◌≤◌};
 ghost use Rattle.ruled_lanes.specs.declared.limits.TheConstants.{MAX_CAPACITY};
 ghost use Rattle.lanes.specs.Opening.{Silent};
 
-use crate::printing_pauses::tell_file;
+use crate::collector_pauses::tell_file;
 use crate::reported::QUICK;
 use collector::{Choice, Gate, IoSink, MemTap, OpenFault, Opener, Stage, Tap, TapFault};
 use commands::write_batch;
+use ruled_lanes::MAX_CAPACITY;
 use std::alloc::{AllocError, Global};
 use std::process::Abort;
 use std::sync::Wait;
 use std::sync::atomic::{AtomicBool, AtomicU32, Ordering};
 use std::thread::Threads;
-use streams::MAX_CAPACITY;
 use test_tools::records::{EDGE, HEADER};
 use test_tools::{same, wait_for_count};
 

@@ -7,7 +7,13 @@ mod answers_kinds;
 #[cfg(test)]
 mod answers_records;
 #[cfg(test)]
+mod collector_ahead;
+#[cfg(test)]
 mod collector_failing;
+#[cfg(test)]
+mod collector_frames;
+#[cfg(test)]
+mod collector_pauses;
 #[cfg(test)]
 mod commands_as_made;
 #[cfg(test)]
@@ -18,9 +24,5 @@ mod lanes_held;
 mod lanes_lost;
 #[cfg(test)]
 mod lanes_slow;
-#[cfg(test)]
-mod printing_ahead;
-#[cfg(test)]
-mod printing_pauses;
 #[cfg(test)]
 mod reported;

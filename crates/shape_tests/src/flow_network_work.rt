@@ -10,9 +10,8 @@ use min_cost_flow::{Arc, Cap, Network, SolveFault, solve};
 use ortho_rep::{Shape, least_shape};
 use std::alloc::{AllocError, Global};
 use std::process::Abort;
-use test_inputs::plane_in;
 use test_tools::records::{EDGE, OCTAHEDRON, TRIANGLE, longest_cycle};
-use test_tools::same;
+use test_tools::{plane_in, same};
 
 /// The number of units supplied in a network.
 fn supplied_in(network: &Network) -> u64 {
@@ -44,7 +43,7 @@ fn expect_between(rt: &impl Abort, number: u64, most: u64) {
     assert!(rt; 1 <= number && number <= most, "{number} of {most}");
 }
 
-/// The same for the network of a plane.
+/// Checks the work of the solver on the network of a plane.
 fn expect_plane_work(rt: &impl Abort, alloc: Global, bytes: &[u8], supplied: u64, arcs: u64) {
     let plane = plane_in(alloc, bytes).expect(rt, "a plane");
     let net = FaceNet::build(alloc, &plane).expect(rt, "memory");
@@ -73,6 +72,7 @@ const FREE_WAY: [Arc; 3] = [
     },
 ];
 
+/// A network in which two units have a way without cost.
 fn free_way(rt: &impl Abort, alloc: Global) -> Network {
     let supplies = [2, 0, -2].to_vec(alloc).expect(rt, "memory");
     let arcs = FREE_WAY.to_vec(alloc).expect(rt, "memory");

@@ -1,10 +1,9 @@
 //! Least shapes of planes of 1,200 vertices, whose fewest bends are known.
 
 use crate::ortho_rep_shapes::answers;
-use embedding::Graph;
+use embedding::{Graph, WideRecord};
 use faces::Plane;
 use ortho_rep::best_shape;
-use planar_code::WideRecord;
 use std::alloc::{AllocError, Global};
 use std::process::Abort;
 use test_tools::same;

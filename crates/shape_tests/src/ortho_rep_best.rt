@@ -5,12 +5,11 @@ use faces::{Choice, Plane};
 use ortho_rep::{best_shape, least_shape};
 use std::alloc::Global;
 use std::process::Abort;
-use test_inputs::plane_in;
 use test_tools::records::{
     CAPPED_CUBE, CUBE, EDGE, LONGER_CUBE, OCTAHEDRON, SIX, SQUARE, STAR, TETRAHEDRON, TRIANGLE,
     longest_cycle,
 };
-use test_tools::same;
+use test_tools::{plane_in, same};
 
 /// One on 7 vertices.
 const SEVEN: [u8; 24] = [

@@ -6,9 +6,8 @@ use faces::Plane;
 use ortho_rep::{Prices, Shape, Turn, certify, is_shape, least_shape};
 use std::alloc::{AllocError, Global};
 use std::process::Abort;
-use test_inputs::{Case, L, ONE_BEND, R, plane_in, prices_in, shape_in, strings_in};
 use test_tools::records::{CUBE, EDGE, OCTAHEDRON, PATH, SQUARE, STAR, TETRAHEDRON, TRIANGLE};
-use test_tools::{Random, same};
+use test_tools::{Case, L, ONE_BEND, R, Random, plane_in, prices_in, same, shape_in, strings_in};
 
 /// The shape of these angles and strings, which are short.
 fn shape_of(rt: &impl Abort, angles: Vec<u8>, strings: Vec<Vec<Turn>>) -> Shape {
@@ -211,6 +210,7 @@ fn plainly_turns(plane: &Plane, shape: &Shape) -> bool
     true
 }
 
+/// Whether one string of turns is the other one backwards, with left and right exchanged.
 fn plainly_mirrored(turns: &[Turn], reverse: &[Turn]) -> bool {
     turns.len() == reverse.len()
         && turns
@@ -352,7 +352,7 @@ fn answers_as_read(rt: &impl Abort, plane: &Plane, shape: &Shape, prices: &Price
     got
 }
 
-/// The same for a random shape and random prices like those of a case.
+/// The answers of both tests for a random shape and random prices like those of a case.
 fn random_answers(
     rt: &impl Abort,
     alloc: Global,

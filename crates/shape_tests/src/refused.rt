@@ -16,9 +16,8 @@ use planar_code::{Ending, Record, frame, split};
 use std::alloc::{AllocError, Global};
 use std::process::Abort;
 use straightening::{Scratch, straighten_in};
-use test_inputs::{plane_in, strings_in};
 use test_tools::records::{CAPPED_CUBE, PATH, TRIANGLE};
-use test_tools::same;
+use test_tools::{plane_in, same, strings_in};
 
 /// A stream of two records.
 const STREAM: &[u8] = b">>planar_code<<\x01\x00\x02\x00\x00";
@@ -36,7 +35,7 @@ fn split_at_last(rt: &impl Abort, alloc: Global) -> (Vec<Record>, Ending) {
     }
 }
 
-/// The same for a stream in pieces.
+/// The records of a stream in pieces, by the second call if the first one runs out of memory.
 fn frame_at_last(rt: &impl Abort, alloc: Global, pieces: &[Vec<u8>]) -> (Vec<Record>, Ending) {
     match frame(alloc, pieces) {
         Ok(whole) => whole,

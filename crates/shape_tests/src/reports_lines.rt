@@ -2,16 +2,14 @@
 //! Prices that prove a shape still do so if one number is subtracted from all of them.
 
 use drawing_check::{Drawing, check};
-use entries::Cause;
 use faces::Plane;
 use ortho_rep::{Points, Shape, certify, is_shape};
 use planar_code::Ending;
-use reports::{LaidGraph, end_line, laid_line};
+use reports::{Cause, LaidGraph, end_line, laid_line};
 use std::alloc::Global;
 use std::process::Abort;
 use streams::Mark;
-use test_inputs::{Case, ONE_BEND, Place, plane_in, points_in, prices_in, shape_in};
-use test_tools::same;
+use test_tools::{Case, ONE_BEND, Place, plane_in, points_in, prices_in, same, shape_in};
 
 const DRAWN: &[u8] =
     b"{\"angles\":[3,1,3,1,3,1],\"bends\":1,\"drawn\":\"yes\",\"f\":2,\"file\":3,\"graph\":7,\"m\":3,\"n\":3,\

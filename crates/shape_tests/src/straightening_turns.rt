@@ -9,9 +9,8 @@ use ortho_rep::{Prices, Shape, certify, is_shape, least_shape};
 use std::alloc::{AllocError, Global};
 use std::process::Abort;
 use straightening::{Scratch, straighten_in};
-use test_inputs::{Case, L, R, plane_in, prices_in, shape_in};
 use test_tools::records::{EDGE, PATH, TRIANGLE};
-use test_tools::same;
+use test_tools::{Case, L, R, plane_in, prices_in, same, shape_in};
 
 /// The number of turning vertices of degree 2, the bends, and the answers of both tests.
 pub(crate) type Figures = (u16, u32, (bool, bool));
@@ -128,7 +127,7 @@ fn straightened(
     Ok((before, figures(plane, &straight, prices)))
 }
 
-/// The same for the shape of a case, which must be a least one.
+/// The figures of the shape of a case, which must be a least one, and those of the straighter one.
 fn figures_of(
     rt: &impl Abort,
     alloc: Global,

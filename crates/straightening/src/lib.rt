@@ -5,6 +5,5 @@
 mod flow;
 mod search;
 mod straighten;
-mod tally;
 
 pub use straighten::{Scratch, straighten_in};

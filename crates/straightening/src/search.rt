@@ -4,7 +4,6 @@ ghost use Rattle.std.specs.Prelude.{◌≡◌, ◌<◌, ◌≤◌};
 ghost use Rattle.faces.specs.Planes.{darts};
 ghost use Rattle.faces.specs.declared.plane.TheConstants.{MAX_FACES};
 ghost use Rattle.ortho_rep.specs.Prices.{HasPrices};
-ghost use Rattle.straightening.specs.Flows.{Agree};
 
 use crate::flow::{ShapeFlow, clockwise, is_tight_angle};
 use faces::{MAX_FACES, Plane};
@@ -180,11 +179,8 @@ impl FaceSearch {
     }
 
     /// Sends a unit along the path that was found last.
-    pub(crate) fn send(&self, plane: &Plane, prices: &Prices, flow: &mut ShapeFlow, path: PathEnds)
-        requires prices { HasPrices plane.now prices.now }
-        requires to { path.to < darts plane.now }
-        requires agree { Agree plane.now flow.old.angles flow.old.lefts prices.now }
-        ensures { Agree plane.now flow.new.angles flow.new.lefts prices.now }
+    pub(crate) fn send(&self, plane: &Plane, flow: &mut ShapeFlow, path: PathEnds)
+        requires { path.to < darts plane.now }
     {
         let darts = plane.graph().darts();
         let mut entered = path.to;
@@ -195,7 +191,7 @@ impl FaceSearch {
             if give >= darts || take >= darts {
                 return;
             }
-            flow.send(plane, prices, give, take);
+            flow.send(plane, give, take);
             entered = give;
         }
     }

@@ -6,20 +6,18 @@ ghost use Rattle.faces.specs.Planes.{darts};
 ghost use Rattle.ortho_rep.specs.Shapes.{turns_at};
 ghost use Rattle.ortho_rep.specs.Representation.{HasDarts, IsShape, IsLeast, bends_of};
 ghost use Rattle.ortho_rep.specs.Prices.{HasPrices, IsProof};
-ghost use Rattle.straightening.specs.Flows.{Agree};
 ghost use Rattle.straightening.specs.Reflex.{reflex_angles};
 
 use crate::flow::{ShapeFlow, clockwise, is_tight_angle};
 use crate::search::{FaceSearch, PathEnds};
-use crate::tally::{Tally, is_rep};
 use faces::Plane;
-use ortho_rep::{Prices, Shape};
+use ortho_rep::{Prices, Shape, certify, is_shape};
 use std::alloc::{AllocError, Global};
 use std::boxed::Box;
 
 /// The buffers of `straighten_in`, reused for the next shape. Their contents between two calls do not matter.
 ///
-/// It allocates nothing until a shape has a vertex that may be made straight, and 38 KB from then on.
+/// It allocates nothing until a shape has a vertex that may be made straight, and 24 KB from then on.
 #[derive(Drop)]
 pub struct Scratch {
     workspace: Option<Box<Workspace>>,
@@ -37,7 +35,6 @@ impl Scratch {
 struct Workspace {
     flow: ShapeFlow,
     search: FaceSearch,
-    tally: Tally,
 }
 
 impl Workspace {
@@ -47,7 +44,6 @@ impl Workspace {
         let workspace = Workspace {
             flow: ShapeFlow::new(),
             search: FaceSearch::new(),
-            tally: Tally::new(),
         };
         Ok(Box::new(alloc, workspace)?)
     }
@@ -62,10 +58,9 @@ const REFLEX: u8 = 3;
 /// of one. Such vertices are made straight one after another: a unit goes from the reflex angle to the right angle, and
 /// back from the face of the right angle to that of the reflex angle, if there is a path of residual arcs whose reduced
 /// cost is 0 by the prices (a flow of least cost stays one along a cycle of such arcs, by complementary slackness). On
-/// that path no vertex of degree 2 begins to turn. Each unit is moved only if the prices stay a proof. The result of
-/// these moves is returned only if it has fewer reflex angles and is tested to be a representation. Otherwise the given
-/// shape is returned: after one look at each angle if no vertex can be made straight. How few vertices turn in the end
-/// is measured and not proved.
+/// that path no vertex of degree 2 begins to turn. The result of these moves is returned only if `is_shape` and `certify`
+/// accept it and it has fewer reflex angles. Otherwise the given shape is returned: after one look at each angle if no
+/// vertex can be made straight. How few vertices turn in the end is measured and not proved.
 ///
 /// # Errors
 ///
@@ -98,7 +93,8 @@ pub fn straighten_in(
     made
 }
 
-/// The same, in lists that are there, from the head of a dart on.
+/// A least shape with as many bends and no more reflex angles, made in lists that are there, from the head of a dart
+/// on.
 fn straighten_shape(
     alloc: Global,
     workspace: &mut Workspace,
@@ -116,18 +112,15 @@ fn straighten_shape(
     ensures straighter { IfOk result (λ made. reflex_angles made ≤ reflex_angles shape) }
     ensures bends { IfOk result (λ made. bends_of (length made.strings) (turns_at made) ≡ bends_of (length shape.strings) (turns_at shape)) }
 {
-    let Workspace {
-        flow,
-        search,
-        tally,
-    } = workspace;
+    let Workspace { flow, search } = workspace;
     flow.load(plane, &shape);
     search.clear(plane);
-    if !straighten_from(flow, search, plane, prices, first) || !is_rep(tally, plane, flow) {
+    if !straighten_from(flow, search, plane, prices, first) {
         return Ok(shape);
     }
     let made = flow.shape(alloc, plane)?;
-    if count_reflex(plane, &made) < count_reflex(plane, &shape) {
+    let holds = is_shape(plane, &made) && certify(plane, &made, prices);
+    if holds && count_reflex(plane, &made) < count_reflex(plane, &shape) {
         Ok(made)
     } else {
         Ok(shape)
@@ -169,9 +162,7 @@ fn straighten_from(
     prices: &Prices,
     first: u16,
 ) -> bool
-    requires prices { HasPrices plane.now prices.now }
-    requires agree { Agree plane.now flow.old.angles flow.old.lefts prices.now }
-    ensures { Agree plane.now flow.new.angles flow.new.lefts prices.now }
+    requires { HasPrices plane.now prices.now }
 {
     let mut moved = false;
     for dart in first..plane.graph().darts() {
@@ -193,8 +184,6 @@ fn straighten_one(
 ) -> bool
     requires prices { HasPrices plane.now prices.now }
     requires within { reflex < darts plane.now }
-    requires agree { Agree plane.now flow.old.angles flow.old.lefts prices.now }
-    ensures { Agree plane.now flow.new.angles flow.new.lefts prices.now }
 {
     let clockwise_dart = clockwise(plane, reflex);
     if plane.face_of(reflex) != plane.face_of(clockwise_dart) {
@@ -205,9 +194,9 @@ fn straighten_one(
         if !search.finds(plane, prices, flow, back) {
             return false;
         }
-        search.send(plane, prices, flow, back);
+        search.send(plane, flow, back);
     }
-    flow.send(plane, prices, reflex, clockwise_dart);
+    flow.send(plane, reflex, clockwise_dart);
     true
 }
 

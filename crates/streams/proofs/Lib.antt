@@ -1,7 +1,6 @@
 pub mod Bounds
 pub mod Lines
 pub mod Marks
-pub mod Messages
 pub mod Pieces
 pub mod Placed
 pub mod Receiving

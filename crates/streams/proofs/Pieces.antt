@@ -37,7 +37,7 @@ told_at_failure (Some xs) (Some ys) known_fails fails read took same at =
     (took ∙ ap (λ l. read ++ l) at.0 ∙ append-nil read, sym same ∙ at.1)
 
 -- where reading stops, some bytes may be left; where the source's bytes are known, they are all of them
-told_so_far : (known to_come : Option (List ℕ)) (known_fails : Bool) (read : List ℕ) → Consumes known to_come read
+pub told_so_far : (known to_come : Option (List ℕ)) (known_fails : Bool) (read : List ℕ) → Consumes known to_come read
     → (left : List ℕ) × (fails : Bool) × IsKnownOf known known_fails (read ++ left) fails
 told_so_far None to_come known_fails read took = ([], false, tt)
 told_so_far (Some xs) None known_fails read took = absurd took
@@ -186,3 +186,7 @@ pub nothing_new : (known to_come : Option (List ℕ)) (known_fails fails : Bool)
     → IsBeingRead known known_fails rounds to_come fails records state → IsBeingRead known known_fails rounds to_come fails (records ++ new) state
 nothing_new known to_come known_fails fails rounds records new state none r =
     subst (λ rs. IsBeingRead known known_fails rounds to_come fails rs state) (sym (ap (λ l. records ++ l) none ∙ append-nil records)) r
+
+-- the same records and the same mark
+pub found_as : (known : Option (List ℕ)) (fails : Bool) (records others : List (List ℕ)) (mark other : Mark) → records ≡ others → mark ≡ other → IsFoundIn known fails others other → IsFoundIn known fails records mark
+found_as known fails records others mark other same is found = subst (λ rs. IsFoundIn known fails rs mark) (sym same) (subst (λ m. IsFoundIn known fails others m) (sym is) found)

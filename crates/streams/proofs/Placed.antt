@@ -1,5 +1,5 @@
 -- Records that were read of a source stand at their places in its known bytes.
-use Rattle.std.proofs.Common.{◌≡◌, ℕ, ◌+◌, Bool, List, [], ◌∷◌, ◌++◌, Option, None, Some, length, refl, sym, ap, subst, ◌∙◌, append_assoc, append-nil, length-append, arith}
+use Rattle.std.proofs.Common.{◌≡◌, ℕ, ◌+◌, Bool, false, List, [], ◌∷◌, ◌++◌, Option, None, Some, length, refl, sym, ap, subst, ◌∙◌, append_assoc, append-nil, length-append, arith}
 use Rattle.std.specs.Prelude.{⊤}
 use Rattle.planar_code.specs.declared.ending.Ending.{Ending}
 use Rattle.planar_code.specs.declared.ending.Ending.TheVariants as ending
@@ -14,6 +14,7 @@ use Rattle.streams.specs.Marks.{IsMarked, IsBeginningOf}
 use Rattle.streams.specs.Reading.{IsFoundIn, IsBeingRead, IsReadToItsEnd, LeadsTo}
 use Rattle.streams.specs.Placing.{IsAt, IsPlaced, EachAt, ArePlaced}
 use Rattle.streams.proofs.Marks.{beginning_stands}
+use Rattle.streams.proofs.Pieces.{told_so_far}
 
 -- the records are the first of those of a source's known bytes
 abbrev pub AreFirst : Option (List ℕ) → List (List ℕ) → Type 0
@@ -81,6 +82,36 @@ first_step known known_fails rounds to_come fails records state step.More leads 
 first_step known known_fails rounds to_come fails records state step.Ended leads = first_ended known known_fails records state leads
 first_step known known_fails rounds to_come fails records state step.Failed leads = first_found known known_fails records Io leads
 first_step known known_fails rounds to_come fails records state (step.Faulted fault) leads = first_found known known_fails records (Ended _) leads
+
+-- the records so far are found, if memory then runs out
+pub found_so_far : (known : Option (List ℕ)) (known_fails : Bool) (rounds : ℕ) (to_come : Option (List ℕ)) (fails : Bool) (records : List (List ℕ)) (state : FramerState) (led : PieceOutcome)
+    → LeadsTo known known_fails rounds to_come fails records state led → IsFoundIn known known_fails records (Ended ending.Memory)
+found_so_far known known_fails rounds to_come fails records state step.More leads =
+    let more = told_so_far known to_come known_fails leads.read leads.took in
+    record {
+      bytes = leads.read ++ more.0;
+      fails = more.1;
+      gave = more.2;
+      marked = λ all end split. beginning_stands leads.read more.0 records state leads.stands all end split;
+    }
+found_so_far known known_fails rounds to_come fails records state step.Ended leads = record {
+  bytes = leads.read;
+  fails = false;
+  gave = leads.gave;
+  marked = λ all end split. beginning_stands leads.read [] records state leads.stands all end (subst (λ (t : List ℕ). IsSplit t all end) (sym (append-nil leads.read)) split);
+}
+found_so_far known known_fails rounds to_come fails records state step.Failed leads = record {
+  bytes = leads.bytes;
+  fails = leads.fails;
+  gave = leads.gave;
+  marked = marked_first leads.bytes leads.fails records Io leads.marked;
+}
+found_so_far known known_fails rounds to_come fails records state (step.Faulted fault) leads = record {
+  bytes = leads.bytes;
+  fails = leads.fails;
+  gave = leads.gave;
+  marked = marked_first leads.bytes leads.fails records (Ended _) leads.marked;
+}
 
 -- of records in a row, the one after the first ones
 pub each_at : (fits : ℕ → List ℕ → Type 0) (first : ℕ) (before : List (List ℕ)) (bytes : List ℕ) (rest : List (List ℕ)) → EachAt fits first (before ++ bytes ∷ rest)

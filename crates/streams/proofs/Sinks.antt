@@ -4,19 +4,9 @@ use Rattle.std.proofs.lemmas.List.{drop-take, take-append-drop, take-take}
 use Rattle.std.specs.Io.KnownBytes.{Appends, Keeps}
 use Rattle.streams.specs.declared.faults.WriteFault.{WriteFault}
 use Rattle.streams.specs.declared.faults.WriteFault.TheVariants.{Write, Memory}
+use Rattle.streams.specs.FrameLines.{added_front}
+pub use Rattle.streams.specs.FrameLines.{added_none, added_both}
 use Rattle.streams.specs.Sink.{Writes, AppendsPrefix, IsInTransit, StaysInTransit}
-
--- nothing added is an addition
-pub added_none : (a : Option (List ℕ)) → Appends a a []
-added_none None = tt
-added_none (Some x) = sym (append-nil x)
-
--- one addition and then another
-pub added_both : (a b c : Option (List ℕ)) (xs ys : List ℕ) → Appends a b xs → Appends b c ys → Appends a c (xs ++ ys)
-added_both None b c xs ys p q = tt
-added_both (Some x) None c xs ys p q = absurd p
-added_both (Some x) (Some y) None xs ys p q = absurd q
-added_both (Some x) (Some y) (Some z) xs ys p q = q ∙ ap (λ l. l ++ ys) p ∙ append_assoc x xs ys
 
 -- an addition and then a call that adds nothing
 pub added_kept : (a b c : Option (List ℕ)) (xs : List ℕ) → Appends a b xs → Keeps b c → Appends a c xs
@@ -84,3 +74,26 @@ flushed_whole start old new waiting failed text (Ok x) way w =
 flushed_whole start old new waiting failed text (Err Write) way w =
     (w.0, let f = sent_front start old new waiting text [] way w.1 in (f.0, f.1, sym (append-nil text) ∙ f.2, f.3))
 flushed_whole start old new waiting failed text (Err Memory) way w = w
+
+-- a text was added, and then another was written
+pub written_both : {A : Type 0} (old mid new : Option (List ℕ)) (now : Bool) (xs ys : List ℕ) (r : Result A WriteFault)
+    → Appends old mid xs → Writes mid new now ys r → Writes old new now (xs ++ ys) r
+written_both old mid new now xs ys (Ok _) first then = (then.0, added_both old mid new xs ys first then.1)
+written_both old mid new now xs ys (Err Write) first then = (then.0, added_front old mid new xs ys first then.1)
+written_both old mid new now xs ys (Err Memory) first then = then
+
+-- a prefix of a text is one of a longer text
+pub front_longer : (old new : Option (List ℕ)) (xs ys : List ℕ) → AppendsPrefix old new xs → AppendsPrefix old new (xs ++ ys)
+front_longer old new xs ys f = (f.0, f.1 ++ ys, ap (λ l. l ++ ys) f.2 ∙ append_assoc f.0 f.1 ys, f.3)
+
+-- a text was not written whole: no longer one was
+pub writing_failed : (A B : Type 0) (old new : Option (List ℕ)) (failed : Bool) (xs ys : List ℕ) (fault : WriteFault)
+    → Writes {A = A} old new failed xs (Err fault) → Writes {A = B} old new failed (xs ++ ys) (Err fault)
+writing_failed A B old new failed xs ys Write w = (w.0, front_longer old new xs ys w.1)
+writing_failed A B old new failed xs ys Memory w = w
+
+-- a prefix of a text that was not written whole was added
+pub failed_front : (A : Type 0) (old new : Option (List ℕ)) (failed : Bool) (text : List ℕ) (fault : WriteFault) → Writes {A = A} old new failed text (Err fault)
+    → AppendsPrefix old new text
+failed_front A old new failed text Write w = w.1
+failed_front A old new failed text Memory w = absurd w

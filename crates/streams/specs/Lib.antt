@@ -5,5 +5,5 @@ pub mod Marks
 pub mod Memory
 pub mod Reading
 pub mod Placing
-pub mod ReadMessage
 pub mod Text
+pub mod FrameLines

@@ -32,7 +32,8 @@ impl Model for Frames {
 impl Frames {
     ghost use Rattle.std.specs.Prelude.{◌≡◌};
 
-    pub(crate) fn new(records: Vec<Record>, mark: Mark) -> Frames
+    /// These records and this mark.
+    pub fn new(records: Vec<Record>, mark: Mark) -> Frames
         ensures records { result.records ≡ records.items }
         ensures mark { result.mark ≡ mark }
     {

@@ -1,6 +1,8 @@
 //! Reading a source into records and a mark.
-ghost use Rattle.std.specs.Prelude.{◌≡◌, ◌+◌, ◌<◌, ◌≤◌, ℕ, List, length, vec_len, IfOk};
+ghost use Rattle.std.specs.Prelude.{◌≡◌, ◌+◌, ◌<◌, ◌≤◌, ℕ, List, length, vec_len, IfOk, IfErr, OnOk};
 ghost use Rattle.planar_code.specs.declared.TheConstants.{MAX_RECORDS};
+ghost use Rattle.planar_code.specs.declared.ending.Ending.{Ending};
+ghost use Rattle.streams.specs.declared.frames.Mark.{Mark};
 ghost use Rattle.planar_code.specs.FramerState.{StandsAt};
 ghost use Rattle.streams.specs.Reading.{ReadsOn, IsFoundIn};
 ghost use Rattle.streams.specs.Placing.{ArePlaced};
@@ -39,6 +41,7 @@ pub fn piece_buffer(alloc: Global) -> Result<Vec<u8>, AllocError>
     zeros(alloc, PIECE)
 }
 
+/// A list of this many zeros.
 fn zeros(alloc: Global, count: usize) -> Result<Vec<u8>, AllocError>
     ensures { IfOk result (λ v. vec_len v ≡ count) }
 {
@@ -88,7 +91,8 @@ pub struct SourceEnd {
 ///
 /// # Errors
 ///
-/// The receiver's refusal, if it refuses records. It has then received the records before them.
+/// The receiver's refusal, if it refuses records. It has then received the records before them; all these are the first
+/// ones of the source, as if memory had run out after them.
 pub fn read_source<T: Tap, V: Receiver>(
     mut source: T,
     alloc: Global,
@@ -98,8 +102,12 @@ pub fn read_source<T: Tap, V: Receiver>(
     requires room { 0 < length buffer.old }
     requires accepted { (first : ℕ) (records : List (List ℕ)) → ArePlaced (T.to_come source) first records
         → V.accepts receiver.old first records }
+    requires ready { V.ready receiver.old }
     ensures found { IfOk result (λ end. (records : List (List ℕ)) × V.received 0 records receiver.old receiver.new
         × (end.count ≡ length records) × IsFoundIn (T.to_come source) (T.fails source) records end.mark) }
+    ensures ready { OnOk result (V.ready receiver.new) }
+    ensures refused { IfErr result (λ refusal. (records : List (List ℕ)) × V.refused 0 records receiver.old receiver.new refusal
+        × IsFoundIn (T.to_come source) (T.fails source) records (Mark.Ended Ending.Memory)) }
     ensures stays { V.stays receiver.old receiver.new }
 {
     let mut framer = match Framer::new(alloc) {

@@ -4,11 +4,19 @@
 
 mod comparing;
 mod numbers;
+mod planes;
+mod points;
 pub mod records;
+mod shapes;
+mod sources;
 mod waiting;
 mod writers;
 
 pub use comparing::compared;
 pub use numbers::Random;
+pub use planes::{plane_in, read, record_of};
+pub use points::{Place, points_in};
+pub use shapes::{Case, L, ONE_BEND, R, prices_in, shape_in, strings_in};
+pub use sources::Failing;
 pub use waiting::wait_for_count;
 pub use writers::Narrow;

@@ -2,7 +2,7 @@
 
 ghost use Rattle.std.specs.Prelude.{◌≡◌, ◌++◌, List, length, IfOk, IfSome, OnOk};
 ghost use Rattle.ortho_rep.specs.declared.points.Point.{Point};
-ghost use Rattle.ortho_rep.specs.Storage.{slices_at, AreStarts};
+ghost use Rattle.common.specs.Slices.{slices_at, AreStarts};
 
 use crate::segments::Segments;
 use ortho_rep::{Point, Points};

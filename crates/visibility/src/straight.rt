@@ -6,19 +6,19 @@ use std::alloc::{AllocError, Global};
 
 /// The vertices to which straight edges along one axis lead from a vertex; 0 if there is none.
 #[derive(Clone, Copy, Debug)]
-struct Beside {
+struct LineNeighbours {
     ahead: u16,
     back: u16,
 }
 
 /// No straight edges lead from a vertex.
-const ALONE: Beside = Beside { ahead: 0, back: 0 };
+const ALONE: LineNeighbours = LineNeighbours { ahead: 0, back: 0 };
 
 /// The straight edges along one axis.
 #[derive(Drop)]
 pub(crate) struct StraightEdges {
     /// For each vertex, by its number, those beside it.
-    beside: Vec<Beside>,
+    beside: Vec<LineNeighbours>,
 }
 
 impl StraightEdges {

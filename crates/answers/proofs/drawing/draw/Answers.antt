@@ -1,7 +1,7 @@
 use Rattle.std.proofs.Common.{rules, arith, sym, subst}
 use Rattle.drawing_check.specs.Regions.{HasRegions}
 use Rattle.drawing_laws.proofs.DrawnRegions.{least_points_have_regions}
-use Rattle.entries.specs.Lengths.{IsNear}
+use Rattle.reports.specs.Lengths.{IsNear}
 use Rattle.answers.proofs.Lengths.{quick_is_near, still_below}
 use Rattle.answers.proofs.drawing.draw.Goals as goal
 

@@ -1,7 +1,7 @@
 use Rattle.std.proofs.Common.{IfOk, subst}
-use Rattle.entries.specs.Lengths.{IsNear, IsNoLonger, IsQuick}
-use Rattle.entries.specs.Drawn.{IsCause, IsDrawn}
-use Rattle.drawing_laws.proofs.Drawings.{none_shown}
+use Rattle.reports.specs.Lengths.{IsNear, IsNoLonger, IsQuick}
+use Rattle.reports.specs.Drawn.{IsCause, IsDrawn}
+use Rattle.answers.proofs.DrawnAnswers.{none_shown}
 use Rattle.answers.proofs.drawing.drawing_of.Goals as goal
 
 pub unreachable-requires : goal.unreachable-requires

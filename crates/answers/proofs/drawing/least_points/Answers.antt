@@ -1,10 +1,10 @@
 use Rattle.std.proofs.Common.{rules, subst}
 use Rattle.compact.specs.Monotone.{IsCompactFault}
-use Rattle.drawing_laws.proofs.Drawings.{none_shown}
+use Rattle.answers.proofs.DrawnAnswers.{none_shown}
 use Rattle.drawing_laws.proofs.Drawn.{least_points_draw}
 use Rattle.drawing_laws.proofs.DrawnRegions.{least_points_have_regions}
-use Rattle.entries.specs.declared.cause.Cause.TheVariants as cause
-use Rattle.entries.specs.Lengths.{IsQuick}
+use Rattle.reports.specs.declared.cause.Cause.TheVariants as cause
+use Rattle.reports.specs.Lengths.{IsQuick}
 use Rattle.answers.proofs.Lengths.{quick_is_no_longer, quick_is_near}
 use Rattle.answers.proofs.drawing.least_points.Goals as goal
 

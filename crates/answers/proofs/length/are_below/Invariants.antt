@@ -1,6 +1,5 @@
 use Rattle.std.proofs.Common.{ℕ, ◌<◌, All}
-use Rattle.ortho_rep.specs.Points.{corners_at}
-use Rattle.entries.specs.Lengths.{IsBelow}
+use Rattle.ortho_rep.specs.Points.{corners_at, IsBelow}
 use Rattle.answers.proofs.length.are_below.Given as goal
 
 abbrev pub invariant-loop-edge : goal.invariant-loop-edge

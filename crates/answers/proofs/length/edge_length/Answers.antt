@@ -4,7 +4,7 @@ use Rattle.faces.specs.Planes.{reverse_dart}
 use Rattle.ortho_rep.specs.Edges.{is_lesser}
 use Rattle.ortho_rep.proofs.EdgeNumbers.{edge_number-le}
 use Rattle.drawing_check.proofs.Leaving.{number_of_lesser, number_of_greater}
-use Rattle.entries.specs.Lengths.{path_length}
+use Rattle.reports.specs.Lengths.{path_length}
 use Rattle.answers.proofs.Lengths.{length_below-more, length_below-kept}
 use Rattle.answers.proofs.length.edge_length.Goals as goal
 use Rattle.answers.proofs.length.edge_length.Goals.{then-dart-reverse+in_ok-more+in_ok-length, else-dart-reverse}

@@ -1,6 +1,6 @@
 use Rattle.std.proofs.Common.{◌≡◌, ◌+◌, ◌++◌, ◌∷◌, [], drop}
 use Rattle.drawing_check.specs.Routes.{path_of}
-use Rattle.entries.specs.Lengths.{path_length}
+use Rattle.reports.specs.Lengths.{path_length}
 use Rattle.answers.proofs.length.path_length.Given as goal
 
 -- the way so far and the rest are the whole

@@ -1,5 +1,5 @@
 use Rattle.planar_code.specs.Stream.{lists_of}
-use Rattle.drawing_laws.proofs.Drawings.{answer_drawn}
+use Rattle.answers.proofs.DrawnAnswers.{answer_drawn}
 use Rattle.answers.proofs.stages.answer.Goals as goal
 
 pub invariant_of-result : goal.invariant_of-result

@@ -1,6 +1,6 @@
 use Rattle.std.proofs.Common.{◌≡◌, ◌+◌, length, arith, subst, sym}
-use Rattle.entries.specs.Books.{IsBook, AreBooks}
-use Rattle.entries.proofs.KeptBooks.{books_more}
+use Rattle.reports.specs.Books.{IsBook, AreBooks}
+use Rattle.reports.proofs.KeptBooks.{books_more}
 use Rattle.collector.proofs.plain.plain_books.Goals as goal
 
 pub loop-file-preserved : goal.loop-file-preserved

@@ -1,6 +1,6 @@
 use Rattle.std.proofs.Common.{◌≡◌, vec_len}
 use Rattle.streams.specs.declared.reading.TheConstants.{PIECE}
-use Rattle.entries.specs.Books.{AreBooks}
+use Rattle.reports.specs.Books.{AreBooks}
 use Rattle.collector.proofs.plain.plain_books.Given as goal
 
 abbrev pub invariant-loop-file : goal.invariant-loop-file

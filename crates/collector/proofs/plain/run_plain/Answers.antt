@@ -1,4 +1,4 @@
-use Rattle.printing.proofs.Books.{drawn_books}
+use Rattle.collector.proofs.Books.{drawn_books}
 use Rattle.collector.proofs.plain.run_plain.Goals as goal
 
 pub returns-in-Ok-clause-drawn : goal.returns-in-Ok-clause-drawn

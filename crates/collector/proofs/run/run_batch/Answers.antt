@@ -2,8 +2,8 @@ use Rattle.std.proofs.Common.{List, IfOk, arith, subst}
 use Rattle.lanes.specs.Notes.{Note}
 use Rattle.lanes.specs.Drafts.{AreDrafts}
 use Rattle.lanes.specs.Files.{AreToldWhole}
-use Rattle.entries.specs.Abouts.{about_of}
-use Rattle.printing.proofs.Books.{drawn_books}
+use Rattle.reports.specs.Abouts.{about_of}
+use Rattle.collector.proofs.Books.{drawn_books}
 use Rattle.collector.proofs.run.run_batch.Goals as goal
 
 pub books_of-requires-clause-ready : goal.books_of-requires-clause-ready

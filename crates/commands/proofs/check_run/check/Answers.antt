@@ -1,4 +1,4 @@
-use Rattle.std.proofs.Common.{ap, inr}
+use Rattle.std.proofs.Common.{inr, refl}
 use Rattle.std.proofs.lemmas.Result.{err_from_is_err_and}
 use Rattle.commands.proofs.FaultStatus.{no_write, as_written}
 use Rattle.commands.proofs.ReportBegun.{on_err}
@@ -7,13 +7,13 @@ use Rattle.commands.proofs.check_run.check.Goals as goal
 
 pub returns-clause-written : goal.returns-clause-written
 returns-clause-written g c =
-    verdicts_less _ _ (ap (λ json. record { json = json; faces = c.args.asked.faces }) c.is_json.ensures) _ _ _ _ _ _ _ _ _ _
+    verdicts_less _ _ refl _ _ _ _ _ _ _ _ _ _
     c.in_ok-graphs.ensures.known c.in_ok-lines.ensures.known _ _ c.in_ok-checked.ensures.whole
 
 pub returns-in_err-checked-clause-begun : goal.returns-in_err-checked-clause-begun
 returns-in_err-checked-clause-begun g c =
     on_err c.from_residual-in_err-checked.result (inr (
-    begun_verdicts_less _ _ (ap (λ json. record { json = json; faces = c.args.asked.faces }) c.is_json.ensures) _ _ _ _ _ _ _ _ _ _
+    begun_verdicts_less _ _ refl _ _ _ _ _ _ _ _ _ _
     c.in_ok-graphs.ensures.known c.in_ok-lines.ensures.known c.in_err-checked.ensures.begun
     ))
 

@@ -1,7 +1,7 @@
 use Rattle.std.proofs.Common.{◌<◌, ◌≤◌, ◌≡◌, ◌⊎◌, ◌↔◌, Err, IfErr, rules, vec_len, subst}
 use Rattle.streams.specs.declared.faults.BatchFault.TheVariants.{TooManyFiles, BadLanes}
 use Rattle.ruled_lanes.specs.declared.limits.TheConstants.{LANES}
-use Rattle.entries.specs.declared.limits.TheConstants.{MAX_FILES}
+use Rattle.reports.specs.declared.limits.TheConstants.{MAX_FILES}
 use Rattle.command_line.specs.declared.faults.Fault.{Fault}
 use Rattle.named_sources.specs.Naming.{meanings_in}
 use Rattle.command_line.specs.Refusals.{IsMisuse}

@@ -1,4 +1,4 @@
-use Rattle.ortho_rep.specs.Storage.{slices_at}
+use Rattle.common.specs.Slices.{slices_at}
 use Rattle.compact.proofs.Placing.{least_points}
 use Rattle.compact.proofs.points.compact_in.Goals as goal
 

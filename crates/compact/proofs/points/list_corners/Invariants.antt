@@ -1,6 +1,6 @@
 use Rattle.std.proofs.Common.{◌≡◌, ◌+◌, ◌≤◌, length, slice_index}
 use Rattle.std.specs.Prelude.{vec_len, vec_capacity}
-use Rattle.ortho_rep.proofs.PushedLists.{IsConcatenated}
+use Rattle.common.proofs.PushedLists.{IsConcatenated}
 use Rattle.compact.proofs.Placing.{IsCornersOf}
 use Rattle.compact.proofs.points.list_corners.Given as goal
 

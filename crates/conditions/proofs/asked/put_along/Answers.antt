@@ -15,10 +15,10 @@ returns-then-dart-reverse-clause-put c = λ said.
     let p = c.args.plane.now in
     let d : ℕ = c.args.dart in
     let t : ℤ = c.args.turns in
-    let v : ℤ = to_z w32 (of_z w32 c.forth.result) in
+    let v : ℤ = to_z w32 (of_z w32 c.widened.result) in
     let r : c.reverse-reverse.result ≡ reverse_dart p d = c.reverse-reverse.ensures.value ∙ ap (λ (g : List (List ℕ)). reverse_of g d) c.graph.ensures.value in
     let order : d < reverse_dart p d = omega (arith, r, c.if-dart-reverse.true) in
-    let value : v ≡ t = passed c.forth.result c.forth.ensures.few ∙ (c.forth.ensures.value ∙ to_z-of_z w16 t c.ranges.turns) in
+    let value : v ≡ t = passed c.widened.result c.widened.ensures.few ∙ (c.widened.ensures.value ∙ to_z-of_z w16 t c.ranges.turns) in
     at_lesser p d d t v (λ (k : ℕ) (z : ℤ). IsPut k z c.args.found.now c.put_turns.new.found) order refl value (c.put_turns.ensures.put said)
 
 pub returns-then-dart-reverse-clause-other : goal.returns-then-dart-reverse-clause-other
@@ -26,10 +26,10 @@ returns-then-dart-reverse-clause-other c = λ said.
     let p = c.args.plane.now in
     let d : ℕ = c.args.dart in
     let t : ℤ = c.args.turns in
-    let v : ℤ = to_z w32 (of_z w32 c.forth.result) in
+    let v : ℤ = to_z w32 (of_z w32 c.widened.result) in
     let r : c.reverse-reverse.result ≡ reverse_dart p d = c.reverse-reverse.ensures.value ∙ ap (λ (g : List (List ℕ)). reverse_of g d) c.graph.ensures.value in
     let order : d < reverse_dart p d = omega (arith, r, c.if-dart-reverse.true) in
-    let value : v ≡ t = passed c.forth.result c.forth.ensures.few ∙ (c.forth.ensures.value ∙ to_z-of_z w16 t c.ranges.turns) in
+    let value : v ≡ t = passed c.widened.result c.widened.ensures.few ∙ (c.widened.ensures.value ∙ to_z-of_z w16 t c.ranges.turns) in
     at_lesser p d d t v (λ (k : ℕ) (z : ℤ). HoldsOther k z c.args.found.now) order refl value (c.put_turns.ensures.other said)
 
 pub returns-else-dart-reverse-clause-put : goal.returns-else-dart-reverse-clause-put
@@ -37,10 +37,10 @@ returns-else-dart-reverse-clause-put c = λ said.
     let p = c.args.plane.now in
     let d : ℕ = c.args.dart in
     let t : ℤ = c.args.turns in
-    let v : ℤ = to_z w32 (of_z w32 c.back.result) in
+    let v : ℤ = to_z w32 (of_z w32 c.reversed.result) in
     let r : c.reverse-reverse.result ≡ reverse_dart p d = c.reverse-reverse.ensures.value ∙ ap (λ (g : List (List ℕ)). reverse_of g d) c.graph.ensures.value in
     let order : reverse_dart p d ≤ d = omega (arith, r, c.if-dart-reverse.false) in
-    let value : v ≡ neg_ℤ t = passed c.back.result c.back.ensures.few ∙ (c.back.ensures.value ∙ ap neg_ℤ (to_z-of_z w16 t c.ranges.turns)) in
+    let value : v ≡ neg_ℤ t = passed c.reversed.result c.reversed.ensures.few ∙ (c.reversed.ensures.value ∙ ap neg_ℤ (to_z-of_z w16 t c.ranges.turns)) in
     at_greater p d c.reverse-reverse.result t v (λ (k : ℕ) (z : ℤ). IsPut k z c.args.found.now c.put_turns-else-dart-reverse.new.found) order r value (c.put_turns-else-dart-reverse.ensures.put said)
 
 pub returns-else-dart-reverse-clause-other : goal.returns-else-dart-reverse-clause-other
@@ -48,8 +48,8 @@ returns-else-dart-reverse-clause-other c = λ said.
     let p = c.args.plane.now in
     let d : ℕ = c.args.dart in
     let t : ℤ = c.args.turns in
-    let v : ℤ = to_z w32 (of_z w32 c.back.result) in
+    let v : ℤ = to_z w32 (of_z w32 c.reversed.result) in
     let r : c.reverse-reverse.result ≡ reverse_dart p d = c.reverse-reverse.ensures.value ∙ ap (λ (g : List (List ℕ)). reverse_of g d) c.graph.ensures.value in
     let order : reverse_dart p d ≤ d = omega (arith, r, c.if-dart-reverse.false) in
-    let value : v ≡ neg_ℤ t = passed c.back.result c.back.ensures.few ∙ (c.back.ensures.value ∙ ap neg_ℤ (to_z-of_z w16 t c.ranges.turns)) in
+    let value : v ≡ neg_ℤ t = passed c.reversed.result c.reversed.ensures.few ∙ (c.reversed.ensures.value ∙ ap neg_ℤ (to_z-of_z w16 t c.ranges.turns)) in
     at_greater p d c.reverse-reverse.result t v (λ (k : ℕ) (z : ℤ). HoldsOther k z c.args.found.now) order r value (c.put_turns-else-dart-reverse.ensures.other said)

@@ -1,7 +1,7 @@
 use Rattle.std.proofs.Common.{◌∙◌, ap, subst, sym}
 use Rattle.common.specs.declared.choice.Choice.{Choice}
 use Rattle.faces.specs.Planes.{with_outer}
-use Rattle.conditions.specs.Meanings.{MeaningModel}
+use Rattle.conditions.specs.DartConditions.{DartConditionsModel}
 use Rattle.conditions.specs.Chosen.{IsChosenKeeping}
 use Rattle.conditions.proofs.Greatest.{greatest_moved}
 use Rattle.conditions.proofs.Kept.{whenever}
@@ -11,7 +11,7 @@ pub returns-in-First-clause-chosen : goal.returns-in-First-clause-chosen
 returns-in-First-clause-chosen c =
     let p = c.args.plane.now in
     let q = c.first_shape.new.plane in
-    let given = c.args.meant.now.given in
-    let barred = c.args.meant.now.barred in
+    let given = c.args.by_darts.now.given in
+    let barred = c.args.by_darts.now.barred in
     whenever c.first_shape.result _
-    (subst (λ (choice : Choice). IsChosenKeeping choice q given barred) (sym c.in-First.is) (greatest_moved p q barred c.args.meant.now.greatest (c.first_shape.ensures.outer_moved ∙ ap (λ (m : MeaningModel). with_outer c.args.plane.now m.greatest) c.meant.view_is) c.requires))
+    (subst (λ (choice : Choice). IsChosenKeeping choice q given barred) (sym c.in-First.is) (greatest_moved p q barred c.args.by_darts.now.greatest (c.first_shape.ensures.outer_moved ∙ ap (λ (m : DartConditionsModel). with_outer c.args.plane.now m.greatest) c.by_darts.view_is) c.requires))

@@ -2,7 +2,7 @@ use Rattle.std.proofs.Common.{◌≡◌, ◌∙◌, ◌++◌, ℕ, List, [], ◌
 use Rattle.dissect.specs.Tables.{dart_map_of}
 use Rattle.dissect.specs.Paths.{IsPath}
 use Rattle.dissect.proofs.PathsOfEdges.{IsPathOf}
-use Rattle.ortho_rep.proofs.PushedLists.{concatenated-starts, concatenated-pushed, concatenated-AreStarts, concatenated-slices_at}
+use Rattle.common.proofs.PushedLists.{concatenated-starts, concatenated-pushed, concatenated-AreStarts, concatenated-slices_at}
 use Rattle.dissect.proofs.parts.paths_of.Goals as goal
 
 pub edges-init : goal.edges-init

@@ -1,6 +1,6 @@
 use Rattle.dissect.specs.Tables.{dart_map_of}
 use Rattle.dissect.proofs.PathsOfEdges.{IsPathOf}
-use Rattle.ortho_rep.proofs.PushedLists.{IsConcatenated}
+use Rattle.common.proofs.PushedLists.{IsConcatenated}
 use Rattle.dissect.proofs.parts.paths_of.Given as goal
 
 abbrev pub invariant-edges : goal.invariant-edges

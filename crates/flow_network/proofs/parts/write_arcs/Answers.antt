@@ -1,6 +1,6 @@
 use Rattle.std.proofs.Common.{◌≡◌, ◌+◌, ◌-◌, ◌<◌, ℕ, List, length, length-set, get_or, set, arith, sym, ap, subst, ◌∙◌}
-use Rattle.networks.specs.declared.arc.Arc.{Arc}
-use Rattle.networks.specs.Networks.{no_arc}
+use Rattle.min_cost_flow.specs.declared.arc.Arc.{Arc}
+use Rattle.min_cost_flow.specs.Networks.{no_arc}
 use Rattle.embedding.specs.Darts.{head_of, reverse_of, dart_count}
 use Rattle.faces.specs.Planes.{darts, vertices, head, reverse_dart, face_at}
 use Rattle.flow_network.specs.Given.{angle_given, turns_given}
@@ -27,10 +27,10 @@ write-preserved c =
     let across : c.from-first_face.result + c.from-in-write.result ≡ vertices p + face_at p (reverse_dart p c.write.dart) = omega (arith, first, c.from-in-write.ensures, c.face_of-in-write.ensures.value, back) in
     let corner : ℕ → Arc = λ d. record { from = head p d - 1; to = vertices p + face_at p d; cap = corner_cap (angle_given c.args.given.now d); cost = 0 } in
     let crossing : ℕ → Arc = λ d. record { from = vertices p + face_at p d; to = vertices p + face_at p (reverse_dart p d); cap = crossing_cap (turns_given p c.args.given.now d); cost = 1 } in
-    let x : Arc = record { from = c.from-vertex.result - 1; to = c.from-first_face.result + c.from.result; cap = c.cap_at-corner_cap.result; cost = 0 } in
-    let y : Arc = record { from = c.from-first_face.result + c.from.result; to = c.from-first_face.result + c.from-in-write.result; cap = c.cap_across-crossing_cap.result; cost = 1 } in
-    let x_is : x ≡ corner j = arc_alike _ _ _ _ _ _ 0 vertex face c.cap_at-corner_cap.ensures ∙ ap corner (sym place) in
-    let y_is : y ≡ crossing j = arc_alike _ _ _ _ _ _ 1 face across c.cap_across-crossing_cap.ensures ∙ ap crossing (sym place) in
+    let x : Arc = record { from = c.from-vertex.result - 1; to = c.from-first_face.result + c.from.result; cap = c.corner_cap-corner_cap.result; cost = 0 } in
+    let y : Arc = record { from = c.from-first_face.result + c.from.result; to = c.from-first_face.result + c.from-in-write.result; cap = c.crossing_cap-crossing_cap.result; cost = 1 } in
+    let x_is : x ≡ corner j = arc_alike _ _ _ _ _ _ 0 vertex face c.corner_cap-corner_cap.ensures ∙ ap corner (sym place) in
+    let y_is : y ≡ crossing j = arc_alike _ _ _ _ _ _ 1 face across c.crossing_cap-crossing_cap.ensures ∙ ap crossing (sym place) in
     record {
       size = omega (arith, long, all, length-set {A = Arc});
       corner = λ d l. first_written xs n j x y no_arc corner inside long x_is (λ k m. c.write.invariant.corner k (omega (arith, place, m))) d (omega (arith, place, l));

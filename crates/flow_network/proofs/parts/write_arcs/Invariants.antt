@@ -1,6 +1,6 @@
 use Rattle.std.proofs.Common.{◌≡◌, ◌+◌, ◌-◌, ◌<◌, ℕ, length, get_or}
 use Rattle.faces.specs.Planes.{darts, vertices, head, reverse_dart, face_at}
-use Rattle.networks.specs.Networks.{no_arc}
+use Rattle.min_cost_flow.specs.Networks.{no_arc}
 use Rattle.flow_network.specs.Given.{angle_given, turns_given}
 use Rattle.flow_network.specs.FaceNet.{corner_cap, crossing_cap}
 use Rattle.flow_network.proofs.parts.write_arcs.Given as goal

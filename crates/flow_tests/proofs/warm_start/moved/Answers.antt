@@ -2,7 +2,7 @@ use Rattle.std.proofs.Common.{rules, w32, subst, sym}
 use Rattle.std.proofs.lemmas.Int.{to_z-of_z}
 use mir.Val.{SFits}
 use Rattle.std.specs.Prelude.{ℤ, pos, negsuc, ◌≤ℤ◌}
-use Rattle.networks.specs.Networks.{NetworkModel, shifted, HasSuppliesInRange}
+use Rattle.min_cost_flow.specs.Networks.{NetworkModel, shifted, HasSuppliesInRange}
 use Rattle.flow_tests.proofs.FairSupplies.{still_fair}
 use Rattle.flow_tests.proofs.warm_start.moved.Goals as goal
 

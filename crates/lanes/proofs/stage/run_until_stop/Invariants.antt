@@ -8,6 +8,6 @@ invariant-loop g l = record {
   from_same : TakesFromSame l.fn.taker l.taker;
   stays : g.O.Outlet.stays l.initial.to l.to;
   same : g.O.Outlet.told l.to ≡ notes g.A.Numbered.about (taken l.taker);
-  none : l.bench.filling.items.items ≡ [];
+  none : l.running.filling.items.items ≡ [];
   going : GoOn (g.O.Outlet.told l.to);
 }

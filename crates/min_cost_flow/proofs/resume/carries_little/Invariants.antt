@@ -1,6 +1,6 @@
 use Rattle.std.proofs.Common.{◌<◌, ◌≤◌, ◌+◌, ℕ}
 use Rattle.min_cost_flow.specs.declared.resume.TheConstants.{MAX_CARRIED}
-use Rattle.networks.specs.ResidualArcs.{capacity_at, carried}
+use Rattle.min_cost_flow.specs.ResidualArcs.{capacity_at, carried}
 use Rattle.min_cost_flow.proofs.resume.carries_little.Given as goal
 
 abbrev pub invariant-loop-i : goal.invariant-loop-i

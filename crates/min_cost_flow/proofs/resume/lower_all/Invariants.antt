@@ -1,6 +1,6 @@
 use Rattle.std.proofs.Common.{◌≡◌, ◌<◌, ◌≤◌, ℕ}
 use Rattle.std.specs.Prelude.{◌-ℤ◌}
-use Rattle.networks.specs.Flow.{at_nodes}
+use Rattle.min_cost_flow.specs.Flow.{at_nodes}
 use Rattle.min_cost_flow.proofs.resume.lower_all.Given as goal
 
 abbrev pub invariant-loop-at_node : goal.invariant-loop-at_node

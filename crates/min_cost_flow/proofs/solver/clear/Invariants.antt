@@ -1,6 +1,6 @@
 use Rattle.std.proofs.Common.{◌≡◌, ◌<◌, ℕ}
 use Rattle.std.specs.Prelude.{length}
-use Rattle.networks.specs.Search.{far, labels, predecessors, orders, places}
+use Rattle.min_cost_flow.specs.Search.{far, labels, predecessors, orders, places}
 use Rattle.min_cost_flow.proofs.solver.clear.Given as goal
 
 abbrev pub invariant-loop-j : goal.invariant-loop-j

@@ -3,14 +3,14 @@ use Rattle.std.specs.Prelude.{◌<ℤ◌, int_lt}
 use Rattle.std.proofs.lemmas.List.{with_items_is}
 use mir.Syntax.{w32}
 use mir.Val.{SFits, of_z}
-use Rattle.networks.specs.Networks.{node_count}
-use Rattle.networks.specs.Flow.{at_nodes}
-use Rattle.networks.specs.ResidualArcs.{IsLinked}
-use Rattle.networks.specs.Search.{far, labels, predecessors, orders, places, IsGraph, AreFeasiblePotentials, IsReached, IsNearest, AreFeasible, IsRemaining}
-use Rattle.networks.proofs.Signs.{same_from_bits}
-use Rattle.networks.proofs.Reaching.{strictly, reached_fits}
+use Rattle.min_cost_flow.specs.Networks.{node_count}
+use Rattle.min_cost_flow.specs.Flow.{at_nodes}
+use Rattle.min_cost_flow.specs.ResidualArcs.{IsLinked}
+use Rattle.min_cost_flow.specs.Search.{far, labels, predecessors, orders, places, IsGraph, AreFeasiblePotentials, IsReached, IsNearest, AreFeasible, IsRemaining}
+use Rattle.min_cost_flow.proofs.Signs.{same_from_bits}
+use Rattle.min_cost_flow.proofs.Reaching.{strictly, reached_fits}
 use Rattle.min_cost_flow.specs.Overfull.{IsOverfull, HasStopped}
-use Rattle.networks.specs.declared.state.Visit.{Visit}
+use Rattle.min_cost_flow.specs.declared.search_state.Visit.{Visit}
 use Rattle.min_cost_flow.proofs.Solving.{is_graph, is_priced, can_augment, nothing_found, path_looks, short_path, label_bounds}
 use Rattle.min_cost_flow.proofs.solver.find_path.Goals as goal
 

@@ -1,6 +1,6 @@
 use Rattle.std.proofs.Common.{◌≡◌, ◌<◌, ℕ}
-use Rattle.networks.specs.Flow.{amounts}
-use Rattle.networks.specs.ResidualArcs.{capacity_at, carried}
+use Rattle.min_cost_flow.specs.Flow.{amounts}
+use Rattle.min_cost_flow.specs.ResidualArcs.{capacity_at, carried}
 use Rattle.min_cost_flow.proofs.solver.read_flow.Given as goal
 
 abbrev pub invariant-loop-i : goal.invariant-loop-i

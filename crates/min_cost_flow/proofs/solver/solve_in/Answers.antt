@@ -1,8 +1,8 @@
 use Rattle.std.proofs.Common.{◌≡◌, length, ℕ, ℤ, ◌∙◌, ap, arith, Vec, Global}
 use Rattle.std.proofs.lemmas.List.{with_items_is}
-use Rattle.networks.specs.Networks.{arc_count}
-use Rattle.networks.specs.Flow.{amounts, at_nodes, SolvedModel}
-use Rattle.networks.specs.Residuals.{flow_of}
+use Rattle.min_cost_flow.specs.Networks.{arc_count}
+use Rattle.min_cost_flow.specs.Flow.{amounts, at_nodes, SolvedModel}
+use Rattle.min_cost_flow.specs.Residuals.{flow_of}
 use Rattle.min_cost_flow.specs.Round.{IsRoundDone}
 use Rattle.min_cost_flow.proofs.Duality.{least_by_potentials}
 use Rattle.min_cost_flow.proofs.Rounds.{done_same}

@@ -1,8 +1,8 @@
 use Rattle.std.proofs.Common.{arith, sym, ◌∙◌}
 use Rattle.std.specs.Prelude.{◌-ℤ◌}
-use Rattle.networks.specs.Flow.{at_nodes}
-use Rattle.networks.specs.Search.{IsPut, IsWithinFar, labels, orders}
-use Rattle.networks.proofs.Signs.{fits_within, label_fits, label_passed, passed_within}
+use Rattle.min_cost_flow.specs.Flow.{at_nodes}
+use Rattle.min_cost_flow.specs.Search.{IsPut, IsWithinFar, labels, orders}
+use Rattle.min_cost_flow.proofs.Signs.{fits_within, label_fits, label_passed, passed_within}
 use Rattle.min_cost_flow.proofs.Solving.{put_label, moved_more}
 use Rattle.min_cost_flow.proofs.solver.update_potentials.Goals as goal
 

@@ -1,7 +1,7 @@
 use Rattle.std.proofs.Common.{◌≡◌, ◌≢◌, ◌<◌, ℕ}
 use Rattle.std.specs.Prelude.{◌-ℤ◌, length}
-use Rattle.networks.specs.Flow.{at_nodes}
-use Rattle.networks.specs.Search.{labels, orders}
+use Rattle.min_cost_flow.specs.Flow.{at_nodes}
+use Rattle.min_cost_flow.specs.Search.{labels, orders}
 use Rattle.min_cost_flow.proofs.solver.update_potentials.Given as goal
 
 abbrev pub invariant-loop-j : goal.invariant-loop-j

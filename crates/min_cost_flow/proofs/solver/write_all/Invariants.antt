@@ -1,5 +1,5 @@
 use Rattle.std.proofs.Common.{◌≡◌, ◌<◌, ℕ}
-use Rattle.networks.specs.Flow.{at_nodes}
+use Rattle.min_cost_flow.specs.Flow.{at_nodes}
 use Rattle.min_cost_flow.proofs.solver.write_all.Given as goal
 
 abbrev pub invariant-loop-at_node : goal.invariant-loop-at_node

@@ -1,7 +1,7 @@
 use Rattle.std.proofs.Common.{◌≡◌, ◌≤◌, ◌*◌}
 use Rattle.common.specs.Sums.{sum_below}
-use Rattle.networks.specs.Networks.{arc_at}
-use Rattle.networks.specs.ResidualArcs.{capacity_at, carried}
+use Rattle.min_cost_flow.specs.Networks.{arc_at}
+use Rattle.min_cost_flow.specs.ResidualArcs.{capacity_at, carried}
 use Rattle.min_cost_flow.proofs.warm_start.flow_cost.Given as goal
 
 abbrev pub invariant-loop-i : goal.invariant-loop-i

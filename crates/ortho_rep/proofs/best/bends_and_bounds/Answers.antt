@@ -1,5 +1,5 @@
 use Rattle.std.proofs.Common.{subst}
-use Rattle.networks.specs.Networks.{NetworkModel}
+use Rattle.min_cost_flow.specs.Networks.{NetworkModel}
 use Rattle.min_cost_flow.specs.SolverState.{IsShown}
 use Rattle.ortho_rep.proofs.Tries.{rep_of_cost, needs_cost}
 use Rattle.ortho_rep.proofs.best.bends_and_bounds.Goals as goal

@@ -2,8 +2,8 @@ use Rattle.std.proofs.Common.{rules, w32, ◌≡◌, ◌+◌, subst, ap, arith}
 use Rattle.std.proofs.lemmas.Int.{to_z-of_z}
 use mir.Val.{SFits}
 use Rattle.faces.specs.Planes.{vertices}
-use Rattle.networks.specs.Networks.{NetworkModel}
-use Rattle.networks.specs.Flow.{at_nodes}
+use Rattle.min_cost_flow.specs.Networks.{NetworkModel}
+use Rattle.min_cost_flow.specs.Flow.{at_nodes}
 use Rattle.min_cost_flow.specs.SolverState.{IsShown}
 use Rattle.ortho_rep.proofs.Tries.{bound_of_potentials}
 use Rattle.ortho_rep.proofs.best.bound.Goals as goal

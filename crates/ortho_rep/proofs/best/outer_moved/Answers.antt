@@ -1,7 +1,7 @@
 use Rattle.std.proofs.Common.{◌≡◌, ◌+◌, ℕ, ap, sym, ◌∙◌, subst, arith}
 use Rattle.faces.specs.Planes.{with_outer}
-use Rattle.networks.specs.Networks.{NetworkModel, shifted, HasSuppliesInRange}
-use Rattle.networks.specs.Flow.{Flow}
+use Rattle.min_cost_flow.specs.Networks.{NetworkModel, shifted, HasSuppliesInRange}
+use Rattle.min_cost_flow.specs.Flow.{Flow}
 use Rattle.flow_network.proofs.OuterSet.{set_fair}
 use Rattle.flow_network.proofs.Flowing.{net_flows}
 use Rattle.flow_network.proofs.Faultless.{arc_ends}

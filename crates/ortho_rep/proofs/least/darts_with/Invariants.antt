@@ -1,6 +1,6 @@
 use Rattle.std.proofs.Common.{◌≤◌}
 use Rattle.std.specs.Prelude.{All}
-use Rattle.networks.specs.Flow.{amounts}
+use Rattle.min_cost_flow.specs.Flow.{amounts}
 use Rattle.ortho_rep.specs.declared.turn.TheConstants.{MAX_REPEATS}
 use Rattle.ortho_rep.specs.declared.repeats.DartShape.{DartShape}
 use Rattle.ortho_rep.specs.OfFlow.{angles_of, strings_of}

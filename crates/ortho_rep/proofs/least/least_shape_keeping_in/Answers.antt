@@ -1,8 +1,8 @@
 use Rattle.std.proofs.Common.{◌≡◌, ◌∙◌, subst, sym}
 use Rattle.std.specs.Prelude.{IfErr}
 use Rattle.std.proofs.lemmas.Result.{err_from_is_err_and}
-use Rattle.networks.specs.Networks.{NetworkModel}
-use Rattle.networks.specs.Flow.{HasNoFlow}
+use Rattle.min_cost_flow.specs.Networks.{NetworkModel}
+use Rattle.min_cost_flow.specs.Flow.{HasNoFlow}
 use Rattle.min_cost_flow.specs.declared.solver.SolveFault.TheVariants.{Infeasible}
 use Rattle.ortho_rep.specs.Keeping.{HasNoneKeeping}
 use Rattle.ortho_rep.proofs.IntoFlow.{none_without_flow}

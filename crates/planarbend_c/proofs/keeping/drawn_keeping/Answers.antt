@@ -1,5 +1,5 @@
 use Rattle.std.proofs.Common.{subst, sym}
-use Rattle.entries.specs.Lengths.{IsQuick}
+use Rattle.reports.specs.Lengths.{IsQuick}
 use Rattle.answers.specs.Drawings.{IsDrawing}
 use Rattle.answers.specs.Kept.{AreDrawnStraight, KeepsAsked}
 use Rattle.planarbend_c.proofs.keeping.drawn_keeping.Goals as goal

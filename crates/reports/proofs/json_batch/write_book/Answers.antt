@@ -2,7 +2,7 @@ use Rattle.std.proofs.Common.{◌≡◌, ◌++◌, ◌∙◌, List, Err, length,
 use Rattle.std.proofs.lemmas.Result.{err_from_is_err_and}
 use Rattle.streams.specs.declared.faults.WriteFault.{WriteFault}
 use Rattle.streams.specs.declared.frames.Mark.{Mark}
-use Rattle.entries.specs.declared.entry.Entry.{Entry}
+use Rattle.reports.specs.declared.entry.Entry.{Entry}
 use Rattle.reports.specs.Report.{numbered_texts}
 use Rattle.reports.specs.Json.{entry_json, end_json, book_json}
 use Rattle.reports.proofs.Lacks.{lacks_both, lacks_more}

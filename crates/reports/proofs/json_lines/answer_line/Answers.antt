@@ -1,7 +1,7 @@
 use Rattle.std.proofs.Common.{◌≡◌, IfOk, subst, sym}
 use Rattle.std.proofs.Math.Logic.{∥∥₁_elim}
 use Rattle.std.proofs.Props.{props}
-use Rattle.entries.specs.Answers.{Answers}
+use Rattle.reports.specs.Answers.{Answers}
 use Rattle.reports.specs.LineData.{answer_data, line_of}
 use Rattle.reports.proofs.json_lines.answer_line.Goals as goal
 

@@ -1,7 +1,7 @@
 use Rattle.std.proofs.Common.{◌≡◌, ◌∙◌, ◌++◌, ◌∷◌, [], ℕ, List, codes, sym}
 use Rattle.std.proofs.lemmas.Result.{on_ok_weaker}
 use Rattle.json.specs.Print.{escape_byte}
-use Rattle.entries.specs.CauseWords.{word_of}
+use Rattle.reports.specs.CauseWords.{word_of}
 use Rattle.reports.proofs.Steps.{then, plain_word}
 use Rattle.reports.proofs.json_objects.put_drawn.Goals as goal
 

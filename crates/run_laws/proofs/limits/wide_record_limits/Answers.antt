@@ -1,5 +1,5 @@
 use Rattle.std.proofs.Common.{List, ℕ, length, ap, arith}
-use Rattle.planar_code.proofs.WideRecords.{lists_of-wide}
+use Rattle.embedding.proofs.WideRecords.{lists_of-wide}
 use Rattle.run_laws.proofs.limits.wide_record_limits.Goals as goal
 
 pub returns-clause-some : goal.returns-clause-some

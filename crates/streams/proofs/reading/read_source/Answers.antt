@@ -1,9 +1,8 @@
 use Rattle.std.proofs.Common.{rules, ◌+◌, [], ◌++◌, length, refl, ap, length-append, arith}
 use Rattle.streams.specs.declared.frames.Mark.TheVariants.{Ended}
 use Rattle.streams.proofs.Bounds.{few_rounds}
-use Rattle.streams.proofs.Messages.{found_as}
-use Rattle.streams.proofs.Pieces.{nothing_read, nothing_new, found_nothing, found_ended}
-use Rattle.streams.proofs.Placed.{first_step, placed_from}
+use Rattle.streams.proofs.Pieces.{nothing_read, nothing_new, found_nothing, found_ended, found_as}
+use Rattle.streams.proofs.Placed.{first_step, placed_from, found_so_far}
 use Rattle.streams.proofs.Receiving.{received_from}
 use Rattle.streams.proofs.reading.read_source.Goals as goal
 
@@ -17,6 +16,7 @@ loop-init g c = record {
   found = [];
   next = refl;
   received = g.met.V.Receiver.received_none _;
+  ready = c.requires.ready;
   stays = g.met.V.Receiver.stays_itself _;
   being_read = nothing_read _ _ [] _ refl c.in-Ok.ensures.early;
 }
@@ -68,6 +68,13 @@ returns-in-Faulted-clause-found g c =
     let then = received_from g.V.Receiver.received _ _ _ _ _ inv.next c.in-Ok-receive.ensures.received in
     (_, g.met.V.Receiver.received_on _ _ _ _ _ inv.received then, omega (arith, inv.next, length-append inv.found c.read_piece-step.new.records.items), found_as _ _ _ _ _ _ refl (ap Ended c.from.ensures) stopped)
 
+pub returns-in-Err-receive-clause-refused : goal.returns-in-Err-receive-clause-refused
+returns-in-Err-receive-clause-refused g c =
+    let inv = c.loop.invariant in
+    let leads = c.read_piece-step.ensures.reads _ _ c.loop.counter inv.found (nothing_new _ _ _ _ _ _ _ _ inv.none inv.being_read) in
+    let then = received_from (λ first records x y. g.V.Receiver.refused first records x y c.in-Err-receive.refusal) _ _ _ _ _ inv.next c.in-Err-receive.ensures.refused in
+    (_, g.met.V.Receiver.refused_on _ _ _ _ _ _ inv.received then, found_so_far _ _ _ _ _ _ _ _ leads)
+
 pub loop-preserved : goal.loop-preserved
 loop-preserved g c =
     let inv = c.loop.invariant in
@@ -78,6 +85,7 @@ loop-preserved g c =
       found = inv.found ++ c.read_piece-step.new.records.items;
       next = omega (arith, inv.next, length-append inv.found c.read_piece-step.new.records.items);
       received = g.met.V.Receiver.received_on _ _ _ _ _ inv.received then;
+      ready = c.in-Ok-receive.ensures.ready;
       stays = g.met.V.Receiver.stays_on _ _ _ inv.stays c.in-Ok-receive.ensures.stays;
       being_read = c.in-More.ensures.reads _ _ c.loop.counter inv.found (nothing_new _ _ _ _ _ _ _ _ inv.none inv.being_read);
     }

@@ -9,6 +9,7 @@ invariant-loop g l = record {
   found : List (List ℕ);
   next : l.ordinal ≡ length found;
   received : g.V.Receiver.received 0 found l.initial.receiver l.receiver;
+  ready : g.V.Receiver.ready l.receiver;
   stays : g.V.Receiver.stays l.initial.receiver l.receiver;
   being_read : IsBeingRead (g.T.Tap.to_come l.initial.source) (g.T.Tap.fails l.initial.source) l.counter (g.T.Tap.to_come l.source) (g.T.Tap.fails l.source) found l.framer;
 }

@@ -1,7 +1,7 @@
 use Rattle.std.proofs.Common.{IfOk, subst}
-use Rattle.entries.specs.Drawn.{IsCause, IsDrawn, IsDrawingOf}
-use Rattle.drawing_laws.proofs.WideOnly.{shown_wide}
-use Rattle.entries.specs.Lengths.{IsNear, IsNoLonger, IsQuick}
+use Rattle.reports.specs.Drawn.{IsCause, IsDrawn, IsDrawingOf}
+use Rattle.answers.proofs.WideOnly.{shown_wide}
+use Rattle.reports.specs.Lengths.{IsNear, IsNoLonger, IsQuick}
 use Rattle.answers.proofs.Straight.{drawn_as_asked, drawn_straight}
 use Rattle.answers.proofs.kept.RecordScratch.draw_keeping.Goals as goal
 

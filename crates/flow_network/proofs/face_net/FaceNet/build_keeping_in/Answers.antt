@@ -1,6 +1,6 @@
 use Rattle.std.proofs.Common.{ℕ, subst, sym}
-use Rattle.networks.specs.Networks.{NetworkModel}
-use Rattle.networks.specs.Flow.{Flow}
+use Rattle.min_cost_flow.specs.Networks.{NetworkModel}
+use Rattle.min_cost_flow.specs.Flow.{Flow}
 use Rattle.flow_network.specs.Given.{GivenModel}
 use Rattle.flow_network.specs.FaceNet.{IsFaceNet, IsKeepingNet}
 use Rattle.flow_network.proofs.Flowing.{net_flows}

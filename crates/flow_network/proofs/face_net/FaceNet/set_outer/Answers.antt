@@ -1,6 +1,6 @@
 use Rattle.std.proofs.Common.{◌≡◌, ◌+◌, ℕ, ap, sym, ◌∙◌, subst, arith}
 use Rattle.faces.specs.Planes.{vertices, with_outer}
-use Rattle.networks.specs.Networks.{NetworkModel, shifted, HasSuppliesInRange}
+use Rattle.min_cost_flow.specs.Networks.{NetworkModel, shifted, HasSuppliesInRange}
 use Rattle.flow_network.specs.FaceNet.{IsFaceNet, FaceNetModel}
 use Rattle.flow_network.proofs.OuterSet.{net_set, set_fair}
 use Rattle.flow_network.proofs.face_net.FaceNet.set_outer.Goals as goal

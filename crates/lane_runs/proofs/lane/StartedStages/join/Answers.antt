@@ -20,5 +20,5 @@ returns g c = λ gave passed.
     record {
       seat_of = read.tells.seat_of;
       ended = read.tells.ended;
-      tells = c.settle_lane.ensures promise.choice (meaning promise.opener.value) (drawn all.ends.1) gave drew read.tells.tells;
+      tells = c.settle_links.ensures promise.choice (meaning promise.opener.value) (drawn all.ends.1) gave drew read.tells.tells;
     }

@@ -1,6 +1,6 @@
 use Rattle.std.proofs.Common.{◌<◌, length, subst, sym}
 use Rattle.std.proofs.lemmas.List.{get_or_read}
-use Rattle.networks.specs.Flow.{SolvedModel}
+use Rattle.min_cost_flow.specs.Flow.{SolvedModel}
 use Rattle.min_cost_flow.proofs.solved.Solved.flow.Goals as goal
 
 pub returns : goal.returns

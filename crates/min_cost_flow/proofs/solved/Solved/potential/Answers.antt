@@ -4,7 +4,7 @@ use Rattle.std.proofs.lemmas.List.{get_or_read}
 use Rattle.std.specs.Prelude.{pos}
 use mir.Syntax.{w32}
 use mir.Val.{SFits}
-use Rattle.networks.specs.Flow.{SolvedModel}
+use Rattle.min_cost_flow.specs.Flow.{SolvedModel}
 use Rattle.min_cost_flow.proofs.solved.Solved.potential.Goals as goal
 
 pub returns : goal.returns

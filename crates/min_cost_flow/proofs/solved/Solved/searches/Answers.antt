@@ -1,5 +1,5 @@
 use Rattle.std.proofs.Common.{ap}
-use Rattle.networks.specs.Flow.{SolvedModel}
+use Rattle.min_cost_flow.specs.Flow.{SolvedModel}
 use Rattle.min_cost_flow.proofs.solved.Solved.searches.Goals as goal
 
 pub returns : goal.returns

@@ -1,11 +1,11 @@
 use Rattle.std.proofs.Common.{◌≡◌, ◌≢◌, ◌<◌, ◌≤◌, ◌+◌, ℕ, List, length, pos, ◌+ℤ◌, refl, sym, ◌∙◌, ap, subst, arith}
 use Rattle.std.specs.Prelude.{ℤ, ◌-ℤ◌}
 use Rattle.std.proofs.lemmas.List.{get_or_read, get_or-set_same, get_or-set_other, length-set, with_items_is}
-use Rattle.networks.specs.declared.residual.ResidualArc.{ResidualArc}
-use Rattle.networks.specs.Networks.{NetworkModel, node_count, raised, moved}
-use Rattle.networks.proofs.Moving.{length-moved}
-use Rattle.networks.specs.Flow.{at_nodes}
-use Rattle.networks.specs.ResidualArcs.{start_at, end_at, reverse_of, capacity_at, no_residual_arc, AreResidualArcs, carried}
+use Rattle.min_cost_flow.specs.declared.residual.ResidualArc.{ResidualArc}
+use Rattle.min_cost_flow.specs.Networks.{NetworkModel, node_count, raised, moved}
+use Rattle.min_cost_flow.proofs.Moving.{length-moved}
+use Rattle.min_cost_flow.specs.Flow.{at_nodes}
+use Rattle.min_cost_flow.specs.ResidualArcs.{start_at, end_at, reverse_of, capacity_at, no_residual_arc, AreResidualArcs, carried}
 use Rattle.min_cost_flow.specs.declared.state.Nodes.{Nodes}
 use Rattle.min_cost_flow.proofs.Augmenting.{place_read, enter_read}
 use Rattle.min_cost_flow.specs.declared.state.Solver.{Solver}

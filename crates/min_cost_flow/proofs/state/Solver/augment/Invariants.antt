@@ -1,8 +1,8 @@
 use Rattle.std.proofs.Common.{◌≡◌, ◌<◌, ◌+◌, ℕ, true}
-use Rattle.networks.specs.Networks.{NetworkModel, node_count, raised}
-use Rattle.networks.specs.Flow.{at_nodes}
-use Rattle.networks.specs.ResidualArcs.{end_at}
-use Rattle.networks.specs.Residuals.{IsResidualNetwork}
+use Rattle.min_cost_flow.specs.Networks.{NetworkModel, node_count, raised}
+use Rattle.min_cost_flow.specs.Flow.{at_nodes}
+use Rattle.min_cost_flow.specs.ResidualArcs.{end_at}
+use Rattle.min_cost_flow.specs.Residuals.{IsResidualNetwork}
 use Rattle.min_cost_flow.specs.Path.{IsOnPath, previous_of}
 use Rattle.min_cost_flow.specs.Round.{carrying}
 use Rattle.min_cost_flow.specs.SolverState.{flow_in, potential_at, last_node, CanAugment, predecessors_in, places_in}

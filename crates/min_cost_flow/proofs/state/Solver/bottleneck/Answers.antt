@@ -1,8 +1,8 @@
 use Rattle.std.proofs.Common.{◌≡◌, ◌<◌, ◌≤◌, ℕ, min, sym, ◌∙◌, ap, subst, arith}
 use Rattle.std.proofs.lemmas.List.{get_or_read}
-use Rattle.networks.specs.declared.residual.ResidualArc.{ResidualArc}
-use Rattle.networks.specs.Networks.{node_count}
-use Rattle.networks.specs.ResidualArcs.{start_at, end_at, capacity_at, no_residual_arc}
+use Rattle.min_cost_flow.specs.declared.residual.ResidualArc.{ResidualArc}
+use Rattle.min_cost_flow.specs.Networks.{node_count}
+use Rattle.min_cost_flow.specs.ResidualArcs.{start_at, end_at, capacity_at, no_residual_arc}
 use Rattle.min_cost_flow.proofs.Augmenting.{place_read, enter_read}
 use Rattle.min_cost_flow.specs.Path.{previous_of, capacity_into}
 use Rattle.min_cost_flow.specs.SolverState.{excess_at, last_node, predecessors_in, places_in}

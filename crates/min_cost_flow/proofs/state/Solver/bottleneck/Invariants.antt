@@ -1,6 +1,6 @@
 use Rattle.std.proofs.Common.{ℕ, ◌≡◌, ◌<◌, ◌≤◌, pos, ◌≤ℤ◌, ◌+ℤ◌, true}
-use Rattle.networks.specs.Networks.{NetworkModel, node_count}
-use Rattle.networks.specs.ResidualArcs.{end_at, capacity_at}
+use Rattle.min_cost_flow.specs.Networks.{NetworkModel, node_count}
+use Rattle.min_cost_flow.specs.ResidualArcs.{end_at, capacity_at}
 use Rattle.min_cost_flow.specs.Path.{previous_of, capacity_into}
 use Rattle.min_cost_flow.specs.SolverState.{excess_at, last_node, CanAugment, IsFitting, predecessors_in, places_in}
 use Rattle.min_cost_flow.proofs.Augmenting.{IsNarrowed}

@@ -3,8 +3,8 @@ use Rattle.std.specs.Prelude.{pos}
 use Rattle.std.specs.Vec.{with_items}
 use Rattle.std.proofs.lemmas.Bool.{cases_lt}
 use Rattle.std.proofs.lemmas.List.{with_items_is, get_or_past}
-use Rattle.networks.specs.Networks.{supply_at}
-use Rattle.networks.specs.Flow.{at_nodes}
+use Rattle.min_cost_flow.specs.Networks.{supply_at}
+use Rattle.min_cost_flow.specs.Flow.{at_nodes}
 use Rattle.min_cost_flow.proofs.Rounds.{first_round, first_work}
 use Rattle.min_cost_flow.proofs.state.Solver.initialise.Goals as goal
 

@@ -3,7 +3,7 @@ use Rattle.std.specs.Prelude.{ℤ, pos, ◌≤ℤ◌, ◌<ℤ◌}
 use Rattle.std.proofs.lemmas.List.{get_or_read}
 use mir.Syntax.{w32}
 use mir.Val.{SFits}
-use Rattle.networks.specs.Networks.{node_count}
+use Rattle.min_cost_flow.specs.Networks.{node_count}
 use Rattle.min_cost_flow.specs.SolverState.{excess_at}
 use Rattle.min_cost_flow.proofs.Comparisons.{is_more, is_no_more, not_true, not_false}
 use Rattle.min_cost_flow.proofs.Rounds.{no_flow_wanting, nothing_remaining}

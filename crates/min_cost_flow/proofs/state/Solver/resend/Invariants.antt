@@ -2,7 +2,7 @@ use Rattle.std.proofs.Common.{◌≡◌, ◌≢◌, ◌<◌, ℕ, length}
 use Rattle.std.specs.Prelude.{pos, ◌≤ℤ◌}
 use borrow.Author.Differences.{up}
 use Rattle.common.specs.Sums.{sum_below}
-use Rattle.networks.specs.Networks.{NetworkModel}
+use Rattle.min_cost_flow.specs.Networks.{NetworkModel}
 use Rattle.min_cost_flow.specs.SolverState.{IsReady, excess_at}
 use Rattle.min_cost_flow.proofs.state.Solver.resend.Given as goal
 

@@ -2,9 +2,9 @@ use Rattle.std.proofs.Common.{◌≡◌, ◌*◌, ℕ, ℤ, List, length, ap, re
 use Rattle.std.specs.Prelude.{pos, ◌+ℤ◌, ◌≤ℤ◌}
 use Rattle.std.specs.Vec.{with_items}
 use Rattle.std.proofs.lemmas.List.{with_items_is}
-use Rattle.networks.specs.Networks.{node_count, moved, shifted}
-use Rattle.networks.proofs.Moving.{length-moved}
-use Rattle.networks.specs.Flow.{at_nodes}
+use Rattle.min_cost_flow.specs.Networks.{node_count, moved, shifted}
+use Rattle.min_cost_flow.proofs.Moving.{length-moved}
+use Rattle.min_cost_flow.specs.Flow.{at_nodes}
 use Rattle.min_cost_flow.proofs.Moved.{others_none, sized_moved, ready_moved, low_bounds}
 use Rattle.min_cost_flow.proofs.state.Solver.resume.Goals as goal
 

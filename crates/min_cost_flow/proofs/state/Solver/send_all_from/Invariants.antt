@@ -2,7 +2,7 @@ use Rattle.std.proofs.Common.{◌≡◌, ◌<◌, ℕ, length}
 use Rattle.std.specs.Prelude.{pos, ◌≤ℤ◌}
 use borrow.Author.Differences.{up}
 use Rattle.common.specs.Sums.{sum_below}
-use Rattle.networks.specs.Networks.{NetworkModel, node_count}
+use Rattle.min_cost_flow.specs.Networks.{NetworkModel, node_count}
 use Rattle.min_cost_flow.specs.SolverState.{IsBetweenSearches, excess_at}
 use Rattle.min_cost_flow.proofs.state.Solver.send_all_from.Given as goal
 

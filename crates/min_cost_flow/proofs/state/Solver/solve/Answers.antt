@@ -1,7 +1,7 @@
 use Rattle.std.proofs.Common.{◌≡◌, ◌<◌, ℕ, arith, sym, subst, inl, inr}
 use Rattle.std.specs.Prelude.{pos, ◌≤ℤ◌}
 use Rattle.std.proofs.lemmas.Bool.{cases_lt}
-use Rattle.networks.specs.Networks.{node_count}
+use Rattle.min_cost_flow.specs.Networks.{node_count}
 use Rattle.min_cost_flow.specs.SolverState.{excess_at}
 use Rattle.min_cost_flow.proofs.Comparisons.{not_true, not_false}
 use Rattle.min_cost_flow.proofs.Rounds.{done_at, no_flow_wanting, nothing_remaining}

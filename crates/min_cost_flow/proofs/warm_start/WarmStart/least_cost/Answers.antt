@@ -1,7 +1,7 @@
 use Rattle.std.proofs.Common.{subst, arith}
-use Rattle.networks.specs.Networks.{NetworkModel}
-use Rattle.networks.specs.Flow.{at_nodes}
-use Rattle.networks.specs.ResidualArcs.{capacity_at, carried}
+use Rattle.min_cost_flow.specs.Networks.{NetworkModel}
+use Rattle.min_cost_flow.specs.Flow.{at_nodes}
+use Rattle.min_cost_flow.specs.ResidualArcs.{capacity_at, carried}
 use Rattle.min_cost_flow.specs.SolverState.{IsShown}
 use Rattle.min_cost_flow.proofs.Moved.{shown_at}
 use Rattle.min_cost_flow.proofs.warm_start.WarmStart.least_cost.Goals as goal

@@ -1,5 +1,5 @@
 use Rattle.std.proofs.Common.{ap, ◌∙◌}
-use Rattle.networks.specs.Networks.{NetworkModel, shifted}
+use Rattle.min_cost_flow.specs.Networks.{NetworkModel, shifted}
 use Rattle.min_cost_flow.proofs.warm_start.WarmStart.shift.Goals as goal
 
 pub resume-requires : goal.resume-requires

@@ -1,8 +1,8 @@
 use Rattle.std.proofs.Common.{◌≡◌, ◌<◌, ℕ, ℤ, List, length, refl, ap, ◌∙◌, subst, arith}
 use Rattle.std.proofs.lemmas.List.{with_items_is}
-use Rattle.networks.specs.Networks.{NetworkModel, arc_count}
-use Rattle.networks.specs.Flow.{SolvedModel, Solves, amounts, at_nodes}
-use Rattle.networks.specs.ResidualArcs.{capacity_at, carried}
+use Rattle.min_cost_flow.specs.Networks.{NetworkModel, arc_count}
+use Rattle.min_cost_flow.specs.Flow.{SolvedModel, Solves, amounts, at_nodes}
+use Rattle.min_cost_flow.specs.ResidualArcs.{capacity_at, carried}
 use Rattle.min_cost_flow.proofs.Moved.{solves_at}
 use Rattle.min_cost_flow.proofs.warm_start.WarmStart.solved.Goals as goal
 

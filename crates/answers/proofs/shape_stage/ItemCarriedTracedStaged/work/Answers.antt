@@ -1,0 +1,13 @@
+use Rattle.std.proofs.Common.{sym, subst}
+use Rattle.std.proofs.Math.Logic.{∥∥₁_map}
+use Rattle.planar_code.specs.Stream.{lists_of}
+use Rattle.answers.specs.Steps.{IsEmbedded}
+use Rattle.answers.proofs.shape_stage.ItemCarriedTracedStaged.work.Goals as goal
+
+pub invariant_of-result : goal.invariant_of-result
+invariant_of-result g c =
+    record {
+      known = c.args.self.known;
+      made = ∥∥₁_map c.args.self.made
+          (λ made. c.hold.ensures c.args.self.task.choice _ (c.shape-shaped_plane.ensures.shaped _ (subst (IsEmbedded (lists_of (g.P.Carried.Carried.bytes c.args.self.rec))) (sym c.unpack-plane.ensures) made)));
+    }

@@ -1,0 +1,254 @@
+//! What a line claims of its points. A claim that is not made is `None`.
+ghost use Rattle.std.specs.Prelude.{◌≡◌, ◌≢◌, ◌^◌, ◌<◌, ◌≤◌, ℕ, ℤ, List, IfOk, IfErr, IfNone, IfSome, All, MatchOption, None, Some, option_map, codes, map};
+ghost use Rattle.serde_json.specs.Find.{get};
+ghost use Rattle.serde_json.specs.View.{view};
+ghost use Rattle.ortho_rep.specs.declared.turn.Turn.{Turn};
+ghost use Rattle.ortho_rep.specs.Prices.{PricesModel};
+ghost use Rattle.ortho_rep.specs.Storage.{lists_in};
+ghost use Rattle.checking.specs.Values.{natural, array_of, letter_of, turns_data, IsOf32Bits, AreOf32Bits, AreIntegers, HasIntegers, HasPriceLists, SaysPrices};
+ghost use Rattle.checking.specs.Wrong.{IsWrongField, IsWrongAngles, IsWrongTurns, IsWrongPriceList, IsWrongPrices, IsWrongPriceValue};
+ghost use Rattle.checking.specs.declared.fault.LineFault.TheVariants.{Number, Turns, Memory};
+
+use crate::fault::LineFault;
+use crate::json::{field_in, integer_in, list_in, number_in, text_in};
+use ortho_rep::{Prices, Turn};
+use serde_json::Value;
+use std::alloc::Global;
+
+/// The number of bends that a value claims, in the field `bends`.
+///
+/// # Errors
+///
+/// `Number`: the field is no integer from 0 to 4,294,967,295.
+pub(crate) fn bends_in(value: &Value) -> Result<Option<u32>, LineFault>
+    ensures ok { IfOk result (λ said. get (codes "bends") (view value.now) ≡ option_map natural said) }
+    ensures none { IfErr result (λ _. (n : ℕ) → n < 2 ^ 32 → get (codes "bends") (view value.now) ≢ Some (natural n)) }
+    ensures made { IfErr result (λ _. get (codes "bends") (view value.now) ≢ None) }
+    ensures fault { IfErr result (λ fault. fault ≡ Number) }
+{
+    match field_in(value, "bends") {
+        Some(field) => match number_in(field, 4_294_967_295) {
+            Ok(number) => Ok(Some(number as u32)),
+            Err(fault) => Err(fault),
+        },
+        None => Ok(None),
+    }
+}
+
+/// The outer face that a value claims, in the field `outer`.
+///
+/// # Errors
+///
+/// `Number`: the field is no integer from 0 to 65,535.
+pub(crate) fn outer_in(value: &Value) -> Result<Option<u16>, LineFault>
+    ensures ok { IfOk result (λ said. get (codes "outer") (view value.now) ≡ option_map natural said) }
+    ensures none { IfErr result (λ _. (n : ℕ) → n < 2 ^ 16 → get (codes "outer") (view value.now) ≢ Some (natural n)) }
+    ensures made { IfErr result (λ _. get (codes "outer") (view value.now) ≢ None) }
+    ensures fault { IfErr result (λ fault. fault ≡ Number) }
+{
+    match field_in(value, "outer") {
+        Some(field) => match number_in(field, 65_535) {
+            Ok(number) => Ok(Some(number as u16)),
+            Err(fault) => Err(fault),
+        },
+        None => Ok(None),
+    }
+}
+
+/// The angles that a value claims, in the field `angles`.
+///
+/// # Errors
+///
+/// `Memory` if memory runs out. Otherwise `Angles` if the field is no list, and `Number` if one of its elements is no
+/// integer from 0 to 255.
+pub(crate) fn angles_in(alloc: Global, value: &Value) -> Result<Option<Vec<u8>>, LineFault>
+    ensures ok { IfOk result (λ said. get (codes "angles") (view value.now)
+        ≡ option_map (λ angles. array_of natural angles.items) said) }
+    ensures none { IfErr result (λ fault. fault ≢ Memory → (angles : List ℕ) → All (λ angle. angle ≤ 255) angles
+        → get (codes "angles") (view value.now) ≢ Some (array_of natural angles)) }
+    ensures made { IfErr result (λ fault. fault ≢ Memory → get (codes "angles") (view value.now) ≢ None) }
+    ensures fault { IfErr result (λ fault. fault ≢ Memory → IsWrongField IsWrongAngles (codes "angles") (view value.now) fault) }
+{
+    match field_in(value, "angles") {
+        Some(field) => match angle_list(alloc, field) {
+            Ok(angles) => Ok(Some(angles)),
+            Err(fault) => Err(fault),
+        },
+        None => Ok(None),
+    }
+}
+
+/// The angles that a value is.
+fn angle_list(alloc: Global, value: &Value) -> Result<Vec<u8>, LineFault>
+    ensures ok { IfOk result (λ angles. view value.now ≡ array_of natural angles.items) }
+    ensures none { IfErr result (λ fault. fault ≢ Memory
+        → (angles : List ℕ) → All (λ angle. angle ≤ 255) angles → view value.now ≢ array_of natural angles) }
+    ensures fault { IfErr result (λ fault. fault ≢ Memory → IsWrongAngles (view value.now) fault) }
+{
+    let mut angles = Vec::new(alloc);
+    let elements = list_in(value, LineFault::Angles)?;
+    for element in elements {
+        let angle = match number_in(element, 255) {
+            Ok(angle) => angle,
+            Err(fault) => return Err(fault),
+        };
+        angles.push(angle as u8)?;
+    }
+    Ok(angles)
+}
+
+/// The prices that a value claims, in the field `prices`.
+///
+/// # Errors
+///
+/// `Memory` if memory runs out. Otherwise `Prices` if the field has no list in `vertices` or `faces`, and `Number` if an
+/// element is no integer of 32 bits. `vertices` is read before `faces`; the first error counts.
+pub(crate) fn prices_in(alloc: Global, value: &Value) -> Result<Option<Prices>, LineFault>
+    ensures ok { IfOk result (λ said. MatchOption said (get (codes "prices") (view value.now) ≡ None)
+        (SaysPrices (view value.now))) }
+    ensures none { IfErr result (λ fault. fault ≢ Memory
+        → (prices : PricesModel) → AreOf32Bits prices → SaysPrices (view value.now) prices → ⊥) }
+    ensures made { IfErr result (λ fault. fault ≢ Memory → get (codes "prices") (view value.now) ≢ None) }
+    ensures fault { IfErr result (λ fault. fault ≢ Memory → IsWrongField IsWrongPrices (codes "prices") (view value.now) fault) }
+{
+    match field_in(value, "prices") {
+        Some(field) => match two_price_lists(alloc, field) {
+            Ok(prices) => Ok(Some(prices)),
+            Err(fault) => Err(fault),
+        },
+        None => Ok(None),
+    }
+}
+
+/// The prices that a value has in `vertices` and `faces`.
+fn two_price_lists(alloc: Global, field: &Value) -> Result<Prices, LineFault>
+    ensures ok { IfOk result (HasPriceLists (view field.now)) }
+    ensures none { IfErr result (λ fault. fault ≢ Memory
+        → (prices : PricesModel) → AreOf32Bits prices → HasPriceLists (view field.now) prices → ⊥) }
+    ensures fault { IfErr result (λ fault. fault ≢ Memory → IsWrongPrices (view field.now) fault) }
+{
+    let vertices = prices_at(alloc, field, "vertices")?;
+    let faces = match prices_at(alloc, field, "faces") {
+        Ok(faces) => faces,
+        Err(fault) => return Err(fault),
+    };
+    Ok(Prices::new(vertices, faces))
+}
+
+/// The prices that a value has in the field of this name.
+fn prices_at(alloc: Global, value: &Value, name: &str) -> Result<Vec<i32>, LineFault>
+    ensures ok { IfOk result (λ prices. HasIntegers name.now (view value.now) prices.items) }
+    ensures within { IfOk result (λ prices. All IsOf32Bits prices.items) }
+    ensures none { IfErr result (λ fault. fault ≢ Memory
+        → (prices : List ℤ) → All IsOf32Bits prices → HasIntegers name.now (view value.now) prices → ⊥) }
+    ensures fault { IfErr result (λ fault. fault ≢ Memory → IsWrongPriceList name.now (view value.now) fault) }
+{
+    match field_in(value, name) {
+        Some(list) => price_list(alloc, list),
+        None => Err(LineFault::Prices),
+    }
+}
+
+/// The prices that a value is.
+fn price_list(alloc: Global, value: &Value) -> Result<Vec<i32>, LineFault>
+    ensures ok { IfOk result (λ prices. AreIntegers (view value.now) prices.items) }
+    ensures within { IfOk result (λ prices. All IsOf32Bits prices.items) }
+    ensures none { IfErr result (λ fault. fault ≢ Memory
+        → (prices : List ℤ) → All IsOf32Bits prices → AreIntegers (view value.now) prices → ⊥) }
+    ensures fault { IfErr result (λ fault. fault ≢ Memory → IsWrongPriceValue (view value.now) fault) }
+{
+    let mut prices = Vec::new(alloc);
+    let elements = list_in(value, LineFault::Prices)?;
+    for element in elements {
+        let price = match integer_in(element) {
+            Ok(price) => price,
+            Err(fault) => return Err(fault),
+        };
+        prices.push(price)?;
+    }
+    Ok(prices)
+}
+
+/// The turns that a value claims, in the field `turns`.
+///
+/// # Errors
+///
+/// `Memory` if memory runs out. Otherwise `Turns`: the field is no list of texts of the letters L and R.
+pub(crate) fn turns_in(alloc: Global, value: &Value) -> Result<Option<Vec<Vec<Turn>>>, LineFault>
+    ensures ok { IfOk result (λ said. get (codes "turns") (view value.now)
+        ≡ option_map (λ strings. array_of turns_data (lists_in strings.items)) said) }
+    ensures none { IfErr result (λ fault. fault ≢ Memory → (strings : List (List Turn))
+        → get (codes "turns") (view value.now) ≢ Some (array_of turns_data strings)) }
+    ensures made { IfErr result (λ fault. fault ≢ Memory → get (codes "turns") (view value.now) ≢ None) }
+    ensures fault { IfErr result (λ fault. fault ≢ Memory → IsWrongField IsWrongTurns (codes "turns") (view value.now) fault) }
+{
+    match field_in(value, "turns") {
+        Some(field) => match string_list(alloc, field) {
+            Ok(strings) => Ok(Some(strings)),
+            Err(fault) => Err(fault),
+        },
+        None => Ok(None),
+    }
+}
+
+/// The strings of turns that a value is.
+fn string_list(alloc: Global, value: &Value) -> Result<Vec<Vec<Turn>>, LineFault>
+    ensures ok { IfOk result (λ strings. view value.now ≡ array_of turns_data (lists_in strings.items)) }
+    ensures none { IfErr result (λ fault. fault ≢ Memory
+        → (strings : List (List Turn)) → view value.now ≢ array_of turns_data strings) }
+    ensures fault { IfErr result (λ fault. fault ≢ Memory → fault ≡ Turns) }
+{
+    let mut strings = Vec::new(alloc);
+    let elements = list_in(value, LineFault::Turns)?;
+    for element in elements {
+        let turns = match turns_of(alloc, element) {
+            Ok(turns) => turns,
+            Err(fault) => return Err(fault),
+        };
+        strings.push(turns)?;
+    }
+    Ok(strings)
+}
+
+/// The turns that a value is.
+fn turns_of(alloc: Global, value: &Value) -> Result<Vec<Turn>, LineFault>
+    ensures ok { IfOk result (λ turns. view value.now ≡ turns_data turns.items) }
+    ensures none { IfErr result (λ fault. fault ≢ Memory
+        → (turns : List Turn) → view value.now ≢ turns_data turns) }
+    ensures fault { IfErr result (λ fault. fault ≢ Memory → fault ≡ Turns) }
+{
+    let text = text_in(value, LineFault::Turns)?;
+    match letters_of(alloc, text.as_bytes()) {
+        Ok(turns) => Ok(turns),
+        Err(fault) => Err(fault),
+    }
+}
+
+/// The turns of these letters.
+fn letters_of(alloc: Global, letters: &[u8]) -> Result<Vec<Turn>, LineFault>
+    ensures ok { IfOk result (λ turns. letters.now ≡ map letter_of turns.items) }
+    ensures none { IfErr result (λ fault. fault ≢ Memory → (turns : List Turn) → letters.now ≢ map letter_of turns) }
+    ensures fault { IfErr result (λ fault. fault ≢ Memory → fault ≡ Turns) }
+{
+    let mut turns = Vec::new(alloc);
+    for letter in letters {
+        let turn = match turn_of(*letter) {
+            Some(turn) => turn,
+            None => return Err(LineFault::Turns),
+        };
+        turns.push(turn)?;
+    }
+    Ok(turns)
+}
+
+/// The turn of a letter.
+fn turn_of(letter: u8) -> Option<Turn>
+    ensures some { IfSome result (λ turn. letter ≡ letter_of turn) }
+    ensures none { IfNone result ((turn : Turn) → letter ≢ letter_of turn) }
+{
+    match letter {
+        b'L' => Some(Turn::Left),
+        b'R' => Some(Turn::Right),
+        _ => None,
+    }
+}

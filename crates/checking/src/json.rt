@@ -1,0 +1,113 @@
+//! Parts of a JSON value: its fields, numbers, texts and lists.
+ghost use Rattle.std.specs.Prelude.{◌≡◌, ◌≢◌, ◌≤◌, ℕ, ℤ, List, option_map, IfOk, IfErr, Some, None, map};
+ghost use Rattle.serde_json.specs.Data.{Data, Items, array, string};
+ghost use Rattle.serde_json.specs.Errors.{IsMemory};
+ghost use Rattle.serde_json.specs.Find.{get};
+ghost use Rattle.serde_json.specs.View.{view, items_of};
+ghost use Rattle.checking.specs.Values.{IsTextOf, natural, integer_of, IsOf32Bits};
+ghost use Rattle.checking.specs.declared.fault.LineFault.TheVariants.{Malformed, Points, Number, Memory};
+
+use crate::fault::LineFault;
+use serde_json::{Error, Value};
+use std::alloc::Global;
+
+/// The JSON value of a line.
+///
+/// # Errors
+///
+/// `Memory` if memory runs out. Otherwise `Malformed`: the line is not JSON text in UTF-8.
+pub(crate) fn value_in(alloc: Global, line: &[u8]) -> Result<Value, LineFault>
+    ensures ok { IfOk result (λ value. IsTextOf line.now (view value)) }
+    ensures none { IfErr result (λ fault. fault ≢ Memory → (value : Data) → IsTextOf line.now value → ⊥) }
+    ensures fault { IfErr result (λ fault. fault ≢ Memory → fault ≡ Malformed) }
+{
+    match Value::from_slice(alloc, line) {
+        Ok(value) => Ok(value),
+        Err(error) => Err(fault_of(&error)),
+    }
+}
+
+/// The fault that parsing a line as JSON returned.
+fn fault_of(error: &Error) -> LineFault
+    ensures real { result ≢ Memory → ¬ IsMemory error.now }
+    ensures kind { result ≢ Memory → result ≡ Malformed }
+{
+    if error.is_memory() {
+        LineFault::Memory
+    } else {
+        LineFault::Malformed
+    }
+}
+
+/// The field of this name that a value has, if any.
+pub(crate) fn field_in<'v>(value: &'v Value, name: &str) -> Option<&'v Value>
+    ensures { option_map (λ field. view field.now) result ≡ get name.now (view value.now) }
+{
+    value.get(name)
+}
+
+/// The field of this name that a value must have.
+///
+/// # Errors
+///
+/// `Points`: it has none.
+pub(crate) fn needed_field_in<'v>(value: &'v Value, name: &str) -> Result<&'v Value, LineFault>
+    ensures ok { IfOk result (λ field. get name.now (view value.now) ≡ Some (view field.now)) }
+    ensures none { IfErr result (λ _. get name.now (view value.now) ≡ None) }
+    ensures fault { IfErr result (λ fault. fault ≡ Points) }
+{
+    match field_in(value, name) {
+        Some(field) => Ok(field),
+        None => Err(LineFault::Points),
+    }
+}
+
+/// The elements of the list that a value is; otherwise this fault.
+pub(crate) fn list_in(value: &Value, otherwise: LineFault) -> Result<&[Value], LineFault>
+    ensures ok { IfOk result (λ values. view value.now ≡ array (items_of (map view values.now))) }
+    ensures none { IfErr result (λ _. (items : Items) → view value.now ≢ array items) }
+    ensures fault { IfErr result (λ fault. fault ≡ otherwise) }
+{
+    match value.as_array() {
+        Some(values) => Ok(values.as_slice()),
+        None => Err(otherwise),
+    }
+}
+
+/// The natural number, at most `most`, that a value is.
+pub(crate) fn number_in(value: &Value, most: u64) -> Result<u64, LineFault>
+    ensures ok { IfOk result (λ n. view value.now ≡ natural n) }
+    ensures within { IfOk result (λ n. n ≤ most) }
+    ensures none { IfErr result (λ _. (n : ℕ) → n ≤ most → view value.now ≢ natural n) }
+    ensures fault { IfErr result (λ fault. fault ≡ Number) }
+{
+    match value.as_u64() {
+        Some(number) if number <= most => Ok(number),
+        _ => Err(LineFault::Number),
+    }
+}
+
+/// The integer of 32 bits that a value is.
+pub(crate) fn integer_in(value: &Value) -> Result<i32, LineFault>
+    ensures ok { IfOk result (λ z. integer_of (view value.now) ≡ Some z) }
+    ensures within { IfOk result IsOf32Bits }
+    ensures none { IfErr result (λ _. (z : ℤ) → IsOf32Bits z → integer_of (view value.now) ≢ Some z) }
+    ensures fault { IfErr result (λ fault. fault ≡ Number) }
+{
+    match value.as_i64() {
+        Some(number) if -2_147_483_648 <= number && number <= 2_147_483_647 => Ok(number as i32),
+        _ => Err(LineFault::Number),
+    }
+}
+
+/// The text that a value is; otherwise this fault.
+pub(crate) fn text_in(value: &Value, otherwise: LineFault) -> Result<&str, LineFault>
+    ensures ok { IfOk result (λ text. view value.now ≡ string text.now) }
+    ensures none { IfErr result (λ _. (text : List ℕ) → view value.now ≢ string text) }
+    ensures fault { IfErr result (λ fault. fault ≡ otherwise) }
+{
+    match value.as_str() {
+        Some(text) => Ok(text),
+        None => Err(otherwise),
+    }
+}

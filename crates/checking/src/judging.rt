@@ -1,0 +1,165 @@
+//! The verdict on a record and its input.
+ghost use Rattle.std.specs.Prelude.{◌≡◌, ◌↔◌, true, false, IfOk};
+ghost use Rattle.planar_code.specs.Stream.{lists_of};
+ghost use Rattle.referee.specs.Drawings.{IsDrawnBy};
+ghost use Rattle.checking.specs.declared.fault.LineFault.TheVariants as line;
+ghost use Rattle.checking.specs.declared.inputs.DrawingInput.TheVariants as given;
+ghost use Rattle.checking.specs.declared.verdict.Verdict.TheVariants as verdict;
+ghost use Rattle.checking.specs.Verdicts.{IsVerdict, IsVerdictOnPlane, IsVerdictOnDrawing, IsFound, KeepsFaces};
+
+use crate::fault::LineFault;
+use crate::inputs::DrawingInput;
+use crate::line_content::ClaimedDrawing;
+use crate::verdict::Verdict;
+use drawing_check::outside_is_outer;
+use embedding::{Graph, ReadFault, Rule};
+use faces::{Plane, TraceFault};
+use planar_code::Record;
+use referee::{Claims, Fault, Judged, false_claim, fewest_in, judge_in};
+use std::alloc::{AllocError, Global};
+
+/// The buffers of `record_verdict`, reused for the next record. Their contents between two calls do not matter.
+#[derive(Drop)]
+pub(crate) struct Scratch {
+    planes: faces::Scratch,
+    drawings: referee::Scratch,
+}
+
+impl Scratch {
+    /// An empty scratch. It allocates nothing.
+    pub(crate) fn empty(alloc: Global) -> Scratch {
+        Scratch {
+            planes: faces::Scratch::empty(alloc),
+            drawings: referee::Scratch::empty(alloc),
+        }
+    }
+}
+
+/// The verdict on a record and its line; with `faces`, also on the regions of the drawing.
+///
+/// `Memory` if memory ran out for the line, which may then be the end of a run. `Ok` exactly if, unless memory runs out, the record breaks no rule, and points are given that draw a representation
+/// of its embedding, with whatever outer face, of which all claims hold.
+pub(crate) fn record_verdict(
+    alloc: Global,
+    scratch: &mut Scratch,
+    faces: bool,
+    rec: &Record,
+    input: DrawingInput,
+) -> Verdict
+    ensures holds { IsVerdict faces (lists_of rec.now) input result }
+    ensures memory { input ≡ given.Fault line.Memory → result ≡ verdict.Memory }
+{
+    if is_out_of_memory(&input) {
+        return Verdict::Memory;
+    }
+    let graph = match Graph::read_in(alloc, &mut scratch.planes.graph, rec) {
+        Ok(graph) => graph,
+        Err(ReadFault::Rule(rule)) => return Verdict::Refused(rule),
+        Err(ReadFault::Memory) => return Verdict::Memory,
+    };
+    let mut plane = match Plane::trace_in(alloc, &mut scratch.planes, graph) {
+        Ok(plane) => plane,
+        Err(TraceFault::Genus(graph)) => {
+            graph.give_back(&mut scratch.planes.graph);
+            return Verdict::Refused(Rule::Genus);
+        }
+        Err(TraceFault::Memory(_)) => return Verdict::Memory,
+    };
+    let verdict = input_verdict(alloc, scratch, faces, &mut plane, input);
+    plane.give_back(&mut scratch.planes);
+    verdict
+}
+
+/// Whether memory ran out for a line.
+fn is_out_of_memory(input: &DrawingInput) -> bool
+    ensures { (result ≡ true) ↔ (input.now ≡ given.Fault line.Memory) }
+{
+    match input {
+        DrawingInput::Fault(LineFault::Memory) => true,
+        _ => false,
+    }
+}
+
+/// The verdict on the input for a plane.
+fn input_verdict(
+    alloc: Global,
+    scratch: &mut Scratch,
+    faces: bool,
+    plane: &mut Plane,
+    input: DrawingInput,
+) -> Verdict
+    ensures { IsVerdictOnPlane faces plane.old input result }
+{
+    match input {
+        DrawingInput::Drawing(drawing) => drawing_verdict(alloc, scratch, faces, plane, drawing),
+        DrawingInput::Fault(LineFault::Memory) => Verdict::Memory,
+        DrawingInput::Fault(fault) => Verdict::Line(fault),
+        DrawingInput::Missing => Verdict::Missing,
+        DrawingInput::Unread => Verdict::Unread,
+    }
+}
+
+/// The verdict on a drawing of a plane, whose outer face is then that of the drawing, if there is one.
+fn drawing_verdict(
+    alloc: Global,
+    scratch: &mut Scratch,
+    faces: bool,
+    plane: &mut Plane,
+    drawing: ClaimedDrawing,
+) -> Verdict
+    ensures { IsVerdictOnDrawing faces plane.old drawing.points drawing.claims result }
+{
+    let ClaimedDrawing { points, claims } = drawing;
+    let judged = match judge_in(alloc, &mut scratch.drawings, plane, points) {
+        Ok(judged) => judged,
+        Err(Fault::Memory) => return Verdict::Memory,
+        Err(fault) => return Verdict::Drawn(fault),
+    };
+    // Only the proof needs this: `outer` says that there is such a face.
+    let _outer = plane.outer();
+    match claims_verdict(alloc, scratch, faces, plane, &judged, &claims) {
+        Ok(verdict) => verdict,
+        Err(_) => Verdict::Memory,
+    }
+}
+
+/// Whether each region of a drawing is its face, if faces are asked for; otherwise true.
+fn keeps_faces(faces: bool, plane: &Plane, judged: &Judged) -> bool
+    requires { IsDrawnBy plane.now judged.now.drawing judged.now.shape }
+    ensures kept { result ≡ true → KeepsFaces faces plane.now judged.now.drawing }
+    ensures lost { result ≡ false → ¬ KeepsFaces faces plane.now judged.now.drawing }
+{
+    if !faces {
+        return true;
+    }
+    outside_is_outer(plane, &judged.drawing)
+}
+
+/// The verdict on the regions and the claims of a drawing, and the numbers of its bends.
+fn claims_verdict(
+    alloc: Global,
+    scratch: &mut Scratch,
+    faces: bool,
+    plane: &Plane,
+    judged: &Judged,
+    claims: &Claims,
+) -> Result<Verdict, AllocError>
+    requires { IsDrawnBy plane.now judged.now.drawing judged.now.shape }
+    ensures { IfOk result (IsFound faces plane.now judged.now.drawing judged.now.shape claims.now) }
+{
+    if !keeps_faces(faces, plane, judged) {
+        return Ok(Verdict::Regions);
+    }
+    if let Some(claim) = false_claim(plane, &judged.shape, claims) {
+        return Ok(Verdict::Claim(claim));
+    }
+    let bends = judged.shape.bends();
+    if claims.prices.is_some() {
+        return Ok(Verdict::Ok {
+            bends,
+            fewest: bends,
+        });
+    }
+    let fewest = fewest_in(alloc, &mut scratch.drawings, plane)?;
+    Ok(Verdict::Ok { bends, fewest })
+}

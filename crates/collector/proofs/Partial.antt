@@ -1,0 +1,118 @@
+-- What was added to a sink where the text was left off.
+use Rattle.std.proofs.Common.{◌≡◌, ℕ, ◌+◌, ◌<◌, ◌≤◌, List, ◌++◌, length, Option, Some, inl, inr, refl, sym, ap, subst, ◌∙◌, arith, append_assoc, get_or, Bool, Err}
+use Rattle.std.proofs.lemmas.Bool.{cases_lt}
+use Rattle.streams.specs.Sink.{AppendsPrefix, IsInTransit, Writes}
+use Rattle.streams.specs.FrameLines.{added_both}
+use Rattle.streams.specs.declared.faults.WriteFault.{WriteFault}
+use Rattle.streams.specs.declared.faults.WriteFault.TheVariants.{Write, Memory}
+use Rattle.reports.specs.declared.entry.Entry.{Entry}
+use Rattle.streams.specs.declared.form.Form.{Form}
+use Rattle.collector.specs.FormLines.{line_in, preamble_in, lines_in, end_in}
+use Rattle.streams.specs.declared.frames.Mark.{Mark}
+use Rattle.collector.specs.declared.waiting.Waiting.{Waiting}
+use Rattle.collector.specs.Came.{Came, HasMark, HasEntryMore}
+use Rattle.collector.specs.Written.{GoesOn, begun, ended_texts, AreWritten, AreRemaining, IsPartlyAdded, IsPartialText}
+use Rattle.collector.proofs.Waits.{some_waiting}
+use Rattle.collector.proofs.Adding.{current_more}
+use Rattle.collector.proofs.Moving.{marked_next, ended_more}
+
+-- one text begins with the other
+abbrev pub Longer : List ℕ → List ℕ → Type 0
+Longer whole text = (more : List ℕ) × (whole ≡ text ++ more)
+
+pub appends_longer : (start now : Option (List ℕ)) (whole text : List ℕ) → Longer whole text → AppendsPrefix start now text → AppendsPrefix start now whole
+appends_longer start now whole text longer added =
+    (added.0, added.1 ++ longer.0, longer.1 ∙ ap (λ l. l ++ longer.0) added.2 ∙ append_assoc added.0 added.1 longer.0, added.3)
+
+-- what is on its way was added up to what waits
+pub way_front : (start now : Option (List ℕ)) (waiting text : List ℕ) → IsInTransit start now waiting text → AppendsPrefix start now text
+way_front start now waiting text way = (way.sent, waiting, way.split, way.added)
+
+-- whatever more was to go on its way, where nothing was added
+pub partial_here : (now : Option (List ℕ)) (waiting more : List ℕ) → IsPartlyAdded now waiting now more
+partial_here now waiting more start text way = appends_longer start now (text ++ more) text (more, refl) (way_front start now waiting text way)
+
+-- where a write failed
+pub writes_front : (A : Type 0) (old new : Option (List ℕ)) (text : List ℕ) (failed : Bool) (e : WriteFault) → Writes {A = A} old new failed text (Err e) → AppendsPrefix old new text
+writes_front A old new text failed Write writes = writes.1
+writes_front A old new text failed Memory writes = absurd writes
+
+-- of the files below this one all was on its way, and they have ended
+pub partial_at : (form : Form) (start now : Option (List ℕ)) (came : ℕ → Came) (n files : ℕ) → n ≤ files → ((k : ℕ) → k < n → HasMark (came k))
+    → AppendsPrefix start now (ended_texts form came n) → IsPartialText form start now files came
+partial_at form start now came n files within marked added = record { current = n; within = within; marked = marked; text = inl added }
+
+-- and of this one its first line and its lines so far
+pub partial_in : (form : Form) (start now : Option (List ℕ)) (came : ℕ → Came) (n files : ℕ) → n < files → ((k : ℕ) → k < n → HasMark (came k))
+    → AppendsPrefix start now (ended_texts form came n ++ begun form n (came n)) → IsPartialText form start now files came
+partial_in form start now came n files below marked added = record { current = n; within = omega (arith, below); marked = marked; text = inr (below, added) }
+
+-- or its first line alone
+pub partial_preamble : (form : Form) (start now : Option (List ℕ)) (came : ℕ → Came) (n files : ℕ) → n < files → ((k : ℕ) → k < n → HasMark (came k))
+    → AppendsPrefix start now (ended_texts form came n ++ preamble_in form (n + 1)) → IsPartialText form start now files came
+partial_preamble form start now came n files below marked added =
+    partial_in form start now came n files below marked
+    (appends_longer start now (ended_texts form came n ++ begun form n (came n)) (ended_texts form came n ++ preamble_in form (n + 1))
+    (lines_in form (came n).entries, sym (append_assoc (ended_texts form came n) (preamble_in form (n + 1)) (lines_in form (came n).entries))) added)
+
+-- where a beginning was added of what was on its way
+partial_way : (form : Form) (start now new : Option (List ℕ)) (buffer : List ℕ) (current : ℕ) (waiting : List Waiting) (came : ℕ → Came)
+    → ((text : List ℕ) → IsInTransit start now buffer text → AppendsPrefix start new text)
+    → AreWritten form start now buffer current waiting came → IsPartialText form start new (length waiting) came
+partial_way form start now new buffer current waiting came added was =
+    elim (cases_lt current (length waiting)) [
+      | inl below ↦ partial_in form start new came current (length waiting) below was.marked (added _ (was.going below))
+      | inr past ↦ partial_at form start new came current (length waiting) was.within was.marked (added _ (was.over past))
+    ]
+
+-- where nothing more was put on its way
+pub partial_written : (form : Form) (start now : Option (List ℕ)) (buffer : List ℕ) (current : ℕ) (waiting : List Waiting) (came : ℕ → Came)
+    → AreWritten form start now buffer current waiting came → IsPartialText form start now (length waiting) came
+partial_written form start now buffer current waiting came was = partial_way form start now now buffer current waiting came (way_front start now buffer) was
+
+-- where what was buffered was to be put
+pub partial_flushed : (form : Form) (start now new : Option (List ℕ)) (buffer : List ℕ) (current : ℕ) (waiting : List Waiting) (came : ℕ → Came)
+    → AppendsPrefix now new buffer → AreWritten form start now buffer current waiting came → IsPartialText form start new (length waiting) came
+partial_flushed form start now new buffer current waiting came put was =
+    partial_way form start now new buffer current waiting came
+    (λ text way. (way.sent ++ put.0, put.1, way.split ∙ ap (λ l. way.sent ++ l) put.2 ∙ sym (append_assoc way.sent put.0 put.1), added_both start now new way.sent put.0 way.added put.3)) was
+
+-- where a line of the current file was to go on its way
+pub partial_line : (form : Form) (start old new : Option (List ℕ)) (buffer : List ℕ) (current : ℕ) (waiting : List Waiting) (came next : ℕ → Came) (entry : Entry) (line : List ℕ)
+    → current < length waiting → line_in form entry ≡ line → HasEntryMore current entry came next → IsPartlyAdded old buffer new line
+    → AreWritten form start old buffer current waiting came → IsPartialText form start new (length waiting) next
+partial_line form start old new buffer current waiting came next entry line below is more breaks was =
+    partial_in form start new next current (length waiting) below (λ k lt. subst HasMark (sym (more.others k (λ e. absurd (omega (arith, lt, e))))) (was.marked k lt))
+    (subst (AppendsPrefix start new) (current_more form current came next entry line is more) (breaks start _ (was.going below)))
+
+-- where the last line of the current file was
+pub partial_end : (form : Form) (start old new : Option (List ℕ)) (buffer : List ℕ) (current : ℕ) (waiting : List Waiting) (came : ℕ → Came) (mark : Mark) (count : ℕ)
+    → current < length waiting → (came current).mark ≡ Some mark → count ≡ length (came current).entries → IsPartlyAdded old buffer new (end_in form (current + 1) mark count)
+    → AreWritten form start old buffer current waiting came → IsPartialText form start new (length waiting) came
+partial_end form start old new buffer current waiting came mark count below is counted breaks was =
+    partial_at form start new came (current + 1) (length waiting) (omega (arith, below)) (marked_next came current (current + 1) mark refl is was.marked)
+    (subst (AppendsPrefix start new) (ended_more form current (current + 1) came mark count refl is counted) (breaks start _ (was.going below)))
+
+-- where the first line of the current file was, or its lines so far
+pub partial_first : (form : Form) (start old new : Option (List ℕ)) (buffer : List ℕ) (current : ℕ) (waiting : List Waiting) (came : ℕ → Came)
+    → current < length waiting → IsPartlyAdded old buffer new (preamble_in form (current + 1))
+    → AreRemaining form start old buffer current waiting came → IsPartialText form start new (length waiting) came
+partial_first form start old new buffer current waiting came below breaks was =
+    partial_preamble form start new came current (length waiting) below was.marked (breaks start _ was.text)
+
+pub partial_lines : (form : Form) (start old mid new : Option (List ℕ)) (buffer between : List ℕ) (current : ℕ) (waiting : List Waiting) (came : ℕ → Came) (lines : List ℕ)
+    → current < length waiting → GoesOn old buffer mid between (preamble_in form (current + 1)) → ((other : Waiting) → lines ≡ (get_or waiting current other).lines)
+    → IsPartlyAdded mid between new lines → AreRemaining form start old buffer current waiting came → IsPartialText form start new (length waiting) came
+partial_lines form start old mid new buffer between current waiting came lines below preamble are breaks was =
+    let T = ended_texts form came current in
+    let H = preamble_in form (current + 1) in
+    let other = some_waiting waiting current below in
+    let same : lines ≡ lines_in form (came current).entries = are other ∙ was.lines current other (omega arith) below in
+    let text : (T ++ H) ++ lines ≡ T ++ (H ++ lines_in form (came current).entries) = append_assoc T H lines ∙ ap (λ l. T ++ (H ++ l)) same in
+    partial_in form start new came current (length waiting) below was.marked (subst (AppendsPrefix start new) text (breaks start (T ++ H) (preamble start T was.text)))
+
+-- the same form and as many files
+pub partial_as : (form now_form : Form) (start now : Option (List ℕ)) (files now_files : ℕ) (came : ℕ → Came) → now_form ≡ form → now_files ≡ files
+    → IsPartialText now_form start now now_files came → IsPartialText form start now files came
+partial_as form now_form start now files now_files came same_form same_files breaks =
+    subst (λ n. IsPartialText form start now n came) same_files (subst (λ f. IsPartialText f start now now_files came) same_form breaks)

@@ -1,0 +1,144 @@
+//! The lines of a run in each format. Files and places in a file are counted from 0 here, and from 1 in the text.
+ghost use Rattle.std.specs.Prelude.{◌≡◌, ◌+◌, ◌^◌, ◌≤◌, Ok as Drawn, IfOk, OnErr};
+ghost use Rattle.reports.specs.declared.answer.Answer.{Answer};
+ghost use Rattle.reports.specs.declared.answer.Answer.TheVariants.{Laid};
+ghost use Rattle.reports.specs.declared.entry.Entry.{Entry};
+ghost use Rattle.reports.specs.Answered.{IsAnswer};
+ghost use Rattle.collector.specs.FormLines.{line_in, preamble_in, end_in};
+
+use crate::line::Line;
+use answers::ShapedPlane;
+use ortho_rep::Points;
+use reports::{Answer, Form, LaidGraph, ReportLine};
+use std::alloc::{AllocError, Global};
+use streams::Mark;
+
+/// The output line of the answer to the record at this place of this file, in this format. A short line of a report is
+/// not allocated.
+pub(crate) fn answer_line(
+    alloc: Global,
+    form: Form,
+    file: u32,
+    ordinal: u32,
+    answer: &Answer,
+) -> Result<Line, AllocError>
+    requires { IsAnswer answer.now }
+    ensures { IfOk result (λ line. (entry : Entry) → entry.file ≡ file → entry.ordinal ≡ ordinal
+        → entry.answer ≡ answer.now → line ≡ line_in form entry) }
+{
+    let graph = u64::from(ordinal) + 1;
+    match form {
+        Form::Report => Line::copied(alloc, ReportLine::of_graph(graph, answer).as_slice()),
+        Form::Json => {
+            let text = reports::answer_line(alloc, number_of(file)?, graph, answer)?;
+            Ok(Line::of(text))
+        }
+    }
+}
+
+/// The output line of a record with this shaped plane and points that draw it, at this place of this file, in this
+/// format. A short line of a report is not allocated.
+pub(crate) fn drawn_line(
+    alloc: Global,
+    form: Form,
+    file: u32,
+    ordinal: u32,
+    shaped_plane: &ShapedPlane,
+    points: &Points,
+) -> Result<Line, AllocError>
+    ensures { IfOk result (λ line. (entry : Entry) → entry.file ≡ file → entry.ordinal ≡ ordinal
+        → entry.answer ≡ Laid shaped_plane.now.plane shaped_plane.now.shape shaped_plane.now.prices (Drawn points.now)
+        → line ≡ line_in form entry) }
+{
+    let graph = u64::from(ordinal) + 1;
+    match form {
+        Form::Report => {
+            let line = ReportLine::of_drawn(graph, &shaped_plane.plane, &shaped_plane.shape);
+            Line::copied(alloc, line.as_slice())
+        }
+        Form::Json => {
+            let laid = LaidGraph {
+                plane: &shaped_plane.plane,
+                shape: &shaped_plane.shape,
+                prices: &shaped_plane.prices,
+                drawing: Ok(points),
+            };
+            let text = reports::laid_line(alloc, number_of(file)?, graph, laid)?;
+            Ok(Line::of(text))
+        }
+    }
+}
+
+/// The output line of an entry that has no answer because memory ran out, with a newline (byte 0A) at its end.
+///
+/// `file` and `ordinal` are the entry's file and its place there, from 0. It takes a few allocations.
+///
+/// # Errors
+///
+/// `AllocError` if there is no memory for the line; in JSON also if the number of the file, counted from 1, does not
+/// fit in 32 bits.
+pub fn lacking_text(
+    alloc: Global,
+    form: Form,
+    file: u32,
+    ordinal: u32,
+) -> Result<Vec<u8>, AllocError>
+    ensures { IfOk result (λ text. (entry : Entry) → entry.file ≡ file → entry.ordinal ≡ ordinal
+        → entry.answer ≡ Answer.NoMemory → text.items ≡ line_in form entry) }
+{
+    let graph = u64::from(ordinal) + 1;
+    match form {
+        Form::Report => {
+            let line = ReportLine::of_graph(graph, &Answer::NoMemory);
+            Vec::from_slice(alloc, line.as_slice())
+        }
+        Form::Json => reports::lacking_line(alloc, number_of(file)?, graph),
+    }
+}
+
+/// The line before the graphs of a file: the first line of the file in the report, and an empty text in JSON.
+pub fn preamble_line(form: Form, file: u32) -> ReportLine
+    ensures { result ≡ preamble_in form (file + 1) }
+{
+    match form {
+        Form::Report => ReportLine::of_file(u64::from(file) + 1),
+        Form::Json => ReportLine::new(),
+    }
+}
+
+/// The last line of a file in this format: its mark, and the number of entries. It takes a few allocations.
+///
+/// # Errors
+///
+/// `AllocError` if there is no memory for the line; in JSON also if the number of the file, counted from 1, does not
+/// fit in 32 bits.
+pub fn end_text(
+    alloc: Global,
+    form: Form,
+    file: u32,
+    mark: Mark,
+    count: u32,
+) -> Result<Vec<u8>, AllocError>
+    ensures { IfOk result (λ text. text.items ≡ end_in form (file + 1) mark count) }
+{
+    let graphs = u64::from(count);
+    match form {
+        Form::Report => Vec::from_slice(alloc, ReportLine::of_end(mark, graphs).as_slice()),
+        Form::Json => reports::end_line(alloc, number_of(file)?, mark, graphs),
+    }
+}
+
+/// The number of a file, counted from 1.
+///
+/// # Errors
+///
+/// `AllocError` if it does not fit. No file of a run has such a number.
+fn number_of(file: u32) -> Result<u32, AllocError>
+    ensures number { IfOk result (λ number. number ≡ file + 1) }
+    ensures fits { OnErr result (2 ^ 32 ≤ file + 1) }
+{
+    match file.checked_add(1) {
+        Some(number) => Ok(number),
+        None => Err(AllocError),
+    }
+}

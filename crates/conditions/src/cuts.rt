@@ -1,0 +1,131 @@
+//! Cuts of a plane: sets of vertices and faces that turn more than can leave them, so that no representation keeps what
+//! is given (Gale 1957, Tamassia 1987).
+
+ghost use Rattle.std.specs.Prelude.{◌≡◌, ◌+◌, ◌-◌, ◌<◌, ◌≤◌, ℕ, pos, ◌<ℤ◌, Bool, List, true, false, IfOk, IfSome, IfNone, length};
+ghost use Rattle.faces.specs.Planes.{PlaneModel, IsPlane, darts, vertices, head};
+ghost use Rattle.flow_network.specs.Marks.{is_marked};
+ghost use Rattle.flow_network.specs.Given.{GivenModel};
+ghost use Rattle.flow_network.specs.FaceNet.{vertex_has_to_turn};
+ghost use Rattle.min_cost_flow.specs.Overfull.{is_in};
+ghost use Rattle.ortho_rep.specs.declared.turn.Turn.{Turn};
+ghost use Rattle.ortho_rep.specs.Representation.{Rep};
+ghost use Rattle.ortho_rep.specs.Keeping.{Keeps, HasNoneKeeping};
+ghost use Rattle.conditions.specs.Cut.{ShowsNone, HasFacesIn, HasFaceOut, IsLeftOut};
+
+use common::emptied;
+use faces::Plane;
+use flow_network::{FaceNet, Given, has_mark, vertex_to_turn};
+use min_cost_flow::overfull_in;
+use std::alloc::{AllocError, Global};
+
+/// A set of vertices and faces, stored as a mark for each.
+///
+/// With a vertex, the face of each of its angles that are not given is in the set, since a right angle can go to each; with a
+/// face, each face across an edge whose turns are not given, since a bend can. So what they have to turn stays among them, and
+/// if that is more than 0, there is no representation. With k for each given angle and t for each given number of left turns,
+/// a vertex has to turn 4 right angles less its degree and less the sum of k - 1; an inner face 4 less its degree, more the
+/// sum of k - 1 and less the sum of t; the outer face the same with -4.
+#[derive(Debug, Drop)]
+pub struct Cut {
+    /// A mark for each vertex: place v - 1 is that of vertex v.
+    pub vertices: Vec<bool>,
+    /// A mark for each face.
+    pub faces: Vec<bool>,
+}
+
+/// If no representation keeps what is given, a cut that proves it; `None` if some representation does.
+///
+/// The cut is a set of vertices and faces that turn more than can leave it.
+///
+/// # Errors
+///
+/// `AllocError` if there is no memory for the network, its flow or the set.
+pub fn violated_cut(
+    alloc: Global,
+    plane: &Plane,
+    given: &Given<'_>,
+) -> Result<Option<Cut>, AllocError>
+    ensures shown { IfOk result (λ found. IfSome found (λ cut. ShowsNone plane.now given.now cut.vertices.items cut.faces.items)) }
+    ensures none { IfOk result (λ found. IfNone found ((a : ℕ → ℕ) × (s : ℕ → List Turn) × Rep plane.now a s × Keeps plane.now given.now a s)) }
+{
+    // Only the proof needs these: they say that the plane is one, and how much can be given.
+    let _graph = plane.graph();
+    let _is_nothing = given.is_nothing();
+    let mut lists = flow_network::Scratch::empty(alloc);
+    let net = FaceNet::build_keeping_in(alloc, &mut lists, plane, given)?;
+    let mut solver = min_cost_flow::Scratch::empty(alloc);
+    let Some(nodes) = overfull_in(alloc, &mut solver, net.network())? else {
+        return Ok(None);
+    };
+    let faces = face_marks(alloc, plane, &nodes)?;
+    let vertices = vertex_marks(alloc, plane, given, &faces)?;
+    Ok(Some(Cut { vertices, faces }))
+}
+
+/// The marks of the faces among those of all nodes.
+fn face_marks(alloc: Global, plane: &Plane, nodes: &[bool]) -> Result<Vec<bool>, AllocError>
+    requires { length nodes.now ≡ vertices plane.now + plane.now.faces }
+    ensures size { IfOk result (λ faces. length faces.items ≡ plane.now.faces) }
+    ensures each { IfOk result (λ faces. (f : ℕ) → f < plane.now.faces → is_marked faces.items f ≡ is_in nodes.now (vertices plane.now + f)) }
+{
+    let first = usize::from(plane.graph().vertices());
+    let mut faces = emptied(Vec::new(alloc), usize::from(plane.face_count()))?;
+    for face in 0..plane.face_count() {
+        faces.push(nodes[first + usize::from(face)])?;
+    }
+    Ok(faces)
+}
+
+/// A mark for each vertex that has something to turn, and all of whose angles that are not given lie in these faces.
+fn vertex_marks(
+    alloc: Global,
+    plane: &Plane,
+    given: &Given<'_>,
+    faces: &[bool],
+) -> Result<Vec<bool>, AllocError>
+    ensures size { IfOk result (λ marks. length marks.items ≡ vertices plane.now) }
+    ensures some { IfOk result (λ marks. (k : ℕ) → is_marked marks.items k ≡ true → pos 0 <ℤ vertex_has_to_turn plane.now given.now (k + 1)) }
+    ensures inside { IfOk result (λ marks. (k : ℕ) → is_marked marks.items k ≡ true → HasFacesIn plane.now given.now faces.now (k + 1)) }
+    ensures outside { IfOk result (λ marks. (k : ℕ) → k < vertices plane.now → is_marked marks.items k ≡ false → IsLeftOut plane.now given.now faces.now (k + 1)) }
+{
+    let vertices = plane.graph().vertices();
+    let mut marks = emptied(Vec::new(alloc), usize::from(vertices))?;
+    for place in 0..vertices {
+        marks.push(lies_in_cut(plane, given, faces, place + 1))?;
+    }
+    Ok(marks)
+}
+
+/// Whether a vertex has something to turn, and all its angles that are not given lie in these faces.
+fn lies_in_cut(plane: &Plane, given: &Given<'_>, faces: &[bool], vertex: u16) -> bool
+    requires some { 0 < vertex }
+    requires within { vertex ≤ vertices plane.now }
+    ensures some { result ≡ true → pos 0 <ℤ vertex_has_to_turn plane.now given.now vertex }
+    ensures inside { result ≡ true → HasFacesIn plane.now given.now faces.now vertex }
+    ensures outside { result ≡ false → IsLeftOut plane.now given.now faces.now vertex }
+{
+    if vertex_to_turn(plane, given, vertex) <= 0 {
+        return false;
+    }
+    has_faces_in(plane, given, faces, vertex)
+}
+
+/// Whether the face of each angle of a vertex that is not given is marked.
+fn has_faces_in(plane: &Plane, given: &Given<'_>, faces: &[bool], vertex: u16) -> bool
+    ensures inside { result ≡ true → HasFacesIn plane.now given.now faces.now vertex }
+    ensures outside { result ≡ false → HasFaceOut plane.now given.now faces.now vertex }
+{
+    let graph = plane.graph();
+    for dart in 0..graph.darts() {
+        let is_free = graph.head(dart) == vertex && given.angle(dart).is_none();
+        if is_free && !has_mark(faces, plane.face_of(dart)) {
+            return false;
+        }
+    }
+    true
+}
+
+/// If a set of vertices and faces turns more than can leave it, no representation keeps what is given.
+pub fn cut_shows_none()
+    ensures { (p : PlaneModel) (given : GivenModel) (vertices faces : List Bool) → IsPlane p → ShowsNone p given vertices faces → HasNoneKeeping p given }
+{}

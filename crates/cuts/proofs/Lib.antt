@@ -1,3 +1,0 @@
-pub mod Grown
-pub mod CutSets
-pub mod Excluded

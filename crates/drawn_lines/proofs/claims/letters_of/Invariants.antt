@@ -1,6 +1,0 @@
-use Rattle.std.proofs.Common.{◌≡◌, map, take}
-use Rattle.drawn_lines.specs.Said.{letter_of}
-use Rattle.drawn_lines.proofs.claims.letters_of.Given as goal
-
-abbrev pub invariant-loop-letter : goal.invariant-loop-letter
-invariant-loop-letter l = take l.letter-index l.letters ≡ map letter_of l.turns.items

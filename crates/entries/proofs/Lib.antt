@@ -1,2 +1,0 @@
-pub mod KeptBooks
-pub mod Ready

@@ -1,7 +1,0 @@
-pub mod CauseWords
-pub mod Lengths
-pub mod Drawn
-pub mod Answers
-pub mod Abouts
-pub mod Books
-pub mod AllBooks

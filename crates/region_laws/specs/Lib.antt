@@ -1,2 +1,0 @@
-pub mod Outside
-pub mod Westmost

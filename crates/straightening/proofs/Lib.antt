@@ -1,2 +1,0 @@
-mod Fitting
-mod OneWay

@@ -1,5 +1,0 @@
-//! Tests of the lines of sources.
-#![tactic(auto)]
-
-#[cfg(test)]
-mod lines;

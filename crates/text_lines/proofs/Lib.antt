@@ -1,2 +1,0 @@
-pub mod Dividing
-pub mod Giving

@@ -1,4 +1,0 @@
-pub mod Said
-pub mod Words
-pub mod Text
-pub mod Verdicts
