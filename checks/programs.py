@@ -3,6 +3,7 @@ library, copies of crates, files of graphs, runs of a program, and the sections 
 import argparse
 import contextlib
 import datetime
+import glob
 import hashlib
 import importlib.machinery
 import os
@@ -235,6 +236,11 @@ def name_of(path: str) -> str:
     return os.path.basename(path).removesuffix(".pc")
 
 
+def corpus_files() -> list[str]:
+    """The files of planar_code in crates/corpus/data."""
+    return sorted(glob.glob(os.path.join(DATA, "*.pc")))
+
+
 def records_of(path: str) -> list[bytes]:
     """The records of a file of planar_code."""
     with open(path, "rb") as source:
@@ -297,6 +303,12 @@ def run(words: Sequence[str], stderr: int | None = None) -> Run:
     if status != 0:
         sys.exit(f"{words} ended with status {status}")
     return Run(seconds, used.ru_utime + used.ru_stime, peak or used.ru_maxrss * 1024, digest.hexdigest())
+
+
+def in_turn(ways: dict[Any, Any], rounds: int) -> dict[Any, list[Any]]:
+    """What each way returns, called in turn in each round. A command in place of a function stands for its run."""
+    found = [[way() if callable(way) else run(way) for way in ways.values()] for _ in range(rounds)]
+    return dict(zip(ways, map(list, zip(*found))))
 
 
 def wait_for(holds: Callable[[], object], text: str, patience: float, pause: float = 0.1) -> None:
