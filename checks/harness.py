@@ -87,6 +87,6 @@ def run(checks: type[Checks], names: Iterable[str], is_quiet: bool = False) -> i
     return 1 if result.failed else 0
 
 
-def main(checks: type[Checks], *options: programs.Option) -> int:
+def main(checks: type[Checks], *options: programs.Option, is_quiet: bool = False) -> int:
     """Runs a script whose arguments are names of its cases and these options."""
-    return run(checks, asked(checks, *options).names)
+    return run(checks, asked(checks, *options).names, is_quiet)

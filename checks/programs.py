@@ -367,13 +367,20 @@ def enumerated(folder: str, orders: Iterable[int], is_needed: bool = False) -> l
     return paths
 
 
-def text_of(words: Sequence[str]) -> str:
+def ran(words: Iterable[object], status: int | None = 0, **how: Any) -> subprocess.CompletedProcess[Any]:
+    """A run of a program to its end, with what it wrote. It must end with this status, unless that is None."""
+    done = subprocess.run(list(map(str, words)), capture_output=True, **how)
+    assert status in (None, done.returncode), \
+        f"{' '.join(map(str, words))}: status {done.returncode}\n{done.stdout[-400:]!r}\n{done.stderr[-4000:]!r}"
+    return done
+
+
+def text_of(words: Iterable[object]) -> str:
     """The output of a program."""
-    return subprocess.run(words, check=True, stdout=subprocess.PIPE, stderr=subprocess.DEVNULL, text=True).stdout
+    return str(ran(words, text=True).stdout)
 
 
 def figures(words: Sequence[str], given: bytes = b"") -> dict[str, int]:
     """The numbers that a program prints in one line, by name."""
-    ran = subprocess.run(words, check=True, input=given, stdout=subprocess.PIPE, stderr=subprocess.DEVNULL)
-    pairs = (word.partition("=") for word in ran.stdout.decode().split())
+    pairs = (word.partition("=") for word in ran(words, input=given).stdout.decode().split())
     return {name: int(figure) for name, _, figure in pairs if figure}
