@@ -126,30 +126,17 @@ def measure(parts: dict[str, Part], *options: Option, default: str = "") -> int:
 
 
 def where() -> str:
-    """The day, the program's commit, and how many cores were busy just before the run."""
-    busy = busy_cores()
-    beside = "nothing else running" if busy < 0.3 else f"with other work on {busy:.1f} of them"
-    return f"{datetime.date.today()}, commit {commit()}, {len(os.sched_getaffinity(0))} cores, {beside}."
-
-
-def busy_cores() -> float:
-    """How many cores were busy during one second."""
-    def ticks() -> tuple[int, int]:
-        numbers = list(map(int, read("/proc/stat").split()[1:9]))
-        return sum(numbers), numbers[3] + numbers[4]  # all; idle or waiting for a disk
-
-    before, idle_before = ticks()
-    time.sleep(1)
-    after, idle = ticks()
-    return (os.cpu_count() or 1) * (1 - (idle - idle_before) / max(1, after - before))
+    """The day, the program's commit, the number of cores, and the load of the last minute."""
+    cores = len(os.sched_getaffinity(0))
+    return f"{datetime.date.today()}, commit {commit()}, {cores} cores with a load of {os.getloadavg()[0]:.1f}."
 
 
 def commit() -> str:
-    """The commit of the checkout that holds the program, or of this one."""
-    folders = (os.path.dirname(os.path.abspath(os.environ.get("PLANARBEND") or RESULTS)), ROOT)
-    found = (subprocess.run(["git", "-C", folder, "log", "-1", "--format=%h"], capture_output=True, text=True).stdout.strip()
-             for folder in folders)
-    return next(filter(None, found), "unknown")
+    """The commit of the checkout that holds the program, or else of this one."""
+    for folder in (os.path.dirname(os.path.abspath(os.environ.get("PLANARBEND") or RESULTS)), ROOT):
+        if found := ran(["git", "-C", folder, "log", "-1", "--format=%h"], None, text=True).stdout.strip():
+            return str(found)
+    return "unknown"
 
 
 def planarbend() -> str:

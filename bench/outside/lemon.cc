@@ -6,12 +6,10 @@
 //   planes FILES  rules and faces alone
 //   times FILE N  a line: the nanoseconds of building and solving the networks of all graphs, each the least of N times
 //   turning FILE  a line: how many vertices have degree 2, and how few of them turn in shapes with the fewest bends
-//   costs         the least costs of random networks, `-` if there is no flow (crates/flow_tests/src/flows.rt)
 //   frames FILE   the lines of `planarbend frames` for a file without faults
 #include "planar.hpp"
 #include <chrono>
 #include <cstdlib>
-#include <iostream>
 
 // The fewest bends with whichever face as the outer one.
 static long best_bends(Graph graph) {
@@ -83,49 +81,6 @@ static void print_report(const std::string &text, const std::string &mode) {
   std::printf("graphs %ld accepted %ld bends %ld\n", number, accepted, all_bends);
 }
 
-// ---- Random networks, as crates/flow_tests/src/flows.rt makes them.
-
-struct Random {
-  uint64_t state;
-  int below(int count) {
-    state = state * 6364136223846793005u + 1442695040888963407u;
-    return static_cast<int>((state >> 33) % static_cast<uint64_t>(count));
-  }
-};
-
-static std::string next_cost(Random &random) {
-  using Net = lemon::SmartDigraph;
-  const int nodes = 2 + random.below(7);
-  Net net;
-  for (int v = 0; v < nodes; ++v) net.addNode();
-  Net::NodeMap<long> supply(net, 0);
-  Net::ArcMap<long> upper(net), cost(net);
-  for (int pairs = 1 + random.below(5); pairs > 0; --pairs) {
-    const int units = 1 + random.below(3);
-    supply[net.nodeFromId(random.below(nodes))] += units;
-    supply[net.nodeFromId(random.below(nodes))] -= units;
-  }
-  if (random.below(16) == 0) supply[net.nodeFromId(0)] += 1;
-  for (int arcs = 2 * nodes + random.below(3 * nodes); arcs > 0; --arcs) {
-    const int from = random.below(nodes), to = random.below(nodes), limit = random.below(9);
-    const auto arc = net.addArc(net.nodeFromId(from), net.nodeFromId(to));
-    upper[arc] = limit < 6 ? limit : 1 << 20;
-    cost[arc] = std::min(1, random.below(4));
-  }
-  long sum = 0;
-  for (int v = 0; v < nodes; ++v) sum += supply[net.nodeFromId(v)];
-  lemon::NetworkSimplex<Net, long, long> simplex(net);
-  simplex.upperMap(upper).costMap(cost).supplyMap(supply);
-  if (sum != 0 || simplex.run() != simplex.OPTIMAL) return "-";
-  return std::to_string(simplex.totalCost<long>());
-}
-
-static int print_costs() {
-  Random random{20261122};
-  for (int network = 0; network < 1000; ++network) std::cout << next_cost(random) << "\n";
-  return 0;
-}
-
 // ---- Records.
 
 // The place after the record that begins here; 0 if none is whole.
@@ -148,7 +103,6 @@ static int print_frames(const std::string &text) {
 
 int main(int count, char **words) {
   const std::string mode = count > 1 ? words[1] : "";
-  if (mode == "costs") return print_costs();
   if (count < 3) return 2;
   if (mode == "frames") return print_frames(bytes_of(words[2]));
   if (mode == "turning") return print_turning(bytes_of(words[2]));

@@ -23,7 +23,7 @@ from planarbend.layout.planar_code import HEADER
 
 # ---- Standard output and standard error that are closed or full.
 
-IGNORED = {"preexec_fn": lambda: signal.signal(signal.SIGPIPE, signal.SIG_IGN)}
+IGNORED = {"restore_signals": False}  # Python ignores SIGPIPE and SIGXFSZ, and so does then the program
 
 
 def check_outputs(machine: Machine) -> None:
@@ -80,11 +80,8 @@ def nobody_reads(machine: Machine, command: Command, long: str) -> None:
 
 def to_a_short_file(machine: Machine, words: list[Any]) -> Ran:
     """A run that writes to a file limited to 16 bytes."""
-    def prepare() -> None:
-        signal.signal(signal.SIGXFSZ, signal.SIG_IGN)
-        limits(FSIZE=16)()
     with open(machine.path(), "w+b") as file:
-        ran = machine.ran(words, stdout=file, preexec_fn=prepare)
+        ran = machine.ran(words, stdout=file, preexec_fn=limits(FSIZE=16), **IGNORED)
         file.seek(0)
         return ran._replace(out=file.read())
 

@@ -139,20 +139,10 @@ def size_of(file):
     return 0
 
 
-def first_not_utf8(words):
-    """The number, from 1, of the first argument that is not UTF-8, or None."""
-    for number, word in enumerate(words, 1):
-        try:
-            os.fsencode(word).decode()
-        except UnicodeDecodeError:
-            return number
-    return None
-
-
 def main(called, why, *words):
     end_on_signals()
-    if number := first_not_utf8(words):
-        stop(f"argument {number} is not valid UTF-8, as the name of a file must be", status=2)
+    if wrong := [number for number, word in enumerate(words, 1) if re.search("[\udc80-\udcff]", word)]:  # bytes of no UTF-8
+        stop(f"argument {wrong[0]} is not valid UTF-8, as the name of a file must be", status=2)
     with tempfile.TemporaryDirectory(prefix="planarbend-") as folder:
         look_at_machine("a trial run", MEMORY, DISK, folder)
         trial = Trial(words, called, folder)
