@@ -8,6 +8,7 @@ import hashlib
 import importlib.machinery
 import os
 import re
+import resource
 import shutil
 import subprocess
 import sys
@@ -296,6 +297,14 @@ def in_turn(ways: dict[Any, Any], rounds: int) -> dict[Any, list[Any]]:
     """What each way returns, called in turn in each round. A command in place of a function stands for its run."""
     found = [[way() if callable(way) else run(way) for way in ways.values()] for _ in range(rounds)]
     return dict(zip(ways, map(list, zip(*found))))
+
+
+def limits(**which: int) -> Callable[[], None]:
+    """A function that sets limits by name, such as AS or NOFILE, in the process that becomes a program."""
+    def set_limits() -> None:
+        for name, most in which.items():
+            resource.setrlimit(getattr(resource, f"RLIMIT_{name}"), (most, most))
+    return set_limits
 
 
 def wait_for(holds: Callable[[], object], text: str, patience: float, pause: float = 0.1) -> None:

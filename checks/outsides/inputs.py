@@ -127,8 +127,6 @@ def check_streams(machine: Machine) -> None:
     """Standard input by its path, pipes and slow files."""
     two = split(TWO)
     for command in COMMANDS:
-        machine.whole(command, "/dev/stdin, a pipe", ["/dev/stdin"], [two], given=TWO)
-        machine.whole(command, "/dev/stdin, an empty pipe", ["/dev/stdin"], [EMPTY], given=b"")
         with open(machine.two, "rb") as file:
             machine.whole(command, "/dev/stdin, a file", ["/dev/stdin"], [two], stdin=file)
         machine.whole(command, "a closed standard input", [machine.two], [two], **closing(0))
@@ -196,11 +194,10 @@ def check_input(machine: Machine) -> None:
 
 def input_is_a_pipe(machine: Machine, command: Command) -> None:
     """Standard input that is a pipe or is empty; and a file that has its name."""
-    two, cut = split(TWO), TWO[:-3]
-    machine.whole(command, "- is a pipe", ["-"], [two], given=TWO)
-    machine.whole(command, "- behind --", ["--", "-"], [two], given=TWO)
-    machine.whole(command, "- is a pipe, cut in a record", ["-"], [split(cut)], given=cut)
-    machine.whole(command, "- is an empty pipe", ["-"], [EMPTY], given=b"")
+    for name in ("-", "/dev/stdin"):
+        for text in (TWO, TWO[:-3], b""):
+            machine.whole(command, f"{name} is a pipe of {len(text)} bytes", [name], [split(text)], given=text)
+    machine.whole(command, "- behind --", ["--", "-"], [split(TWO)], given=TWO)
     machine.whole(command, "- is /dev/null", ["-"], [EMPTY])
     machine.whole(command, "a file of the name -", ["../-"], [File([LONE])], given=TWO)
 

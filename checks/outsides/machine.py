@@ -6,7 +6,6 @@ import fcntl
 import json
 import os
 import re
-import resource
 import shutil
 import subprocess
 import termios
@@ -18,7 +17,7 @@ import harness
 import programs
 from planarbend.layout import planar_code, reports
 from planarbend.layout.planar_code import HEADER
-from programs import EDGE, LONE, TRIANGLE
+from programs import EDGE, LONE, TRIANGLE, limits
 
 
 # ---- What the program is given and must answer: the commands that are tried, the records of the files, the texts of
@@ -171,14 +170,6 @@ PATIENCE = 20  # seconds that one run may take
 NOBODY = 65534
 IS_ROOT = os.geteuid() == 0
 AS_NOBODY: dict[str, Any] = {"user": NOBODY, "group": NOBODY, "extra_groups": []} if IS_ROOT else {}
-
-
-def limits(**which: int) -> Callable[[], None]:
-    """A function that sets limits by name, such as AS or NOFILE, in the process that becomes the program."""
-    def set_limits() -> None:
-        for name, most in which.items():
-            resource.setrlimit(getattr(resource, f"RLIMIT_{name}"), (most, most))
-    return set_limits
 
 
 def closing(*descriptors: int) -> dict[str, Any]:
