@@ -9,7 +9,6 @@ import unittest
 from collections.abc import Iterable
 from typing import Any
 
-import planted
 import programs
 
 
@@ -69,7 +68,7 @@ def asked(checks: type[Checks], *options: programs.Option, what: str = "CASE") -
     parser = programs.parser_of(sys.modules["__main__"].__doc__, *options)
     programs.add_names(parser, what, [name for name, value in vars(checks).items() if name[0] != "_" and name != "setUp"
                                       and (callable(value) or hasattr(value, "__get__"))])
-    checks.told = planted.asked(parser, os.path.abspath(sys.argv[0]))
+    checks.told = parser.parse_args()
     return checks.told
 
 
