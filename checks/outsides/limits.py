@@ -12,11 +12,11 @@ from typing import NamedTuple
 
 from machine import (
     are_same, AS_NOBODY, both_ends, Command, COMMANDS, expected_lines, File, IO, is_beginning, is_fault, IS_ROOT,
-    is_whole, LAYOUT, LAYOUT_JSON, LAYOUTS, limits, lines_of, Machine, NOBODY, Ran, split, TRIANGLE, TWO, wait_for,
+    is_whole, LAYOUT, LAYOUT_JSON, LAYOUTS, lines_of, Machine, NOBODY, Ran, split, TRIANGLE, TWO, wait_for,
     waiting_bytes)
 import programs
 from planarbend.layout.planar_code import HEADER
-from programs import LOST, MEMORY, THREAD
+from programs import LOST, MEMORY, THREAD, limits
 
 
 # ---- Limits on open files: a file that cannot be opened is `io`.

@@ -3,6 +3,7 @@ end, the use of Linux, and the folder in which the program runs."""
 import array
 import contextlib
 import fcntl
+import functools
 import json
 import os
 import re
@@ -10,14 +11,14 @@ import shutil
 import subprocess
 import termios
 import time
-from collections.abc import Callable, Iterable, Iterator
+from collections.abc import Iterable, Iterator
 from typing import Any, NamedTuple
 
 import harness
 import programs
 from planarbend.layout import planar_code, reports
 from planarbend.layout.planar_code import HEADER
-from programs import EDGE, LONE, TRIANGLE, limits
+from programs import EDGE, LONE, TRIANGLE
 
 
 # ---- What the program is given and must answer: the commands that are tried, the records of the files, the texts of
@@ -167,6 +168,7 @@ def is_fault(ran: Ran, status: int, text: str | None) -> None:
 # that take nothing, and what is seen of a process while it runs.
 
 PATIENCE = 20  # seconds that one run may take
+wait_for = functools.partial(programs.wait_for, patience=PATIENCE, pause=0.001)  # until a condition holds
 NOBODY = 65534
 IS_ROOT = os.geteuid() == 0
 AS_NOBODY: dict[str, Any] = {"user": NOBODY, "group": NOBODY, "extra_groups": []} if IS_ROOT else {}
@@ -192,11 +194,6 @@ def full_disk() -> Any:
 def both_ends(fifo: str) -> Any:
     """The writing end of a FIFO, which is also open for reading."""
     return open(fifo, "r+b", buffering=0)
-
-
-def wait_for(holds: Callable[[], object], text: str) -> None:
-    """Waits until a condition holds."""
-    programs.wait_for(holds, text, PATIENCE, 0.001)
 
 
 def waiting_bytes(pipe: int) -> int:

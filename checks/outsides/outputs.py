@@ -16,9 +16,10 @@ from typing import Any
 import programs
 from machine import (
     both_ends, broken_pipe, closing, Command, COMMANDS, EDGE, expected_lines, File, FRAMES, FULL, full_disk, IO,
-    is_beginning, is_whole, LAYOUT, LAYOUTS, limits, lines_of, LONG, Machine, MANY, PATIENCE, place_in, Ran, split,
+    is_beginning, is_whole, LAYOUT, LAYOUTS, lines_of, LONG, Machine, MANY, PATIENCE, place_in, Ran, split,
     TRIANGLE, TWO, wait_for, waiting_bytes, WRITE)
 from planarbend.layout.planar_code import HEADER
+from programs import limits
 
 
 # ---- Standard output and standard error that are closed or full.

@@ -39,7 +39,7 @@ sys.path.insert(0, str(PACKAGE))
 import drawing_checker
 import large_graphs
 from planarbend.command import to_split
-from planarbend.graph import Arrow, Graph, Kind, split
+from planarbend.graph import Graph, Kind, split
 from planarbend.readers import read
 
 TABLE, LARGE_TABLE = TESTS / "real_graphs.csv", TESTS / "large_graphs.csv"
