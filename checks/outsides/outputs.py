@@ -126,7 +126,7 @@ def check_signals(machine: Machine) -> None:
                 with machine.started([*command.words, path]) as child:
                     writer.write(TWO + EDGE[:2])
                     wait_for(lambda: not waiting_bytes(writer.fileno()), "a read")
-                    ends_by(machine, child, which)
+                    ends_by(machine, child, which, writes=command.frames)  # which prints as records come
             with machine.case(command, f"{which.name} while it writes"):
                 with machine.started([*command.words, long]) as child:
                     wait_for(lambda: waiting_bytes(child.stdout.fileno()) > FULL_PIPE, "a full pipe")
