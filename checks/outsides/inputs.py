@@ -127,11 +127,8 @@ def check_streams(machine: Machine) -> None:
     """Standard input by its path, pipes and slow files."""
     two = split(TWO)
     for command in COMMANDS:
-        machine.whole(command, "/dev/stdin, a pipe", ["/dev/stdin"], [two], given=TWO)
-        machine.whole(command, "/dev/stdin, an empty pipe", ["/dev/stdin"], [EMPTY], given=b"")
         with open(machine.two, "rb") as file:
             machine.whole(command, "/dev/stdin, a file", ["/dev/stdin"], [two], stdin=file)
-        machine.whole(command, "/dev/stdin, closed", ["/dev/stdin"], [IO], **closing(0))
         machine.whole(command, "a closed standard input", [machine.two], [two], **closing(0))
         named_pipes(machine, command)
     with machine.case(FRAMES, "a pipe that never ends"):
@@ -196,28 +193,21 @@ def check_input(machine: Machine) -> None:
 
 
 def input_is_a_pipe(machine: Machine, command: Command) -> None:
-    """Standard input that is a pipe, is empty or is closed; and a file that has its name."""
-    two, cut = split(TWO), TWO[:-3]
-    machine.whole(command, "- is a pipe", ["-"], [two], given=TWO)
-    machine.whole(command, "- behind --", ["--", "-"], [two], given=TWO)
-    machine.whole(command, "- is a pipe, cut in a record", ["-"], [split(cut)], given=cut)
-    machine.whole(command, "- is an empty pipe", ["-"], [EMPTY], given=b"")
+    """Standard input that is a pipe or is empty; and a file that has its name."""
+    for name in ("-", "/dev/stdin"):
+        for text in (TWO, TWO[:-3], b""):
+            machine.whole(command, f"{name} is a pipe of {len(text)} bytes", [name], [split(text)], given=text)
+    machine.whole(command, "- behind --", ["--", "-"], [split(TWO)], given=TWO)
     machine.whole(command, "- is /dev/null", ["-"], [EMPTY])
-    machine.whole(command, "- is closed", ["-"], [IO], **closing(0))
     machine.whole(command, "a file of the name -", ["../-"], [File([LONE])], given=TWO)
 
 
 def input_is_a_file(machine: Machine, command: Command, before: str) -> None:
-    """Standard input that is a file, one of which four bytes were read before, one that cannot be read, or a folder."""
-    with open(before, "rb", buffering=0) as file:
-        file.seek(4)
-        machine.whole(command, "- is a file, read before", ["-"], [split(TWO)], stdin=file)
-    for name, path, how, found in (("a file", machine.two, os.O_RDONLY, split(TWO)),
-                                   ("a directory", machine.room, os.O_RDONLY, IO),
-                                   ("open for writing only", os.devnull, os.O_WRONLY, IO)):
-        given = os.open(path, how)
-        machine.whole(command, f"- is {name}", ["-"], [found], stdin=given)
-        os.close(given)
+    """Standard input that is a file, or one of which four bytes were read before."""
+    for name, path, place in (("a file", machine.two, 0), ("a file, read before", before, 4)):
+        with open(path, "rb", buffering=0) as file:
+            file.seek(place)
+            machine.whole(command, f"- is {name}", ["-"], [split(TWO)], stdin=file)
 
 
 def beside_closed_input(machine: Machine, command: Command) -> Ran:
@@ -293,8 +283,11 @@ def check_reasons(machine: Machine) -> None:
             tells(machine, command, name, path, file, reason, **(AS_NOBODY if reason == "Permission denied" else {}))
         tells(machine, command, "- is closed", "-", IO, CLOSED, **closing(0))
         tells(machine, command, "/dev/stdin, closed", "/dev/stdin", IO, FOLDER, **closing(0))
-        with open("/dev/null", "wb") as null:
-            tells(machine, command, "- is open for writing only", "-", IO, CLOSED, stdin=null)
+        for name, path, how, reason in (("open for writing only", os.devnull, os.O_WRONLY, CLOSED),
+                                        ("a folder", machine.room, os.O_RDONLY, FOLDER)):
+            given = os.open(path, how)
+            tells(machine, command, f"- is {name}", "-", IO, reason, stdin=given)
+            os.close(given)
         master, terminal = pty.openpty()
         with os.fdopen(master, "rb", buffering=0) as given:  # reads of it fail after this text
             tty.setraw(terminal)

@@ -16,14 +16,15 @@ from typing import Any
 import programs
 from machine import (
     both_ends, broken_pipe, closing, Command, COMMANDS, EDGE, expected_lines, File, FRAMES, FULL, full_disk, IO,
-    is_beginning, is_whole, LAYOUT, LAYOUTS, limits, lines_of, LONG, Machine, MANY, PATIENCE, place_in, Ran, split,
+    is_beginning, is_whole, LAYOUT, LAYOUTS, lines_of, LONG, Machine, MANY, PATIENCE, place_in, Ran, split,
     TRIANGLE, TWO, wait_for, waiting_bytes, WRITE)
 from planarbend.layout.planar_code import HEADER
+from programs import limits
 
 
 # ---- Standard output and standard error that are closed or full.
 
-IGNORED = {"preexec_fn": lambda: signal.signal(signal.SIGPIPE, signal.SIG_IGN)}
+IGNORED = {"restore_signals": False}  # Python ignores SIGPIPE and SIGXFSZ, and so does then the program
 
 
 def check_outputs(machine: Machine) -> None:
@@ -80,11 +81,8 @@ def nobody_reads(machine: Machine, command: Command, long: str) -> None:
 
 def to_a_short_file(machine: Machine, words: list[Any]) -> Ran:
     """A run that writes to a file limited to 16 bytes."""
-    def prepare() -> None:
-        signal.signal(signal.SIGXFSZ, signal.SIG_IGN)
-        limits(FSIZE=16)()
     with open(machine.path(), "w+b") as file:
-        ran = machine.ran(words, stdout=file, preexec_fn=prepare)
+        ran = machine.ran(words, stdout=file, preexec_fn=limits(FSIZE=16), **IGNORED)
         file.seek(0)
         return ran._replace(out=file.read())
 
@@ -128,7 +126,7 @@ def check_signals(machine: Machine) -> None:
                 with machine.started([*command.words, path]) as child:
                     writer.write(TWO + EDGE[:2])
                     wait_for(lambda: not waiting_bytes(writer.fileno()), "a read")
-                    ends_by(machine, child, which)
+                    ends_by(machine, child, which, writes=command.frames)  # which prints as records come
             with machine.case(command, f"{which.name} while it writes"):
                 with machine.started([*command.words, long]) as child:
                     wait_for(lambda: waiting_bytes(child.stdout.fileno()) > FULL_PIPE, "a full pipe")

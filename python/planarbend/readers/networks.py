@@ -128,11 +128,16 @@ def scanned(data: bytes) -> list[tuple[str, str, bool | None]]:
         raise Fault(f"not XML: {expat.errors.messages[error.code]}", error.lineno) from None
     if not graphs:
         raise Fault("not GraphML: it has no graph")
+    look_at_ends(nodes, edges)
+    return [(tail, head, directed) for _, tail, head, directed in edges]
+
+
+def look_at_ends(nodes: set[str], edges: Iterable[tuple[int, str, str, bool | None]]) -> None:
+    """Raise a `Fault` with the line of the first edge of which an end is not a node."""
     for line, *ends, _ in edges:
         for end in ends:
             if end not in nodes:
                 raise Fault(f"the edge's end {shown(str(end))} is not a node", line)
-    return [(tail, head, directed) for _, tail, head, directed in edges]
 
 
 def read_gml(data: bytes) -> Graph:
