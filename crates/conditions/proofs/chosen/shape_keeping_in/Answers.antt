@@ -1,8 +1,13 @@
+use Rattle.std.proofs.Common.{subst, sym}
+use Rattle.std.proofs.lemmas.Result.{err_from_is_err_and}
+use Rattle.conditions.specs.Chosen.{IsKeepFault}
 use Rattle.conditions.proofs.Kept.{asked_moved, fault_told}
 use Rattle.conditions.proofs.chosen.shape_keeping_in.Goals as goal
 
 pub returns-in_err-by_darts-clause-fault : goal.returns-in_err-by_darts-clause-fault
-returns-in_err-by_darts-clause-fault c = c.in_err-by_darts.ensures.fault c.args.choice
+returns-in_err-by_darts-clause-fault c =
+    let q = err_from_is_err_and c.from_residual.result c.from_residual.ensures.1 in
+    rw q.1 (subst (IsKeepFault c.args.conditions.now c.args.choice c.args.plane.now) (sym q.2) (c.in_err-by_darts.ensures.fault c.args.choice))
 
 pub returns-in-Ok-chosen_shape-clause-kept : goal.returns-in-Ok-chosen_shape-clause-kept
 returns-in-Ok-chosen_shape-clause-kept c =
