@@ -135,10 +135,7 @@ fn back(turns: Option<i32>) -> Option<i32>
 fn is_angle(angle: Option<u8>) -> bool
     ensures { IsTrue result ↔ IsAngle angle }
 {
-    match angle {
-        Some(angle) => 1 <= angle && angle <= 4,
-        None => true,
-    }
+    matches!(angle, None | Some(1..=4))
 }
 
 /// Whether all turns together are at most `MAX_GIVEN_TURNS`. Linear in the list.
@@ -170,8 +167,5 @@ pub(crate) fn beyond(angle: Option<u8>) -> i32
 pub(crate) fn lefts(turns: Option<i32>) -> i32
     ensures { result ≡ lefts_given turns }
 {
-    match turns {
-        Some(turns) => turns,
-        None => 0,
-    }
+    turns.unwrap_or(0)
 }

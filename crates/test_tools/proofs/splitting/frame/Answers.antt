@@ -4,7 +4,7 @@ use Rattle.std.proofs.lemmas.List.{take_more, flat_map_more}
 use Rattle.std.specs.List.{flat_map}
 use Rattle.planar_code.specs.FramerState.{StandsAt}
 use Rattle.planar_code.proofs.Feeding.{stands-feeds}
-use Rattle.planar_code.proofs.pieces.frame.Goals as goal
+use Rattle.test_tools.proofs.splitting.frame.Goals as goal
 
 pub loop-piece-preserved : goal.loop-piece-preserved
 loop-piece-preserved c =

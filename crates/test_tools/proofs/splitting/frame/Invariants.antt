@@ -1,7 +1,7 @@
 use Rattle.std.proofs.Common.{take}
 use Rattle.std.specs.List.{flat_map}
 use Rattle.planar_code.specs.FramerState.{StandsAt}
-use Rattle.planar_code.proofs.pieces.frame.Given as goal
+use Rattle.test_tools.proofs.splitting.frame.Given as goal
 
 -- the pieces up to here have led to the framer's state
 abbrev pub invariant-loop-piece : goal.invariant-loop-piece

@@ -1,7 +1,7 @@
 use Rattle.std.proofs.Common.{◌≤◌, vec_capacity}
 use Rattle.embedding.specs.Darts.{dart_count, first_dart, head_of}
 use Rattle.embedding.specs.Tables.{IsTable}
-use Rattle.embedding.proofs.tables.darts_in.Given as goal
+use Rattle.embedding.proofs.graphs.Graph.of.Given as goal
 
 abbrev pub invariant-loop-place : goal.invariant-loop-place
 invariant-loop-place l = record {
