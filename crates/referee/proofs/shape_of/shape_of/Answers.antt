@@ -10,7 +10,7 @@ use Rattle.std.proofs.lemmas.Result.{err_from_is_err_and}
 use Rattle.referee.specs.Faults.{AreOnGridLines, IsFirstFailure}
 use Rattle.referee.specs.declared.fault.Fault.{Fault}
 use Rattle.referee.proofs.Listed.{taken_of}
-use Rattle.referee.proofs.shape_of.shape_in.Goals as goal
+use Rattle.referee.proofs.shape_of.shape_of.Goals as goal
 
 pub returns-clause-taken : goal.returns-clause-taken
 returns-clause-taken c =
@@ -28,6 +28,6 @@ returns-clause-taken c =
 
 pub returns-in_err-strings-clause-first : goal.returns-in_err-strings-clause-first
 returns-in_err-strings-clause-first c =
-    let q = err_from_is_err_and c.from_residual.result c.from_residual.ensures.1 in
+    let q = err_from_is_err_and c.from_residual-in_err-strings.result c.from_residual-in_err-strings.ensures.1 in
     rw q.1 (λ some. subst (λ (fault : Fault). AreOnGridLines c.args.plane.now c.args.points.now → IsFirstFailure c.args.plane.now c.args.points.now fault) (sym q.2)
     (c.in_err-strings.ensures.first (λ m. some (q.2 ∙ m))))
