@@ -31,7 +31,10 @@ pub fn room_for(plane: &Plane, shape: &Shape) -> Result<u32, AllocError>
     let graph = plane.graph();
     let turns = shape.turn_count();
     let old = u64::from(graph.darts()) + 8 * u64::from(graph.vertices());
-    u32::try_from(old + 3 * turns + u64::from(RECTANGLE_ROOM)).map_err(|_| AllocError)
+    match u32::try_from(old + 3 * turns + u64::from(RECTANGLE_ROOM)) {
+        Ok(room) => Ok(room),
+        Err(_) => Err(AllocError),
+    }
 }
 
 /// A table of `darts` darts and `vertices` vertices, not written yet, with room for at least `places` darts.
