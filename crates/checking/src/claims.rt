@@ -202,8 +202,9 @@ fn letters_of(alloc: Global, letters: &[u8]) -> Result<Vec<Turn>, LineFault>
 {
     let mut turns = Vec::new(alloc);
     for letter in letters {
-        let Some(turn) = turn_of(*letter) else {
-            return Err(LineFault::Turns);
+        let turn = match turn_of(*letter) {
+            Some(turn) => turn,
+            None => return Err(LineFault::Turns),
         };
         turns.push(turn)?;
     }

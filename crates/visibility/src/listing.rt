@@ -55,7 +55,7 @@ impl Lists {
         if !find_ends(x, y)? {
             return Ok(false);
         }
-        find_ends(y, x)
+        Ok(find_ends(y, x)?)
     }
 
     /// Joins the ends of all edges that have no corner, and lists those that have some.

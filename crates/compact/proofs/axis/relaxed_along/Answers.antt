@@ -5,7 +5,11 @@ use Rattle.compact.specs.Constraints.{Satisfies}
 use Rattle.compact.specs.Monotone.{AreLeastOnAxis, growth}
 use Rattle.dissect.specs.Boxes.{dart_map}
 use Rattle.compact.proofs.Constraining.{all_along}
+use Rattle.std.proofs.lemmas.Result.{err_from_is_err_and}
 use Rattle.compact.proofs.axis.relaxed_along.Goals as goal
+
+pub returns-in_err-constraints_along-clause-fault : goal.returns-in_err-constraints_along-clause-fault
+returns-in_err-constraints_along-clause-fault c = let q = err_from_is_err_and c.from_residual.result c.from_residual.ensures.1 in rw (q.1, q.2) tt
 
 pub relax_in_rounds-all_satisfied-requires-clause-low : goal.relax_in_rounds-all_satisfied-requires-clause-low
 relax_in_rounds-all_satisfied-requires-clause-low c = λ y keeps v v_in.
