@@ -318,7 +318,7 @@ def wait_for(holds: Callable[[], object], text: str, patience: float, pause: flo
 def peak_of(process: int) -> int:
     """The most memory, in bytes, that a process has had so far; 0 once it has ended."""
     with contextlib.suppress(OSError):
-        if found := re.search(rb"^VmHWM: *\t*(\d+)", read(f"/proc/{process}/status"), re.M):
+        if found := re.search(rb"^VmHWM:\s*(\d+)", read(f"/proc/{process}/status"), re.M):
             return int(found[1]) * 1024
     return 0
 

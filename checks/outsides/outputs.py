@@ -362,7 +362,6 @@ def changes_nothing_else(machine: Machine, command: Command) -> None:
         with machine.case(command, "standard output full"):
             ran = machine.ran([*command.words, machine.two], stdout=full)
             assert ran.status == 1 and ran.err.endswith("/s\n" + FULL), ran
-    machine.faulty(command, "257 files", [*command.words, *[machine.two] * 257], 2, "planarbend: more than 256 files\n")
 
 
 # ---- How far a later file is read while the first is held, by `--waiting`; and how many files are open at once, by
