@@ -335,11 +335,6 @@ def written(path: str, *words: str) -> str:
     return path
 
 
-def repeated(folder: str, path: str, times: int) -> str:
-    """A file with the records of this one, this many times over."""
-    return write(os.path.join(folder, f"{times}_{os.path.basename(path)}"), records_of(path) * times)
-
-
 def files(folder: str, count: int) -> list[str]:
     """Files of this many random graphs of each kind, and the one of small graphs."""
     random = [generated(folder, kind, vertices, count, seed) for kind, vertices, seed in KINDS]
@@ -376,7 +371,7 @@ def text_of(words: Iterable[object]) -> str:
     return str(ran(words, text=True).stdout)
 
 
-def figures(words: Sequence[str], given: bytes = b"") -> dict[str, int]:
+def figures(words: Iterable[object]) -> dict[str, int]:
     """The numbers that a program prints in one line, by name."""
-    pairs = (word.partition("=") for word in ran(words, input=given).stdout.decode().split())
+    pairs = (word.partition("=") for word in text_of(words).split())
     return {name: int(figure) for name, _, figure in pairs if figure}
