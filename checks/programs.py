@@ -318,7 +318,7 @@ def wait_for(holds: Callable[[], object], text: str, patience: float, pause: flo
 def peak_of(process: int) -> int:
     """The most memory, in bytes, that a process has had so far; 0 once it has ended."""
     with contextlib.suppress(OSError):
-        if found := re.search(rb"^VmHWM: *\t*(\d+)", read(f"/proc/{process}/status"), re.M):
+        if found := re.search(rb"^VmHWM:\s*(\d+)", read(f"/proc/{process}/status"), re.M):
             return int(found[1]) * 1024
     return 0
 
@@ -333,11 +333,6 @@ def written(path: str, *words: str) -> str:
     with open(path, "wb") as out:
         subprocess.run([sys.executable, os.path.join(OUTSIDE, "generate.py"), *words], check=True, stdout=out)
     return path
-
-
-def repeated(folder: str, path: str, times: int) -> str:
-    """A file with the records of this one, this many times over."""
-    return write(os.path.join(folder, f"{times}_{os.path.basename(path)}"), records_of(path) * times)
 
 
 def files(folder: str, count: int) -> list[str]:
@@ -376,7 +371,7 @@ def text_of(words: Iterable[object]) -> str:
     return str(ran(words, text=True).stdout)
 
 
-def figures(words: Sequence[str], given: bytes = b"") -> dict[str, int]:
+def figures(words: Iterable[object]) -> dict[str, int]:
     """The numbers that a program prints in one line, by name."""
-    pairs = (word.partition("=") for word in ran(words, input=given).stdout.decode().split())
+    pairs = (word.partition("=") for word in text_of(words).split())
     return {name: int(figure) for name, _, figure in pairs if figure}

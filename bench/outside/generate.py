@@ -25,8 +25,7 @@
     families  graphs whose fewest bends are known (crates/corpus/data/families.pc). Paths of 2 to 40 vertices, cycles of
               4 to 40 and of 255, stars of 2 to 4 leaves and grids of 2 to 6 by 2 to 6 vertices need no bend; a triangle
               needs 1, K4 and each prism over a cycle of 3 to 12 need 4, the octahedron, which is the antiprism over a
-              triangle, needs 12, and an antiprism over a cycle of k = 4 to 12 needs 2k + 4. --report prints instead the
-              report that `planarbend layout` must give for it.
+              triangle, needs 12, and an antiprism over a cycle of k = 4 to 12 needs 2k + 4.
 
 Needs Python's standard library alone, and takes a few milliseconds a graph of 250 vertices.
 """
@@ -40,7 +39,6 @@ from collections.abc import Callable, Iterator
 sys.path.insert(0, os.path.join(os.path.dirname(os.path.abspath(__file__)), "../../checks"))
 import programs
 from planarbend.layout.planar_code import HEADER, MOST_VERTICES, Lists, record_of, wide_record_of
-from planarbend.layout.reports import End, File, Graph
 
 MOST_DEGREE = 4
 TREE = [[2, 3, 4], [1, 5, 6], [1, 7, 8], [1, 9, 10], [2], [2], [3], [3], [4], [4]]
@@ -288,15 +286,6 @@ def form_of(lists: Lists) -> bytes:
     return record_of(lists) if len(lists) <= MOST_VERTICES else b"\0" + wide_record_of(lists).tobytes()
 
 
-def report() -> Iterator[object]:
-    """The lines of the report on the families."""
-    graphs = families()
-    yield File(1)
-    for number, ((places, edges), bends) in enumerate(graphs, 1):
-        yield Graph(number, (len(places), len(edges), len(edges) - len(places) + 2), bends, "yes")
-    yield End("complete", len(graphs))
-
-
 FIXED: dict[str, Callable[[], Iterator[Lists]]] = {
     "copies": lambda: iter([TREE, PATH] * 12),
     "prism": lambda: iter([medial_of_prism()]), "growing": lambda: growing(medial_of_prism()),
@@ -306,14 +295,10 @@ FIXED: dict[str, Callable[[], Iterator[Lists]]] = {
 def main() -> None:
     parser = programs.parser_of(
         __doc__, ("kind", {"metavar": "KIND", "choices": [*RANDOM, *FIXED], "help": ", ".join([*RANDOM, *FIXED])}),
-        ("numbers", {"metavar": "NUMBER", "type": int, "nargs": "*", "help": "of random graphs: VERTICES COUNT SEED"}),
-        ("--report", {"action": "store_true", "help": "of families: print the report instead"}))
+        ("numbers", {"metavar": "NUMBER", "type": int, "nargs": "*", "help": "of random graphs: VERTICES COUNT SEED"}))
     told = parser.parse_args()
     if len(told.numbers) != (3 if told.kind in RANDOM else 0):
         parser.error("VERTICES, COUNT and SEED go with random graphs")
-    if told.report:
-        print(*report(), sep="\n")
-        return
     graphs = random_graphs(told.kind, *told.numbers) if told.kind in RANDOM else FIXED[told.kind]()
     sys.stdout.buffer.write(HEADER)
     sys.stdout.buffer.writelines(map(form_of, graphs))

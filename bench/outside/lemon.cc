@@ -1,9 +1,8 @@
-// Answers of an outside program, to compare with, by its first argument. FILE is planar_code. `bends`, `best` and `planes`
-// print the lines of the report up to the bends, by LEMON's network simplex, and totals after each file.
+// Answers of an outside program, to compare with, by its first argument. FILE is planar_code. `bends` and `best` print
+// the lines of the report up to the bends, by LEMON's network simplex, and totals after each file.
 //
 //   bends FILES   the fewest bends of each graph
 //   best FILES    the fewest bends with whichever face as the outer one
-//   planes FILES  rules and faces alone
 //   times FILE N  a line: the nanoseconds of building and solving the networks of all graphs, each the least of N times
 //   turning FILE  a line: how many vertices have degree 2, and how few of them turn in shapes with the fewest bends
 //   frames FILE   the lines of `planarbend frames` for a file without faults
@@ -72,7 +71,7 @@ static void print_report(const std::string &text, const std::string &mode) {
       std::printf("graph %ld refused %s\n", number + 1, rule);
       continue;
     }
-    const long bends = mode == "planes" ? 0 : mode == "best" ? best_bends(graph) : fewest_bends(graph);
+    const long bends = mode == "best" ? best_bends(graph) : fewest_bends(graph);
     ++accepted;
     all_bends += bends;
     std::printf("graph %ld ok n=%d m=%d f=%zu bends=%ld\n", number + 1, graph.vertices, graph.darts() / 2, graph.degree.size(),
@@ -107,7 +106,7 @@ int main(int count, char **words) {
   if (mode == "frames") return print_frames(bytes_of(words[2]));
   if (mode == "turning") return print_turning(bytes_of(words[2]));
   if (mode == "times" && count > 3) return print_times(bytes_of(words[2]), std::atoi(words[3]));
-  if (mode != "bends" && mode != "best" && mode != "planes") return 2;
+  if (mode != "bends" && mode != "best") return 2;
   for (int file = 2; file < count; ++file) print_report(bytes_of(words[file]), mode);
   return 0;
 }

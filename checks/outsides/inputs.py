@@ -33,6 +33,7 @@ def check_files(machine: Machine) -> None:
     address, zeros = machine.path(), machine.file(HEADER + EDGE + b"\0" + EDGE)
     spaced = machine.file(TWO, os.path.join(machine.folder, " a name\nwith\tspaces and lines "))
     unicode = machine.file(TWO, os.path.join(machine.folder, "größe-图").encode())
+    long = machine.file(TWO, os.path.join(machine.folder, "n" * 255))
     no_utf8 = machine.file(TWO, os.path.join(machine.folder.encode(), b"\xff\xfe"))
     files: list[tuple[str, Any, File]] = [
         ("a socket", address, IO), ("/dev/null", "/dev/null", EMPTY), ("/dev/zero", "/dev/zero", EMPTY),
@@ -40,6 +41,7 @@ def check_files(machine: Machine) -> None:
         ("a byte 0 for a record", zeros, File([EDGE], "large")),
         ("a list of 255", machine.file(HEADER + EDGE + b"\1" + 255 * b"\1"), File([EDGE], "oversize")),
         ("a name with spaces and lines", spaced, split(TWO)), ("a name in UTF-8", unicode, split(TWO)),
+        ("a name of 255 bytes", long, split(TWO)),
         *((f"two.pc cut after byte {length}", machine.file(TWO[:length]), split(TWO[:length])) for length in range(len(TWO)))]
     with socket.socket(socket.AF_UNIX) as listening:
         listening.bind(address)
@@ -73,7 +75,7 @@ GRAPHS = 45_000  # whose report leaves in more than 100 writes
 
 
 def check_pieces(machine: Machine) -> None:
-    """A long file, a pipe that delivers pieces of all sizes, and files with names of each length."""
+    """A long file, and a pipe that delivers pieces of all sizes."""
     text, records = bulky_text(270)
     machine.whole(FRAMES, "a file of 17 MB", [machine.file(text)], [File(records)])
     with machine.case(FRAMES, "a pipe of 1.3 MB in pieces"):
@@ -83,9 +85,6 @@ def check_pieces(machine: Machine) -> None:
     edges = machine.file(HEADER + EDGE * GRAPHS)
     for command in (LAYOUT, LAYOUT_JSON):
         machine.whole(command, f"{GRAPHS} graphs", [edges], [File([EDGE] * GRAPHS)])
-    for command in (FRAMES, LAYOUT):
-        with machine.case(command, "names of 1 to 255 bytes"):
-            names_of_each_length(machine, command)
 
 
 def bulky_text(count: int) -> tuple[bytes, list[bytes]]:
@@ -107,15 +106,6 @@ def in_pieces(machine: Machine, command: Command, text: bytes, records: list[byt
                 os.write(pipe, text[place:min(place + PIECE // 2, end)])
                 wait_for(lambda: not waiting_bytes(pipe) or child.poll() is not None, "a read")
         is_whole(command, machine.ended(child), [File(records)])
-
-
-def names_of_each_length(machine: Machine, command: Command) -> None:
-    """Files with names of 1 to 255 bytes, each with as many records as its name has bytes."""
-    for length in range(1, 256):
-        name = "n" * length
-        path = machine.file(HEADER + EDGE * length, os.path.join(machine.folder, name))
-        is_whole(command, machine.ran([*command.words, os.path.join("..", name)]), [File([EDGE] * length)])
-        os.remove(path)
 
 
 # ---- Pipes, slow files and standard input, by its path and by its name `-`.

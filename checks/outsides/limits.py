@@ -45,17 +45,17 @@ def check_open_files(machine: Machine) -> None:
                 is_whole(command, machine.ended(child), [split(TWO), IO])
 
 
-# ---- Limits on threads: besides its first thread, a run has four threads for each lane, and `frames` one.
+# ---- Limits on threads: besides its first thread, a run has four threads for each lane, and `frames` none.
 
 def check_threads(machine: Machine) -> None:
     """If a thread cannot be started, the error says so; a lane may end before the next one starts."""
     alone = IS_ROOT and not is_in_use(NOBODY)
     for command in COMMANDS:
-        enough = 2 if command.frames else 1 + 4 * command.lanes
+        enough = 1 if command.frames else 1 + 4 * command.lanes
         for most in range(1, enough + 2):
             with machine.case(command, f"ulimit -u {most} as {'nobody' if IS_ROOT else 'this user'}"):
                 ran = machine.ran([*command.words, machine.two], preexec_fn=limits(NPROC=most), **AS_NOBODY)
-                if ran.status == 0 and most > 1 or most >= enough and alone:
+                if ran.status == 0 and most >= min(enough, 2) or most >= enough and alone:
                     is_whole(command, ran, [split(TWO)])
                 else:
                     is_fault(ran, 1, THREAD)
@@ -94,7 +94,7 @@ def check_memory(machine: Machine) -> None:
     few, many = File([TRIANGLE] * 1000), File([TRIANGLE] * 4000)
     thousand, thousands = (machine.file(HEADER + b"".join(file.records)) for file in (few, many))
     for command in COMMANDS:
-        stacks = least + 8192 * (1 if command.frames else 4 * command.lanes)
+        stacks = least + 8192 * (0 if command.frames else 4 * command.lanes)
         above = [stacks + step for step in (0, 512, 1024, 2048, 4096, 8192, 16_384, 65_536, 262_144, 4 << 20)]
         climb(machine, Climb(command, "2 graphs", machine.two, split(TWO), steps, {}))
         climb(machine, Climb(command, "1000 graphs", thousand, few, above, {}))

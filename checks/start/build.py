@@ -358,9 +358,8 @@ def compile_proved(crates, held):
         process = start(words, "planarbend", held)
         try:
             log, _ = process.communicate()
-        except SystemExit:  # by a signal
+        finally:  # also by a signal
             end(process)
-            raise
         if process.returncode:
             stop_failed(log)
 
