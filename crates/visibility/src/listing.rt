@@ -29,103 +29,102 @@ pub(crate) struct Bent {
 /// The maximum number of vertices and corners.
 const MAX_PLACES: usize = 65_535;
 
-impl Lists {
-    /// Lists the segments of a drawing along both axes, with their ends; false if there are too many vertices and corners,
-    /// or if one of them is on no segment.
-    pub(crate) fn list_segments(
-        &mut self,
-        plane: &Plane,
-        points: &Points,
-    ) -> Result<bool, AllocError>
-        requires points { HasPoints plane.now points.now }
-        ensures { IfOk result (λ listed. listed ≡ true → AreCrossed self.new.x self.new.y) }
-    {
-        let vertices = plane.graph().vertices();
-        self.x.begin(vertices)?;
-        self.y.begin(vertices)?;
-        self.bent.clear();
-        self.list_edges(plane, points)?;
-        let x = &mut self.x;
-        let y = &mut self.y;
-        if !list_straight(vertices, points, x, y)?
-            || !list_bent(self.bent.as_slice(), points, x, y)?
-        {
-            return Ok(false);
-        }
-        if !find_ends(x, y)? {
-            return Ok(false);
-        }
-        Ok(find_ends(y, x)?)
+/// Lists the segments of a drawing along both axes, with their ends; false if there are too many vertices and corners,
+/// or if one of them is on no segment.
+pub(crate) fn list_segments(
+    lists: &mut Lists,
+    plane: &Plane,
+    points: &Points,
+) -> Result<bool, AllocError>
+    requires points { HasPoints plane.now points.now }
+    ensures { IfOk result (λ listed. listed ≡ true → AreCrossed lists.new.x lists.new.y) }
+{
+    let vertices = plane.graph().vertices();
+    lists.x.begin(vertices)?;
+    lists.y.begin(vertices)?;
+    lists.bent.clear();
+    list_edges(lists, plane, points)?;
+    let x = &mut lists.x;
+    let y = &mut lists.y;
+    if !list_straight(vertices, points, x, y)? {
+        return Ok(false);
     }
+    if !list_bent(lists.bent.as_slice(), points, x, y)? {
+        return Ok(false);
+    }
+    if !find_ends(x, y)? {
+        return Ok(false);
+    }
+    Ok(find_ends(y, x)?)
+}
 
-    /// Joins the ends of all edges that have no corner, and lists those that have some.
-    fn list_edges(&mut self, plane: &Plane, points: &Points) -> Result<(), AllocError>
-        requires points { HasPoints plane.now points.now }
-        requires x_edges { length points.now.vertices < vec_len self.old.x.edges.beside }
-        requires y_edges { length points.now.vertices < vec_len self.old.y.edges.beside }
-        requires bent { All (λ b. b.edge < length points.now.corners) self.old.bent.items }
-        ensures x { self.new.x.segments ≡ self.old.x.segments }
-        ensures y { self.new.y.segments ≡ self.old.y.segments }
-        ensures x_of { self.new.x.of ≡ self.old.x.of }
-        ensures y_of { self.new.y.of ≡ self.old.y.of }
-        ensures x_edges { vec_len self.new.x.edges.beside ≡ vec_len self.old.x.edges.beside }
-        ensures y_edges { vec_len self.new.y.edges.beside ≡ vec_len self.old.y.edges.beside }
-        ensures bent { OnOk result (All (λ b. b.edge < length points.now.corners) self.new.bent.items) }
-    {
-        let graph = plane.graph();
-        let mut edge = 0;
-        for dart in 0..graph.darts() {
-            let reverse = graph.reverse(dart);
-            if dart < reverse {
-                self.list_edge(points, edge, graph.head(reverse), graph.head(dart))?;
-                edge += 1;
-            }
+/// Joins the ends of all edges that have no corner, and lists those that have some.
+fn list_edges(lists: &mut Lists, plane: &Plane, points: &Points) -> Result<(), AllocError>
+    requires points { HasPoints plane.now points.now }
+    requires x_edges { length points.now.vertices < vec_len lists.old.x.edges.beside }
+    requires y_edges { length points.now.vertices < vec_len lists.old.y.edges.beside }
+    requires bent { All (λ b. b.edge < length points.now.corners) lists.old.bent.items }
+    ensures x { lists.new.x.segments ≡ lists.old.x.segments }
+    ensures y { lists.new.y.segments ≡ lists.old.y.segments }
+    ensures x_of { lists.new.x.of ≡ lists.old.x.of }
+    ensures y_of { lists.new.y.of ≡ lists.old.y.of }
+    ensures x_edges { vec_len lists.new.x.edges.beside ≡ vec_len lists.old.x.edges.beside }
+    ensures y_edges { vec_len lists.new.y.edges.beside ≡ vec_len lists.old.y.edges.beside }
+    ensures bent { OnOk result (All (λ b. b.edge < length points.now.corners) lists.new.bent.items) }
+{
+    let graph = plane.graph();
+    let mut edge = 0;
+    for dart in 0..graph.darts() {
+        let reverse = graph.reverse(dart);
+        if dart < reverse {
+            list_edge(lists, points, edge, graph.head(reverse), graph.head(dart))?;
+            edge += 1;
         }
-        Ok(())
     }
+    Ok(())
+}
 
-    /// Joins the ends of an edge that has no corner, or lists it if it has some.
-    fn list_edge(
-        &mut self,
-        points: &Points,
-        edge: u16,
-        tail: u16,
-        head: u16,
-    ) -> Result<(), AllocError>
-        requires edge { edge < length points.now.corners }
-        requires starts { 0 < tail }
-        requires tail { tail ≤ length points.now.vertices }
-        requires ends { 0 < head }
-        requires head { head ≤ length points.now.vertices }
-        requires x_edges { length points.now.vertices < vec_len self.old.x.edges.beside }
-        requires y_edges { length points.now.vertices < vec_len self.old.y.edges.beside }
-        requires bent { All (λ b. b.edge < length points.now.corners) self.old.bent.items }
-        ensures x { self.new.x.segments ≡ self.old.x.segments }
-        ensures y { self.new.y.segments ≡ self.old.y.segments }
-        ensures x_of { self.new.x.of ≡ self.old.x.of }
-        ensures y_of { self.new.y.of ≡ self.old.y.of }
-        ensures x_edges { vec_len self.new.x.edges.beside ≡ vec_len self.old.x.edges.beside }
-        ensures y_edges { vec_len self.new.y.edges.beside ≡ vec_len self.old.y.edges.beside }
-        ensures bent { OnOk result (All (λ b. b.edge < length points.now.corners) self.new.bent.items) }
-    {
-        let from = points.vertex(tail);
-        let to = points.vertex(head);
-        if let Some(first) = points.corners(edge).first() {
-            self.bent.push(Bent {
-                edge,
-                tail: tail - 1,
-                head: head - 1,
-                from,
-                to,
-                vertical: first.x == from.x,
-            })?;
-        } else if from.x == to.x {
-            self.x.edges.connect(tail, from.y, head, to.y);
-        } else {
-            self.y.edges.connect(tail, from.x, head, to.x);
-        }
-        Ok(())
+/// Joins the ends of an edge that has no corner, or lists it if it has some.
+fn list_edge(
+    lists: &mut Lists,
+    points: &Points,
+    edge: u16,
+    tail: u16,
+    head: u16,
+) -> Result<(), AllocError>
+    requires edge { edge < length points.now.corners }
+    requires starts { 0 < tail }
+    requires tail { tail ≤ length points.now.vertices }
+    requires ends { 0 < head }
+    requires head { head ≤ length points.now.vertices }
+    requires x_edges { length points.now.vertices < vec_len lists.old.x.edges.beside }
+    requires y_edges { length points.now.vertices < vec_len lists.old.y.edges.beside }
+    requires bent { All (λ b. b.edge < length points.now.corners) lists.old.bent.items }
+    ensures x { lists.new.x.segments ≡ lists.old.x.segments }
+    ensures y { lists.new.y.segments ≡ lists.old.y.segments }
+    ensures x_of { lists.new.x.of ≡ lists.old.x.of }
+    ensures y_of { lists.new.y.of ≡ lists.old.y.of }
+    ensures x_edges { vec_len lists.new.x.edges.beside ≡ vec_len lists.old.x.edges.beside }
+    ensures y_edges { vec_len lists.new.y.edges.beside ≡ vec_len lists.old.y.edges.beside }
+    ensures bent { OnOk result (All (λ b. b.edge < length points.now.corners) lists.new.bent.items) }
+{
+    let from = points.vertex(tail);
+    let to = points.vertex(head);
+    if let Some(first) = points.corners(edge).first() {
+        lists.bent.push(Bent {
+            edge,
+            tail: tail - 1,
+            head: head - 1,
+            from,
+            to,
+            vertical: first.x == from.x,
+        })?;
+    } else if from.x == to.x {
+        lists.x.edges.connect(tail, from.y, head, to.y);
+    } else {
+        lists.y.edges.connect(tail, from.x, head, to.x);
     }
+    Ok(())
 }
 
 /// Lists the segments of this many vertices and the straight edges between them; false if there is no room.

@@ -1,6 +1,6 @@
 //! The points of vertices and corners on their segments.
 
-ghost use Rattle.std.specs.Prelude.{◌≡◌, ◌+◌, ◌++◌, List, true, length, IfOk, IfSome, OnOk};
+ghost use Rattle.std.specs.Prelude.{◌≡◌, ◌++◌, List, length, IfOk, IfSome, OnOk};
 ghost use Rattle.ortho_rep.specs.declared.points.Point.{Point};
 ghost use Rattle.common.specs.Slices.{slices_at, AreStarts};
 
@@ -25,11 +25,31 @@ pub(crate) fn points_on(
     let Some((corners, starts)) = corner_points(alloc, old, vertices, edges, x, y)? else {
         return Ok(None);
     };
-    let mut points = Vec::with_capacity(alloc, x.of.len() + usize::from(edges))?;
-    if !push_points(&mut points, x, y, 0, usize::from(vertices))? {
+    let room = x.of.len() + usize::from(edges);
+    let Some(points) = vertex_points(alloc, vertices, room, x, y)? else {
         return Ok(None);
-    }
+    };
     Ok(Some(Points::concatenated(points, &corners, &starts)?))
+}
+
+/// The points of this many vertices, in a list with this much room; `None` if one of them is on no segment.
+fn vertex_points(
+    alloc: Global,
+    count: u16,
+    room: usize,
+    x: &Segments,
+    y: &Segments,
+) -> Result<Option<Vec<Point>>, AllocError>
+    ensures { IfOk result (λ found. IfSome found (λ points. length points.items ≡ count)) }
+{
+    let mut points = Vec::with_capacity(alloc, room)?;
+    for place in 0..count {
+        let Some(point) = point_at(x, y, usize::from(place)) else {
+            return Ok(None);
+        };
+        points.push(point)?;
+    }
+    Ok(Some(points))
 }
 
 /// The corner points of this many edges, one edge after another, and where those of each edge start; one place more,
@@ -54,25 +74,24 @@ fn corner_points(
         if !push_points(&mut corners, x, y, vertices, count)? {
             return Ok(None);
         }
-        starts.push(corners.len())?;
+        let end = corners.len();
+        starts.push(end)?;
     }
     Ok(Some((corners, starts)))
 }
 
-/// Adds the points of this many vertices or corners to those of the ones before them, of which the first has this place;
-/// false if one of them is on no segment.
+/// Adds the points of this many corners to those of the corners before them; false if one of them is on no segment.
 fn push_points(
     points: &mut Vec<Point>,
     x: &Segments,
     y: &Segments,
-    first: u16,
+    vertices: u16,
     count: usize,
 ) -> Result<bool, AllocError>
-    ensures added { OnOk result ((more : List Point) × (points.new.items ≡ points.old.items ++ more)) }
-    ensures count { IfOk result (λ all. all ≡ true → length points.new.items ≡ length points.old.items + count) }
+    ensures { OnOk result ((more : List Point) × (points.new.items ≡ points.old.items ++ more)) }
 {
     for _ in 0..count {
-        let Some(point) = point_at(x, y, usize::from(first) + points.len()) else {
+        let Some(point) = point_at(x, y, usize::from(vertices) + points.len()) else {
             return Ok(false);
         };
         points.push(point)?;

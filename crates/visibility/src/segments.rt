@@ -339,7 +339,11 @@ pub(crate) fn segment_of(of: &[u16], place: usize, count: usize) -> Option<u16>
 {
     // No invariant says that each place is on a segment.
     let segment = *of.get(place)?;
-    (usize::from(segment) < count).then_some(segment)
+    if usize::from(segment) < count {
+        Some(segment)
+    } else {
+        None
+    }
 }
 
 /// The greatest coordinate of a segment; 0 if there are no segments.

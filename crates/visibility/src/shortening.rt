@@ -162,7 +162,10 @@ fn find(
     if find_shorter(search, segments, wires, looks, coordinates)? {
         return Ok(true);
     }
-    Ok(*looks == 0 && take_shorter(search, segments, wires, coordinates)?)
+    if *looks > 0 {
+        return Ok(false);
+    }
+    take_shorter(search, segments, wires, coordinates)
 }
 
 /// Gives segments the coordinates found.
@@ -183,5 +186,10 @@ fn assign(segments: &mut [Segment], places: &[u16], coordinates: &[u16])
 fn are_low(coordinates: &[u16]) -> bool
     ensures { result ≡ true → (r : ℕ) → slice_index coordinates.now r ≤ MAX_COORDINATE }
 {
-    coordinates.iter().all(|c| *c <= MAX_COORDINATE)
+    for coordinate in coordinates {
+        if *coordinate > MAX_COORDINATE {
+            return false;
+        }
+    }
+    true
 }
