@@ -11,5 +11,5 @@ pub returns-in_err-with_least_shape-clause-shaped : goal.returns-in_err-with_lea
 returns-in_err-with_least_shape-clause-shaped c =
     let q = err_from_is_err_and c.from_residual-in_err-with_least_shape.result c.from_residual-in_err-with_least_shape.ensures.1 in
     rw q.1 (λ g made.
-        let traced = subst (IsEmbedded g) c.in_ok-plane.was made in
-        subst (IsRefused g) (sym q.2) (subst (λ (lists : List (List ℕ)). KeepsBefore lists 9) traced.lists traced.rules.rules))
+    let traced = subst (IsEmbedded g) c.in_ok-plane.was made in
+    subst (IsRefused g) (sym q.2) (subst (λ (lists : List (List ℕ)). KeepsBefore lists 9) traced.lists traced.rules.rules))
