@@ -1,5 +1,5 @@
 //! The text of a batch as JSON lines.
-ghost use Rattle.std.specs.Prelude.{◌≡◌, ◌≤◌, ℕ, List, IfOk, false, length};
+ghost use Rattle.std.specs.Prelude.{◌≡◌, ◌≤◌, false, length};
 ghost use Rattle.streams.specs.Sink.{StaysInTransit};
 ghost use Rattle.reports.specs.Writing.{WritesOrLacks, StaysOrLacks};
 ghost use Rattle.reports.specs.Report.{numbered_texts};
@@ -7,8 +7,8 @@ ghost use Rattle.reports.specs.Json.{json_text, book_json, entry_json, end_json}
 
 use crate::json_lines::{end_line, entry_line};
 use crate::{Batch, Book, Entry};
-use std::alloc::{AllocError, Global};
-use streams::{LINE, Sink, TextBuffer, WriteFault};
+use std::alloc::Global;
+use streams::{LINE, Mark, Sink, TextBuffer, WriteFault};
 
 /// Writes a batch as JSON lines: for each file a line for each entry and one for its mark.
 ///
@@ -46,8 +46,7 @@ fn write_book<S: Sink>(
 {
     let entries = book.entries();
     write_entries(alloc, lines, sink, file, entries)?;
-    let end = end_line(alloc, file, book.mark(), entries.len() as u64);
-    write_made(lines, sink, end)
+    write_end(alloc, lines, sink, file, book.mark(), entries.len() as u64)
 }
 
 /// Writes a line for each entry.
@@ -63,23 +62,44 @@ fn write_entries<S: Sink>(
         (S.failed sink.new) (numbered_texts (entry_json file) 1 entries.now) result }
 {
     for (index, entry) in entries.iter().enumerate() {
-        let line = entry_line(alloc, file, index as u64 + 1, entry);
-        write_made(lines, sink, line)?;
+        write_entry(alloc, lines, sink, file, index as u64 + 1, entry)?;
     }
     Ok(())
 }
 
-/// Writes a line that was made, unless there was no memory for it.
-fn write_made<S: Sink>(
+/// Writes the line of one entry.
+fn write_entry<S: Sink>(
+    alloc: Global,
     lines: &mut TextBuffer,
     sink: &mut S,
-    made: Result<Vec<u8>, AllocError>,
+    file: u32,
+    graph: u64,
+    entry: &Entry,
 ) -> Result<(), WriteFault>
     requires { S.failed sink.old ≡ false }
-    ensures { (text : List ℕ) → IfOk made (λ line. line.items ≡ text)
-        → StaysOrLacks (S.taken sink.old) lines.old (S.taken sink.new) lines.new (S.failed sink.new) text result }
+    ensures { StaysOrLacks (S.taken sink.old) lines.old (S.taken sink.new) lines.new
+        (S.failed sink.new) (entry_json file graph entry.now) result }
 {
-    match made {
+    match entry_line(alloc, file, graph, entry) {
+        Ok(line) => push_line(lines, sink, line.as_slice()),
+        Err(_) => Err(WriteFault::Memory),
+    }
+}
+
+/// Writes the line of a mark.
+fn write_end<S: Sink>(
+    alloc: Global,
+    lines: &mut TextBuffer,
+    sink: &mut S,
+    file: u32,
+    mark: Mark,
+    count: u64,
+) -> Result<(), WriteFault>
+    requires { S.failed sink.old ≡ false }
+    ensures { StaysOrLacks (S.taken sink.old) lines.old (S.taken sink.new) lines.new
+        (S.failed sink.new) (end_json file mark count) result }
+{
+    match end_line(alloc, file, mark, count) {
         Ok(line) => push_line(lines, sink, line.as_slice()),
         Err(_) => Err(WriteFault::Memory),
     }

@@ -25,8 +25,8 @@ returns g c =
     let file = c.args.file in
     let book = c.args.book.now in
     let xs = c.entries-entries.result.now in
-    lacks_both (g.S.Sink.taken c.args.sink.now) (g.S.Sink.taken c.write_entries.new.sink) (g.S.Sink.taken c.write_made.new.sink)
-    c.args.lines.now c.write_entries.new.lines c.write_made.new.lines (g.S.Sink.failed c.write_entries.new.sink) (g.S.Sink.failed c.write_made.new.sink)
-    (numbered_texts (entry_json file) 1 xs) (end_json file c.mark.result (length xs)) (book_json file book) tt c.write_made.result c.in_ok-write_entries.ensures (c.write_made.ensures (end_json file c.mark.result (length xs)) c.end_line-end.ensures)
+    lacks_both (g.S.Sink.taken c.args.sink.now) (g.S.Sink.taken c.write_entries.new.sink) (g.S.Sink.taken c.write_end.new.sink)
+    c.args.lines.now c.write_entries.new.lines c.write_end.new.lines (g.S.Sink.failed c.write_entries.new.sink) (g.S.Sink.failed c.write_end.new.sink)
+    (numbered_texts (entry_json file) 1 xs) (end_json file c.mark.result (length xs)) (book_json file book) tt c.write_end.result c.in_ok-write_entries.ensures c.write_end.ensures
     (ap (λ (ys : List Entry). numbered_texts (entry_json file) 1 ys ++ end_json file c.mark.result (length ys)) c.entries-entries.ensures
     ∙ ap (λ (m : Mark). numbered_texts (entry_json file) 1 book.entries ++ end_json file m (length book.entries)) c.mark.ensures)
