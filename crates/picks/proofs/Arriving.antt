@@ -122,7 +122,7 @@ ordered_end choice meaning files file mark came next below ends more were =
     order_but choice meaning files file (all_records came) (all_records next) records.others (subst (IsInOrder choice (meaning file) file) (sym records.here) here) were
 
 -- where the flaws of all but one file are as before
-flaws_but : (files file : ℕ) (before after : List Flaws) (came next : ℕ → Arrived) → ((k : ℕ) (other : Flaws) → k ≢ file → get_or after k other ≡ get_or before k other)
+pub flaws_but : (files file : ℕ) (before after : List Flaws) (came next : ℕ → Arrived) → ((k : ℕ) (other : Flaws) → k ≢ file → get_or after k other ≡ get_or before k other)
     → ((other : ℕ) → other ≢ file → next other ≡ came other) → ((other : Flaws) → get_or after file other ≡ flaws_of (book_so_far (next file)))
     → ((k : ℕ) (other : Flaws) → k < files → get_or before k other ≡ flaws_of (book_so_far (came k))) → (k : ℕ) (other : Flaws) → k < files → get_or after k other ≡ flaws_of (book_so_far (next k))
 flaws_but files file before after came next apart others here were k other below =
@@ -130,6 +130,20 @@ flaws_but files file before after came next apart others here were k other below
       | inl same ↦ subst (λ j. get_or after j other ≡ flaws_of (book_so_far (next j))) (sym same) (here other)
       | inr away ↦ apart k other away ∙ were k other below ∙ ap (λ (a : Arrived). flaws_of (book_so_far a)) (sym (others k away))
     ]
+
+-- the flaws of the file itself
+pub flaws_item : (before after : List Flaws) (file : ℕ) (entry : FactEntry) (came next : ℕ → Arrived) (other : Flaws)
+    → get_or after file other ≡ flaws_with (get_or before file other) entry.about.ordinal entry.facts → get_or before file other ≡ flaws_of (book_so_far (came file))
+    → HasEntryMore file entry came next → get_or after file other ≡ flaws_of (book_so_far (next file))
+flaws_item before after file entry came next other here was more =
+    here ∙ ap (λ f. flaws_with f entry.about.ordinal entry.facts) was
+    ∙ sym (flaws_more (came file).entries entry (mark_or_memory (came file).mark) entry.facts refl) ∙ ap (λ (a : Arrived). flaws_of (book_so_far a)) (sym more.here)
+
+pub flaws_end : (before after : List Flaws) (file : ℕ) (mark : Mark) (came next : ℕ → Arrived) (other : Flaws)
+    → get_or after file other ≡ record (get_or before file other) { mark = mark } → get_or before file other ≡ flaws_of (book_so_far (came file))
+    → HasEndMore file mark came next → get_or after file other ≡ flaws_of (book_so_far (next file))
+flaws_end before after file mark came next other here was more =
+    here ∙ ap (λ (f : Flaws). record f { mark = mark }) was ∙ ap (λ (a : Arrived). flaws_of (book_so_far a)) (sym more.here)
 
 pub arrived_item : (choice : Choice) (meaning : ℕ → Meaning) (files : ℕ) (before after : List Flaws) (ns : List Note) (file : ℕ) (entry : FactEntry) (came next : ℕ → Arrived)
     → file < files → length after ≡ length before
@@ -142,8 +156,7 @@ arrived_item choice meaning files before after ns file entry came next below cou
   ordered = ordered_item choice meaning files file entry came next below comes more was.ordered;
   flaws_count = count ∙ was.flaws_count;
   flaws_are = flaws_but files file before after came next apart more.others
-      (λ other. here other ∙ ap (λ f. flaws_with f entry.about.ordinal entry.facts) (was.flaws_are file other below)
-      ∙ sym (flaws_more (came file).entries entry (mark_or_memory (came file).mark) entry.facts refl) ∙ ap (λ (a : Arrived). flaws_of (book_so_far a)) (sym more.here))
+      (λ other. flaws_item before after file entry came next other (here other) (was.flaws_are file other below) more)
       was.flaws_are;
 }
 
@@ -158,7 +171,7 @@ arrived_end choice meaning files before after ns file mark came next below count
   ordered = ordered_end choice meaning files file mark came next below ends more was.ordered;
   flaws_count = count ∙ was.flaws_count;
   flaws_are = flaws_but files file before after came next apart more.others
-      (λ other. here other ∙ ap (λ (f : Flaws). record f { mark = mark }) (was.flaws_are file other below) ∙ ap (λ (a : Arrived). flaws_of (book_so_far a)) (sym more.here))
+      (λ other. flaws_end before after file mark came next other (here other) (was.flaws_are file other below) more)
       was.flaws_are;
 }
 

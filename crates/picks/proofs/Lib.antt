@@ -3,3 +3,8 @@ pub mod TableParts
 pub mod OneTable
 pub mod RecordEntries
 pub mod PickedFiles
+pub mod Arriving
+pub mod Picking
+pub mod Finishing
+pub mod Held
+pub mod Counting

@@ -9,3 +9,4 @@ pub mod Counted
 pub mod Arrived
 pub mod Holding
 pub mod Stops
+pub mod CountsHeld

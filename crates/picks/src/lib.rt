@@ -4,13 +4,14 @@
 
 mod combination;
 mod conditions;
+mod counting;
 mod counts;
 mod facts;
 mod find_facts;
 mod flaws;
 mod found_facts;
-mod pick_files;
 pub mod pick_laws;
+mod picking;
 mod picks;
 mod range;
 mod table;
@@ -18,12 +19,13 @@ pub mod table_laws;
 
 pub use combination::{Columns, Combination};
 pub use conditions::{Conditions, RuleCondition, Selection};
+pub use counting::{Counted, count_files};
 pub use counts::Counts;
 pub use facts::Facts;
 pub use find_facts::FindFacts;
 pub use flaws::{Flaws, status_of_flaws};
 pub use found_facts::FoundFacts;
-pub use pick_files::pick_files;
+pub use picking::pick_files;
 pub use picks::Picks;
 pub use range::{Range, RangeFault};
 pub use table::write_counts;
