@@ -31,7 +31,7 @@ use Rattle.picks.specs.Books.{FactEntry, FactBook, IsFactBook, AreFactBooks, Are
 use Rattle.picks.specs.Picked.{picked_of_book, picked_text, IsAllPicked, IsPickBegun}
 use Rattle.picks.specs.Arrived.{Arrived, none_arrived, book_so_far, books_up_to, record_of, records_of, picked_up_to}
 use Rattle.picks.specs.Holding.{PicksHold, IsPartlyPicked, files_of}
-use Rattle.picks.proofs.Picking.{up_to_last}
+use Rattle.picks.proofs.PickedText.{up_to_last}
 
 -- the records alone are about the same
 about_records : (entries : List FactEntry) → map reported.about_of (map record_of entries) ≡ map about_of entries

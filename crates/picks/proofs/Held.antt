@@ -23,7 +23,7 @@ use Rattle.picks.specs.Picked.{picked_of}
 use Rattle.picks.specs.Arrived.{Arrived, none_arrived, HasEntryMore, HasEndMore, book_so_far, record_of, records_of, flaws_with, picked_up_to}
 use Rattle.picks.specs.Holding.{AreArrived, ArePicked, ArePicksOf, IsPartOfPicked, IsPartlyPicked, PicksHold, PicksPartly, PicksWrite, files_of}
 use Rattle.picks.proofs.Arriving.{ComesNext, entry_more, has_entry_more, end_more, has_end_more, ordered_item, ordered_end, arrived_item, arrived_end, arrived_none}
-use Rattle.picks.proofs.Picking.{part_here, part_flushed, picked_none}
+use Rattle.picks.proofs.PickedText.{part_here, part_flushed, picked_none}
 
 -- of as many files
 arrived_as : (before after : Choice) (files now : ℕ) (meaning : ℕ → Meaning) (flaws : List Flaws) (ns : List Note) (came : ℕ → Arrived) → after ≡ before → now ≡ files
@@ -58,7 +58,7 @@ left_off_flushed meaning start old new picks ns put held = record {
 }
 
 -- what waited in the buffer was put
-pub held_flushed : (meaning : ℕ → Meaning) (start old new : Option (List ℕ)) (picks : Picks) (buffer : _) (ns : List Note) → Appends old new picks.buffer → buffer ≡ []
+pub held_flushed : (meaning : ℕ → Meaning) (start old new : Option (List ℕ)) (picks : Picks) (buffer : List ℕ) (ns : List Note) → Appends old new picks.buffer → buffer ≡ []
     → PicksHold meaning start old picks ns → PicksHold meaning start new (record picks { buffer = buffer }) ns
 held_flushed meaning start old new picks buffer ns put empty held =
     let way = held.picked.text in
@@ -190,3 +190,7 @@ left_off_end meaning start old new before after ns file mark same below breaks h
     let more = has_end_more file mark held.arrived in
     part_as meaning start new before after next same (ordered_end before.choice meaning (files_of before) file mark held.arrived next below ends more held.are.ordered)
     (breaks held.arrived next more held.picked)
+
+-- what is held is left off as it is
+pub left_off_here : (meaning : ℕ → Meaning) (start now : Option (List ℕ)) (picks : Picks) (ns : List Note) → PicksHold meaning start now picks ns → PicksPartly meaning start now picks
+left_off_here meaning start now picks ns held = left_off_held meaning start now picks picks ns (record { selection = refl; choice = refl; files = refl }) held

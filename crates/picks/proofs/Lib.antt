@@ -4,7 +4,8 @@ pub mod OneTable
 pub mod RecordEntries
 pub mod PickedFiles
 pub mod Arriving
-pub mod Picking
+pub mod PickedText
 pub mod Finishing
 pub mod Held
-pub mod Counting
+pub mod CountedGraphs
+pub mod Runs

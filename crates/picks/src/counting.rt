@@ -17,8 +17,9 @@ use crate::facts::Facts;
 use crate::find_facts::fact_lanes;
 use crate::flaws::{Flaws, add_flaw, no_flaws, set_mark};
 use crate::found_facts::FoundFacts;
+use crate::picking::gather_into;
 use collector::{KnownEnd, KnownFiles};
-use lanes::{Consumer, Gate, Opener, Run, RunFault, run_lanes};
+use lanes::{Consumer, Gate, Opener, Run, RunFault};
 use std::marker::Brand;
 use std::sync::Wait;
 use std::thread::Threads;
@@ -80,7 +81,8 @@ fn count_known<J: KnownFiles + Send + Sync, R: Threads + Wait + Sync, O: Opener,
         flaws,
     };
     let lanes = fact_lanes::<J>();
-    let (counted, ran) = run_lanes(run, &lanes, counted);
+    let mut ran = Ok(());
+    let counted = gather_into(run, &lanes, counted, &mut ran);
     match ran {
         Ok(()) => Ok(counted),
         Err(fault) => Err(fault),

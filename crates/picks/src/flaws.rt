@@ -1,5 +1,5 @@
 //! What is lacking in what is known of files.
-ghost use Rattle.std.specs.Prelude.{◌≡◌, ◌≢◌, ◌↔◌, ◌⊎◌, ◌<◌, ℕ, All, IfErr, IfOk, IsTrue, OnOk, length, slice_index_or};
+ghost use Rattle.std.specs.Prelude.{◌≡◌, ◌≢◌, ◌↔◌, ◌⊎◌, ◌<◌, ℕ, All, None, IfErr, IfOk, IsTrue, OnOk, length, slice_index_or};
 ghost use Rattle.picks.specs.Arrived.{flaws_with, none_arrived, book_so_far};
 ghost use Rattle.picks.specs.Books.{IsFlawless, flaws_of};
 
@@ -26,6 +26,21 @@ impl Flaws {
         ensures { IsTrue result ↔ IsFlawless self.now }
     {
         matches!(self.mark, Mark::Ended(Ending::Complete)) && self.unanswered == 0
+    }
+
+    /// Counts the record at this place as one for which memory ran out. `LaneLost` if there are too many to count.
+    fn add_unanswered(&mut self, place: u32) -> Result<(), RunFault<SinkFault>>
+        ensures more { OnOk result (self.new ≡ flaws_with self.old place None) }
+        ensures astray { IfErr result (λ fault. fault ≡ RunFault.LaneLost) }
+    {
+        let Some(more) = self.unanswered.checked_add(1) else {
+            return Err(RunFault::LaneLost);
+        };
+        if self.unanswered == 0 {
+            self.first = place;
+        }
+        self.unanswered = more;
+        Ok(())
     }
 }
 
@@ -76,18 +91,10 @@ pub(crate) fn add_flaw(
         → slice_index_or flaws.new.items k other ≡ slice_index_or flaws.old.items k other }
     ensures astray { IfErr result (λ fault. fault ≡ RunFault.LaneLost) }
 {
-    if facts.is_some() {
-        return Ok(());
+    match facts {
+        Some(_) => Ok(()),
+        None => flaws[file as usize].add_unanswered(place),
     }
-    let here = &mut flaws[file as usize];
-    let Some(more) = here.unanswered.checked_add(1) else {
-        return Err(RunFault::LaneLost);
-    };
-    if here.unanswered == 0 {
-        here.first = place;
-    }
-    here.unanswered = more;
-    Ok(())
 }
 
 /// Keeps the mark with which a file has ended.

@@ -18,7 +18,7 @@ mod table;
 pub mod table_laws;
 
 pub use combination::{Columns, Combination};
-pub use conditions::{Conditions, RuleCondition, Selection};
+pub use crate::conditions::{Conditions, RuleCondition, Selection};
 pub use counting::{Counted, count_files};
 pub use counts::Counts;
 pub use facts::Facts;

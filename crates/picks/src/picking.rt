@@ -1,15 +1,17 @@
 //! Runs that pick records.
-ghost use Rattle.std.specs.Prelude.{◌≡◌, ◌<◌, ◌≤◌, List, [], false, IfOk, IfErr, OnOk, OnErr};
+ghost use Rattle.std.specs.Prelude.{◌≡◌, ◌<◌, ◌≤◌, ℕ, List, [], false, IfOk, IfErr, OnOk, OnErr};
 ghost use Rattle.std.proofs.Common.{refl, ◌∙◌};
 ghost use Rattle.ruled_lanes.specs.declared.limits.TheConstants.{LANES};
 ghost use Rattle.reports.specs.declared.limits.TheConstants.{MAX_FILES};
+ghost use Rattle.common.specs.declared.choice.Choice.{Choice};
 ghost use Rattle.lanes.specs.Notes.{Note};
+ghost use Rattle.lanes.specs.Opening.{Meaning};
 ghost use Rattle.lanes.specs.Files.{AreToldWhole};
 ghost use Rattle.lanes.specs.Faults.{HoldsOnFault};
 ghost use Rattle.lanes.specs.Accepting.{AcceptsFiles};
-ghost use Rattle.collector.specs.Written.{GivesUp, HasFailedBy};
+ghost use Rattle.collector.specs.Written.{GivesUp, HasFailedBy, TellsFailure};
 ghost use Rattle.picks.specs.Picked.{IsAllPicked, IsPickBegun};
-ghost use Rattle.picks.specs.Holding.{ArePicksOf, IsFlushed, PicksHold, PicksPartly, flaws_in, files_of};
+ghost use Rattle.picks.specs.Holding.{ArePicksOf, IsFlushed, PicksHold, PicksPartly, files_of};
 ghost use Rattle.picks.specs.Stops.{held_stop};
 
 use crate::conditions::Selection;
@@ -129,6 +131,15 @@ fn texts_of<'s, S: Sink>(
 /// `Refused` exactly if the sink has then failed. There is no other error.
 fn finish<S: Sink>(texts: Texts<'_, S, Picks>) -> Result<Vec<Flaws>, RunFault<SinkFault>>
     requires { S.failed texts.sink.now ≡ false }
+    ensures written { IfOk result (λ flaws. (choice : Choice) (known meaning : ℕ → Meaning) (ns : List Note)
+        → PicksHold known (S.taken texts.entry.start.value) (S.taken texts.entry.sink.now) texts.entry.lines ns
+        → AreToldWhole choice meaning (files_of texts.entry.lines) ns
+        → IsAllPicked texts.entry.lines.selection choice meaning (files_of texts.entry.lines)
+        (S.taken texts.entry.start.value) (S.taken texts.exit.0.now) flaws.items) }
+    ensures partial { OnErr result ((meaning : ℕ → Meaning) (ns : List Note)
+        → PicksHold meaning (S.taken texts.entry.start.value) (S.taken texts.entry.sink.now) texts.entry.lines ns
+        → PicksPartly meaning (S.taken texts.entry.start.value) (S.taken texts.exit.0.now) texts.entry.lines) }
+    ensures stands { TellsFailure (S.failed texts.exit.0.now) result }
 {
     texts.lines.finish(texts.sink)
 }
@@ -203,7 +214,7 @@ impl<S: Sink, J: KnownFiles + Send + Sync> Consumer<FoundFacts<J>, KnownEnd<J>>
 
 /// Runs lanes of this kind, and stores the result in `ran`: returned beside it in a pair, the state of the sink that
 /// the consumer holds would not be known.
-fn gather_into<
+pub(crate) fn gather_into<
     L: LaneKind,
     C: Consumer<L::Entry, L::End>,
     R: Threads + Wait + Sync,

@@ -2,7 +2,7 @@ use Rattle.std.proofs.Common.{◌≡◌, ◌<◌, length, subst, arith}
 use Rattle.collector.specs.Waits.{ChangesAt, IsCountedOne}
 use Rattle.collector.proofs.SucceedsOrFails.{ok_then, err_then, err_any}
 use Rattle.picks.specs.Arrived.{HasEntryMore}
-use Rattle.picks.proofs.Picking.{picked_current, picked_behind, part_before, part_line}
+use Rattle.picks.proofs.PickedText.{picked_current, picked_behind, part_before, part_line}
 use Rattle.picks.proofs.picks.Picks.add.Goals as goal
 
 pub returns-then-file-self-clause-added : goal.returns-then-file-self-clause-added

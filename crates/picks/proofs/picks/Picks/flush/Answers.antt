@@ -4,7 +4,7 @@ use Rattle.picks.proofs.picks.Picks.flush.Goals as goal
 
 pub returns-in-Ok-clause-held : goal.returns-in-Ok-clause-held
 returns-in-Ok-clause-held g c = λ meaning start ns held.
-    held_flushed meaning start (g.S.Sink.taken c.args.sink.now) (g.S.Sink.taken c.flush.new.sink) c.args.self.now c.flush.new.self ns c.in-Ok.ensures.writes.1 c.in-Ok.ensures.empty held
+    held_flushed meaning start (g.S.Sink.taken c.args.sink.now) (g.S.Sink.taken c.flush.new.sink) c.args.self.now _ ns c.in-Ok.ensures.writes.1 c.in-Ok.ensures.empty held
 
 pub returns-in-Err-clause-partial : goal.returns-in-Err-clause-partial
 returns-in-Err-clause-partial g c =

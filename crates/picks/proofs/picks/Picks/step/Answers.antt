@@ -1,7 +1,7 @@
 use Rattle.std.proofs.Common.{◌≡◌, ◌+◌, ◌<◌, ◌≤◌, length, rules, arith}
 use Rattle.collector.proofs.SucceedsOrFails.{ok_then, err_then}
 use Rattle.collector.proofs.Waits.{some_waiting}
-use Rattle.picks.proofs.Picking.{picked_next, picked_over, part_here, part_next}
+use Rattle.picks.proofs.PickedText.{picked_next, picked_over, part_here, part_next}
 use Rattle.picks.proofs.picks.Picks.step.Goals as goal
 
 pub returns-clause-written : goal.returns-clause-written

@@ -1,5 +1,6 @@
 -- The table of what has arrived, after one message more.
-use Rattle.std.proofs.Common.{◌≡◌, ◌≢◌, ◌<◌, ◌≤◌, ℕ, zero, suc, List, [], ◌∷◌, ◌++◌, length, map, get_or, Option, All, inl, inr, refl, sym, ap, subst, ◌∙◌, arith, append_assoc, append-nil}
+use Rattle.std.proofs.Common.{◌≡◌, ◌≢◌, ◌<◌, ◌≤◌, ℕ, zero, suc, List, [], ◌∷◌, ◌++◌, length, map, get_or, cond, Bool, true, false, Option, None, Some, All, inl, inr, refl, sym, ap, subst, ◌∙◌, arith, append_assoc, append-nil}
+use Rattle.std.specs.Prelude.{filter, option_to_list}
 use Rattle.std.specs.List.{flat_map}
 use Rattle.std.specs.List.Sorted.{IsPermutation}
 use Rattle.std.proofs.lemmas.Bool.{cases_eq}
@@ -19,6 +20,7 @@ use Rattle.picks.specs.declared.conditions.Selection.{Selection}
 use Rattle.picks.specs.declared.facts.Facts.{Facts}
 use Rattle.picks.specs.declared.flaws.Flaws.{Flaws}
 use Rattle.picks.specs.Books.{FactEntry, flaws_of}
+use Rattle.picks.specs.Conditions.{chooses}
 use Rattle.picks.specs.Picked.{chosen_of, chosen_of_book, chosen_in}
 use Rattle.picks.specs.Counted.{IsAllCounted}
 use Rattle.picks.specs.Arrived.{Arrived, none_arrived, HasEntryMore, HasEndMore, book_so_far, books_up_to, record_of, flaws_with}
@@ -173,3 +175,17 @@ all_counted s columns choice meaning files flaws table ns count columns_are have
   columns_are = columns_are;
   is_table = subst (λ graphs. IsTable graphs table) (ap (chosen_up_to s held.arrived) count ∙ sym (chosen_books s held.arrived files)) held.is_table;
 }
+
+-- ---- one graph
+
+pub table_none : (s : Selection) (graphs : List Facts) (table : TableModel) → IsTable graphs table → IsTable (graphs ++ filter (chooses s) (option_to_list None)) table
+table_none s graphs table is = subst (λ l. IsTable l table) (sym (append-nil graphs)) is
+
+pub table_other : (s : Selection) (facts : Facts) (graphs : List Facts) (table : TableModel) → chooses s facts ≡ false → IsTable graphs table
+    → IsTable (graphs ++ filter (chooses s) (option_to_list (Some facts))) table
+table_other s facts graphs table not_chosen is =
+    subst (λ l. IsTable l table) (sym (append-nil graphs) ∙ ap (λ b. graphs ++ cond b (facts ∷ []) []) (sym not_chosen)) is
+
+pub table_more : (s : Selection) (facts : Facts) (graphs : List Facts) (table : TableModel) → chooses s facts ≡ true → IsTable (graphs ++ facts ∷ []) table
+    → IsTable (graphs ++ filter (chooses s) (option_to_list (Some facts))) table
+table_more s facts graphs table chosen is = subst (λ l. IsTable l table) (ap (λ b. graphs ++ cond b (facts ∷ []) []) (sym chosen)) is
