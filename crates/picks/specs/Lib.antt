@@ -1,4 +1,5 @@
 pub mod Ranges
+pub mod Words
 pub mod Facts
 pub mod Books
 pub mod Conditions

@@ -16,6 +16,7 @@ mod picks;
 mod range;
 mod table;
 pub mod table_laws;
+mod words;
 
 pub use combination::{Columns, Combination};
 pub use crate::conditions::{Conditions, RuleCondition, Selection};

@@ -39,6 +39,12 @@ impl Read for Input<'_> {
 pub struct NoConsole;
 
 impl Console for NoConsole {
+    ghost has_terminal = { λ _. false };
+
+    fn out_is_terminal(&self) -> bool {
+        false
+    }
+
     fn is_terminal(&self) -> bool {
         false
     }

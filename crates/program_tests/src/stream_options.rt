@@ -154,6 +154,12 @@ impl<'a> Ticking<'a> {
 }
 
 impl Console for Ticking<'_> {
+    ghost has_terminal = { λ _. false };
+
+    fn out_is_terminal(&self) -> bool {
+        false
+    }
+
     fn is_terminal(&self) -> bool {
         self.terminal
     }
