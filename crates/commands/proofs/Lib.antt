@@ -1,3 +1,5 @@
+pub mod FlawTexts
+pub mod Picking
 pub mod Layouts
 pub mod FaultStatus
 pub mod ReportBegun

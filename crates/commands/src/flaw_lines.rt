@@ -1,7 +1,6 @@
 //! Lines on standard error about files of which something is lacking.
-ghost use Rattle.std.specs.Prelude.{◌≡◌, false, map};
-ghost use Rattle.std.specs.List.{concat};
-ghost use Rattle.streams.specs.Sink.{Writes};
+ghost use Rattle.std.specs.Prelude.{◌≡◌, false, true, map, OnErr, OnOk};
+ghost use Rattle.std.specs.Io.KnownBytes.{Appends};
 ghost use Rattle.commands.specs.FlawLines.{IsTold, lines_of_file, memory_line, incomplete_line, pieces_text};
 
 use itoa::Buffer;
@@ -25,16 +24,23 @@ pub(crate) fn write_flaws<E: Sink>(
         → IsTold (map (λ name. name.now) names.now) flaws.now (E.taken err.old) (E.taken err.new) }
 {
     let mut file = 0;
-    for (name, flaws) in names.iter().zip(flaws) {
-        let why = notes.why(alloc, file);
-        if write_file(name, flaws, why.as_str(), err).is_err() {
+    for name in names {
+        let Some(lacking) = flaws.get(file) else {
             return;
+        };
+        let why = notes.why(alloc, file);
+        match write_file(name, lacking, why.as_str(), err) {
+            Ok(()) => file += 1,
+            Err(_) => return,
         }
-        file = file.saturating_add(1);
     }
 }
 
 /// Writes the lines about one file, with the reason why it does not end complete.
+///
+/// # Errors
+///
+/// `Write` exactly if the sink has then failed. There is no other error, here and below.
 fn write_file<E: Sink>(
     name: &str,
     flaws: &Flaws,
@@ -42,7 +48,9 @@ fn write_file<E: Sink>(
     err: &mut E,
 ) -> Result<(), WriteFault>
     requires { E.failed err.old ≡ false }
-    ensures { Writes (E.taken err.old) (E.taken err.new) (E.failed err.new) (lines_of_file name.now flaws.now why.now) result }
+    ensures added { OnOk result (Appends (E.taken err.old) (E.taken err.new) (lines_of_file name.now flaws.now why.now)) }
+    ensures stands { OnOk result (E.failed err.new ≡ false) }
+    ensures failed { OnErr result (E.failed err.new ≡ true) }
 {
     write_incomplete(name, flaws.mark, why, err)?;
     write_memory(name, flaws, err)
@@ -56,7 +64,9 @@ fn write_incomplete<E: Sink>(
     err: &mut E,
 ) -> Result<(), WriteFault>
     requires { E.failed err.old ≡ false }
-    ensures { Writes (E.taken err.old) (E.taken err.new) (E.failed err.new) (incomplete_line name.now mark why.now) result }
+    ensures added { OnOk result (Appends (E.taken err.old) (E.taken err.new) (incomplete_line name.now mark why.now)) }
+    ensures stands { OnOk result (E.failed err.new ≡ false) }
+    ensures failed { OnErr result (E.failed err.new ≡ true) }
 {
     if mark == Mark::Ended(Ending::Complete) {
         return Ok(());
@@ -77,7 +87,9 @@ fn write_incomplete<E: Sink>(
 /// Writes the line about the graphs of a file for which memory ran out, if there are any.
 fn write_memory<E: Sink>(name: &str, flaws: &Flaws, err: &mut E) -> Result<(), WriteFault>
     requires { E.failed err.old ≡ false }
-    ensures { Writes (E.taken err.old) (E.taken err.new) (E.failed err.new) (memory_line name.now flaws.now) result }
+    ensures added { OnOk result (Appends (E.taken err.old) (E.taken err.new) (memory_line name.now flaws.now)) }
+    ensures stands { OnOk result (E.failed err.new ≡ false) }
+    ensures failed { OnErr result (E.failed err.new ≡ true) }
 {
     if flaws.unanswered == 0 {
         return Ok(());
@@ -101,7 +113,9 @@ fn write_memory<E: Sink>(name: &str, flaws: &Flaws, err: &mut E) -> Result<(), W
 /// Writes texts one after another.
 fn put_pieces<E: Sink>(pieces: &[&[u8]], err: &mut E) -> Result<(), WriteFault>
     requires { E.failed err.old ≡ false }
-    ensures { Writes (E.taken err.old) (E.taken err.new) (E.failed err.new) (pieces_text pieces.now) result }
+    ensures added { OnOk result (Appends (E.taken err.old) (E.taken err.new) (pieces_text pieces.now)) }
+    ensures stands { OnOk result (E.failed err.new ≡ false) }
+    ensures failed { OnErr result (E.failed err.new ≡ true) }
 {
     for piece in pieces {
         put_all(err, piece)?;

@@ -140,9 +140,9 @@ impl FileNotes {
         }
     }
 
-    /// Why a file failed, or what format it has, after `: `; empty if nothing is known of that.
-    pub fn why(&self, alloc: Global, file: u32) -> ShortLine {
-        match self.note(file) {
+    /// Why the file with this number, from 0, failed, or what format it has, after `: `; empty if that is not known.
+    pub fn why(&self, alloc: Global, file: usize) -> ShortLine {
+        match self.notes.get(file) {
             Some(note) => note.why(alloc),
             None => ShortLine::new(),
         }
