@@ -1,4 +1,5 @@
 //! Runs of the whole command, which the tests share.
+ghost use Rattle.std.specs.Prelude.{false};
 
 use commands::{Console, SystemFiles, command};
 use std::alloc::{AllocError, Global};

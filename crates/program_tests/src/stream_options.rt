@@ -1,5 +1,6 @@
 //! Standard input as a file, and lines of progress. The bytes and the texts come from the description of the format,
 //! of the report and of the lines.
+ghost use Rattle.std.specs.Prelude.{false};
 
 use crate::layouts::{EDGELESS, UNREAD};
 use crate::shared::{
