@@ -1,3 +1,4 @@
+pub mod PickFaults
 pub mod FlawTexts
 pub mod Picking
 pub mod Layouts

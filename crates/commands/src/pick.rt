@@ -71,5 +71,6 @@ pub(crate) fn pick<
         choice: asked.choice,
     };
     let waiting = (asked.waiting as usize).saturating_mul(MEGABYTE);
-    Ok(pick_files(&run, asked.selection, waiting, out)?)
+    let flaws = pick_files(&run, asked.selection, waiting, out)?;
+    Ok(flaws)
 }

@@ -243,9 +243,9 @@ fn pick_records<
     let outcome = pick(rt, asked, files, &meter, &notes, out);
     meter.finish();
     let flaws = outcome?;
-    let status = status_of_flaws(flaws.as_slice());
-    write_flaws(rt.alloc(), names, flaws.as_slice(), &notes, err);
-    Ok(status)
+    let flaws = flaws.as_slice();
+    write_flaws(rt.alloc(), names, flaws, &notes, err);
+    Ok(status_of_flaws(flaws))
 }
 
 /// Writes the table of the graphs that are selected, the progress, and the lines about files. Returns the exit status.
@@ -278,9 +278,9 @@ fn count_graphs<
     let outcome = count(rt, asked, files, &meter, &notes, out);
     meter.finish();
     let flaws = outcome?;
-    let status = status_of_flaws(flaws.as_slice());
-    write_flaws(rt.alloc(), names, flaws.as_slice(), &notes, err);
-    Ok(status)
+    let flaws = flaws.as_slice();
+    write_flaws(rt.alloc(), names, flaws, &notes, err);
+    Ok(status_of_flaws(flaws))
 }
 
 /// Writes the message of a fault, and returns its exit status. The reason is that of the output, if it failed.
