@@ -45,10 +45,14 @@ has_end_more file mark came = record {
 abbrev pub all_records : (ℕ → Arrived) → ℕ → Came
 all_records came k = records_of (came k)
 
+-- these records, and the mark
+abbrev came_with : Option Mark → List Entry → Came
+came_with mark entries = record { entries = entries; mark = mark }
+
 pub records_more : (file : ℕ) (entry : FactEntry) (came next : ℕ → Arrived) → HasEntryMore file entry came next
     → collected.HasEntryMore file (record_of entry) (all_records came) (all_records next)
 records_more file entry came next more = record {
-  here = ap records_of more.here ∙ ap (λ (es : List Entry). record { entries = es; mark = (came file).mark }) (map-append record_of (came file).entries (entry ∷ []));
+  here = ap records_of more.here ∙ ap (came_with (came file).mark) (map-append record_of (came file).entries (entry ∷ []));
   others = λ other apart. ap records_of (more.others other apart);
 }
 

@@ -26,7 +26,7 @@ pub use facts::Facts;
 pub use find_facts::FindFacts;
 pub use flaws::{Flaws, status_of_flaws};
 pub use found_facts::FoundFacts;
-pub use picking::pick_files;
+pub use picking::{PickTexts, pick_files};
 pub use picks::Picks;
 pub use range::{Range, RangeFault};
 pub use table::write_counts;

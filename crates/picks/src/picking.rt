@@ -19,7 +19,7 @@ use crate::find_facts::fact_lanes;
 use crate::flaws::Flaws;
 use crate::found_facts::FoundFacts;
 use crate::picks::Picks;
-use collector::{KnownEnd, KnownFiles, Pace, Texts};
+use collector::{KnownEnd, KnownFiles, Pace};
 use lanes::{Consumer, Gate, LaneKind, Opener, Run, RunFault, run_lanes};
 use std::alloc::Global;
 use std::marker::Brand;
@@ -89,12 +89,12 @@ fn pick_known<J: KnownFiles + Send + Sync, R: Threads + Wait + Sync, O: Opener, 
     ensures failed { IfErr result (HasFailedBy (S.failed sink.new)) }
 {
     let picks = Picks::new(run.alloc, selection, run.choice, run.files)?;
-    let texts = texts_of(run.alloc, sink, picks, pace);
+    let texts = PickTexts::new(run.alloc, sink, picks, pace);
     let lanes = fact_lanes::<J>();
     let mut ran = Ok(());
     let texts = gather_into(run, &lanes, texts, &mut ran);
     match ran {
-        Ok(()) => finish(texts),
+        Ok(()) => texts.finish(),
         Err(fault) => {
             let_go(texts);
             Err(fault)
@@ -102,61 +102,82 @@ fn pick_known<J: KnownFiles + Send + Sync, R: Threads + Wait + Sync, O: Opener, 
     }
 }
 
-/// A consumer that streams `picks` to `sink`, and pauses reading by `pace`. Nothing is written yet.
-fn texts_of<'s, S: Sink>(
-    alloc: Global,
-    sink: &'s mut S,
-    picks: Picks,
-    pace: Pace<'s>,
-) -> Texts<'s, S, Picks>
-    ensures same { result.sink.ghost_name ≡ sink.entry.ghost_name }
-    ensures now { result.sink.now ≡ sink.old }
-    ensures start { result.start.value ≡ sink.old }
-    ensures picks { result.lines ≡ picks }
-{
-    let start = Snapshot::of(&*sink);
-    Texts {
-        sink,
-        start,
-        alloc,
-        lines: picks,
-        pace,
+/// A consumer of the lanes' messages that streams the chosen records of a run to a sink.
+#[derive(Drop)]
+pub struct PickTexts<'s, S, W: Drop> {
+    pub sink: &'s mut S,
+    /// The sink as it was at the beginning. It exists only in proofs.
+    pub start: Snapshot<S>,
+    pub alloc: Global,
+    /// The records in transit and those that are buffered: `Picks`. A type parameter, since contracts do not name a `&mut`
+    /// beside a field that owns memory.
+    pub picks: W,
+    /// The limit on buffered records above which the reading of later files pauses.
+    pub pace: Pace<'s>,
+}
+
+impl<'s, S: Sink> PickTexts<'s, S, Picks> {
+    /// A consumer that streams `picks` to `sink`, and pauses reading by `pace`. Nothing is written yet.
+    fn new(
+        alloc: Global,
+        sink: &'s mut S,
+        picks: Picks,
+        pace: Pace<'s>,
+    ) -> PickTexts<'s, S, Picks>
+        ensures same { result.sink.ghost_name ≡ sink.entry.ghost_name }
+        ensures now { result.sink.now ≡ sink.old }
+        ensures start { result.start.value ≡ sink.old }
+        ensures picks { result.picks ≡ picks }
+    {
+        let start = Snapshot::of(&*sink);
+        PickTexts {
+            sink,
+            start,
+            alloc,
+            picks,
+            pace,
+        }
     }
 }
 
-/// Writes the remaining records to the sink, and returns what is lacking in each file.
-///
-/// # Errors
-///
-/// `Refused` exactly if the sink has then failed. There is no other error.
-fn finish<S: Sink>(texts: Texts<'_, S, Picks>) -> Result<Vec<Flaws>, RunFault<SinkFault>>
-    requires { S.failed texts.sink.now ≡ false }
-    ensures written { IfOk result (λ flaws. (choice : Choice) (known meaning : ℕ → Meaning) (ns : List Note)
-        → PicksHold known (S.taken texts.entry.start.value) (S.taken texts.entry.sink.now) texts.entry.lines ns
-        → AreToldWhole choice meaning (files_of texts.entry.lines) ns
-        → IsAllPicked texts.entry.lines.selection choice meaning (files_of texts.entry.lines)
-        (S.taken texts.entry.start.value) (S.taken texts.exit.0.now) flaws.items) }
-    ensures partial { OnErr result ((meaning : ℕ → Meaning) (ns : List Note)
-        → PicksHold meaning (S.taken texts.entry.start.value) (S.taken texts.entry.sink.now) texts.entry.lines ns
-        → PicksPartly meaning (S.taken texts.entry.start.value) (S.taken texts.exit.0.now) texts.entry.lines) }
-    ensures stands { TellsFailure (S.failed texts.exit.0.now) result }
-{
-    texts.lines.finish(texts.sink)
+impl<S> PickTexts<'_, S, Picks> {
+    /// Pauses later files or lets them go on, depending on the buffered records; if a message was refused, they go on,
+    /// since no more is taken in.
+    fn keep_pace(&self, goes_on: bool) {
+        if goes_on {
+            keep_files(&self.pace, &self.picks);
+        } else {
+            self.pace.pauses.lift();
+        }
+    }
 }
 
-/// Drops a consumer, and leaves its sink unchanged.
-fn let_go<S: Sink>(texts: Texts<'_, S, Picks>)
-    ensures { texts.exit.0.now ≡ texts.entry.sink.now }
-{
-    let Texts { .. } = texts;
+impl<S: Sink> PickTexts<'_, S, Picks> {
+    /// Writes the remaining records to the sink, and returns what is lacking in each file.
+    ///
+    /// # Errors
+    ///
+    /// `Refused` exactly if the sink has then failed. There is no other error.
+    fn finish(self) -> Result<Vec<Flaws>, RunFault<SinkFault>>
+        requires { S.failed self.sink.now ≡ false }
+        ensures written { IfOk result (λ flaws. (choice : Choice) (known meaning : ℕ → Meaning) (ns : List Note)
+            → PicksHold known (S.taken self.entry.start.value) (S.taken self.entry.sink.now) self.entry.picks ns
+            → AreToldWhole choice meaning (files_of self.entry.picks) ns
+            → IsAllPicked self.entry.picks.selection choice meaning (files_of self.entry.picks)
+            (S.taken self.entry.start.value) (S.taken self.exit.0.now) flaws.items) }
+        ensures partial { OnErr result ((meaning : ℕ → Meaning) (ns : List Note)
+            → PicksHold meaning (S.taken self.entry.start.value) (S.taken self.entry.sink.now) self.entry.picks ns
+            → PicksPartly meaning (S.taken self.entry.start.value) (S.taken self.exit.0.now) self.entry.picks) }
+        ensures stands { TellsFailure (S.failed self.exit.0.now) result }
+    {
+        self.picks.finish(self.sink)
+    }
 }
 
-/// Pauses later files or lets them go on, depending on the buffered records; if a message was refused, they go on, since
-/// no more is taken in.
-fn keep_pace(pace: &Pace<'_>, picks: &Picks, goes_on: bool) {
-    if !goes_on {
-        pace.pauses.lift();
-    } else if picks.waits() >= pace.most {
+/// Pauses the files after the current file if the limit is reached, those after the next one if a fraction of it is, and
+/// otherwise none.
+fn keep_files(pace: &Pace<'_>, picks: &Picks) {
+    if picks.waits() >= pace.most {
         pace.pauses.pause_after(picks.current());
     } else if picks.waits() >= pace.most / QUARTER {
         pace.pauses.pause_after(picks.next());
@@ -165,22 +186,29 @@ fn keep_pace(pace: &Pace<'_>, picks: &Picks, goes_on: bool) {
     }
 }
 
+/// Drops a consumer, and leaves its sink unchanged.
+fn let_go<S: Sink>(texts: PickTexts<'_, S, Picks>)
+    ensures { texts.exit.0.now ≡ texts.entry.sink.now }
+{
+    let PickTexts { .. } = texts;
+}
+
 impl<S: Sink, J: KnownFiles + Send + Sync> Consumer<FoundFacts<J>, KnownEnd<J>>
-    for Texts<'_, S, Picks> {
+    for PickTexts<'_, S, Picks> {
     type Refusal = SinkFault;
 
-    ghost holds = { λ t ns. (S.failed t.sink.now ≡ false) × PicksHold J.meaning (S.taken t.start.value) (S.taken t.sink.now) t.lines ns };
+    ghost holds = { λ t ns. (S.failed t.sink.now ≡ false) × PicksHold J.meaning (S.taken t.start.value) (S.taken t.sink.now) t.picks ns };
 
-    ghost stays = { λ a b. (a.sink.ghost_name ≡ b.sink.ghost_name) × (a.start.value ≡ b.start.value) × ArePicksOf a.lines b.lines };
+    ghost stays = { λ a b. (a.sink.ghost_name ≡ b.sink.ghost_name) × (a.start.value ≡ b.start.value) × ArePicksOf a.picks b.picks };
 
     ghost gave_up = { λ t fault. GivesUp (S.failed t.sink.now) fault
-        × PicksPartly J.meaning (S.taken t.start.value) (S.taken t.sink.now) t.lines };
+        × PicksPartly J.meaning (S.taken t.start.value) (S.taken t.sink.now) t.picks };
 
-    ghost passed_on = { λ t. IsFlushed t.lines };
+    ghost passed_on = { λ t. IsFlushed t.picks };
 
     fn item(&mut self, item: FoundFacts<J>) -> Result<(), RunFault<SinkFault>> {
-        let taken = self.lines.item(self.alloc, self.sink, item);
-        keep_pace(&self.pace, &self.lines, taken.is_ok());
+        let taken = self.picks.item(self.alloc, self.sink, item);
+        self.keep_pace(taken.is_ok());
         taken
     }
 
@@ -190,18 +218,18 @@ impl<S: Sink, J: KnownFiles + Send + Sync> Consumer<FoundFacts<J>, KnownEnd<J>>
         mark: Mark,
         known: KnownEnd<J>,
     ) -> Result<(), RunFault<SinkFault>> {
-        let taken = self.lines.end(self.alloc, self.sink, file, mark, known);
-        keep_pace(&self.pace, &self.lines, taken.is_ok());
+        let taken = self.picks.end(self.alloc, self.sink, file, mark, known);
+        self.keep_pace(taken.is_ok());
         taken
     }
 
     fn is_flushed(&self) -> bool {
-        self.lines.is_flushed()
+        self.picks.is_flushed()
     }
 
     fn flush(&mut self) -> Result<(), RunFault<SinkFault>> {
-        let flushed = self.lines.flush(self.sink);
-        keep_pace(&self.pace, &self.lines, flushed.is_ok());
+        let flushed = self.picks.flush(self.sink);
+        self.keep_pace(flushed.is_ok());
         flushed
     }
 

@@ -1,5 +1,5 @@
 use Rattle.collector.proofs.SucceedsOrFails.{ok_both, err_both}
-use Rattle.picks.proofs.picking.TextsPicksConsumerFoundFactsKnownEnd.flush.Goals as goal
+use Rattle.picks.proofs.picking.PickTextsPicksConsumerFoundFactsKnownEnd.flush.Goals as goal
 
 pub returns-clause-kept : goal.returns-clause-kept
 returns-clause-kept g c = ok_both c.flush-flushed.result c.flush-flushed.ensures.held c.flush-flushed.ensures.stands.stands (λ held stands ns was. (stands, held _ _ ns was.1))
