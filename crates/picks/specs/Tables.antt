@@ -1,5 +1,5 @@
 -- The table of how many graphs have each combination, and its text.
-use Rattle.std.specs.Prelude.{◌≡◌, ◌<◌, ℕ, Bool, List, [], ◌++◌, length, if◌then◌else◌, Option, None, Some, unwrap_or, codes, decimal, count_by}
+use Rattle.std.specs.Prelude.{◌≡◌, ◌<◌, ◌||◌, ℕ, Bool, List, [], ◌++◌, length, if◌then◌else◌, Option, None, Some, unwrap_or, codes, decimal, count_by}
 use Rattle.std.specs.List.{flat_map}
 use Rattle.std.specs.List.Sorted.{IsStrictlySortedBy}
 use Rattle.std.specs.Map.{keys_of, lookup}
@@ -50,15 +50,23 @@ rule_text (Some rule) = rules.word_of rule
 abbrev pub column_text : Bool → List ℕ → List ℕ → List ℕ
 column_text asked name value = if asked then name ++ (value ++ codes " ") else []
 
--- the line of a combination
-abbrev pub row_text : Columns → Combination × ℕ → List ℕ
-row_text columns row =
+-- some column is asked for
+abbrev pub asks_any : Columns → Bool
+asks_any columns = columns.vertices || (columns.edges || (columns.faces || (columns.bends || columns.rule)))
+
+-- the columns that are asked for, and the number of graphs
+abbrev pub columns_text : Columns → Combination × ℕ → List ℕ
+columns_text columns row =
     column_text columns.vertices (codes "n=") (number_text row.0.vertices)
     ++ column_text columns.edges (codes "m=") (number_text row.0.edges)
     ++ column_text columns.faces (codes "f=") (number_text row.0.faces)
     ++ column_text columns.bends (codes "bends=") (number_text row.0.bends)
     ++ column_text columns.rule (codes "rule=") (rule_text row.0.rule)
     ++ codes "graphs=" ++ decimal row.1 ++ codes "\n"
+
+-- the line of a combination; there is none if no column is asked for
+abbrev pub row_text : Columns → Combination × ℕ → List ℕ
+row_text columns row = if asks_any columns then columns_text columns row else []
 
 -- the last line: the number of all graphs
 abbrev pub total_text : ℕ → List ℕ

@@ -5,6 +5,7 @@ ghost use Rattle.std.specs.Cmp.{eq_by_cmp_equiv, partial_equiv_from_equiv, parti
 ghost use Rattle.std.specs.Cmp.Rules.{comparing};
 ghost use Rattle.std.specs.Ordering.{as_partial_cmp, eq_by_cmp};
 ghost use Rattle.picks.specs.Combinations.{combination_of, compare, compare_total, rule_place};
+ghost use Rattle.picks.specs.Tables.{asks_any};
 
 use crate::facts::{Facts, place_of};
 use embedding::Rule;
@@ -36,6 +37,13 @@ pub struct Combination {
 }
 
 impl Columns {
+    /// Whether some column is asked for.
+    pub fn is_any(&self) -> bool
+        ensures { result ≡ asks_any self.now }
+    {
+        self.vertices || self.edges || self.faces || self.bends || self.rule
+    }
+
     /// What a graph has in these columns.
     pub fn combination_of(&self, facts: &Facts) -> Combination
         ensures { result ≡ combination_of self.now facts.now }

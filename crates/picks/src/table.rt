@@ -2,7 +2,7 @@
 ghost use Rattle.std.specs.Prelude.{◌≡◌, ◌+◌, ◌≤◌, ◌++◌, codes, false, length};
 ghost use Rattle.streams.specs.Sink.{Writes, StaysInTransit};
 ghost use Rattle.streams.specs.declared.text_buffer.TheConstants.{LINE, ROOM};
-ghost use Rattle.picks.specs.Tables.{column_text, number_text, row_text, rule_text, table_text, total_text};
+ghost use Rattle.picks.specs.Tables.{column_text, columns_text, number_text, row_text, rule_text, table_text, total_text};
 
 use crate::combination::{Columns, Combination};
 use crate::counts::Counts;
@@ -10,6 +10,8 @@ use embedding::Rule;
 use streams::{Sink, TextBuffer, WriteFault};
 
 /// Writes a table: a line for each combination that occurs, in their order, and one for the number of all graphs.
+///
+/// Without columns this last line is the only one.
 ///
 /// It allocates nothing: lines are collected in a fixed buffer.
 ///
@@ -29,7 +31,7 @@ pub fn write_counts<S: Sink>(counts: &Counts, sink: &mut S) -> Result<(), WriteF
     lines.flush(sink)
 }
 
-/// Writes the line of a combination and its number of graphs.
+/// Writes the line of a combination and its number of graphs, if a column is asked for.
 fn write_row<S: Sink>(
     lines: &mut TextBuffer,
     sink: &mut S,
@@ -41,6 +43,9 @@ fn write_row<S: Sink>(
     ensures { StaysInTransit (S.taken sink.old) lines.old (S.taken sink.new) lines.new
         (S.failed sink.new) (row_text columns.now (combination.now, number)) result }
 {
+    if !columns.is_any() {
+        return Ok(());
+    }
     lines.make_room(sink)?;
     push_row(lines, columns, combination, number);
     Ok(())
@@ -60,7 +65,7 @@ fn write_total<S: Sink>(lines: &mut TextBuffer, sink: &mut S, total: u64) -> Res
 /// Appends the line of a combination and its number of graphs.
 fn push_row(lines: &mut TextBuffer, columns: &Columns, combination: &Combination, number: u64)
     requires { length lines.old + LINE ≤ ROOM }
-    ensures { lines.new ≡ lines.old ++ row_text columns.now (combination.now, number) }
+    ensures { lines.new ≡ lines.old ++ columns_text columns.now (combination.now, number) }
 {
     push_column(lines, columns.vertices, b"n=", combination.vertices);
     push_column(lines, columns.edges, b"m=", combination.edges);

@@ -151,7 +151,7 @@ fn graphs_are_counted(rt: HostRuntime) {
         rule: true,
     };
     for lanes in 1..=MAX_LANES {
-        check_counted(&rt, lanes, ALL, none, b"graphs=3\ntotal graphs=3\n");
+        check_counted(&rt, lanes, ALL, none, b"total graphs=3\n");
         let table = b"n=2 m=1 f=1 bends=0 rule=none graphs=1\nn=3 m=3 f=2 bends=1 rule=none graphs=2\ntotal graphs=3\n";
         check_counted(&rt, lanes, ALL, all, table);
         let few = selection_of(Some(0), None);

@@ -1,8 +1,17 @@
-use Rattle.std.proofs.Common.{◌≡◌, Err, subst}
+use Rattle.std.proofs.Common.{◌≡◌, ◌++◌, ◌∙◌, [], Err, ap, append-nil, false, true, if◌then◌else◌, rules, subst, sym}
 use Rattle.std.proofs.lemmas.Result.{err_from_is_err_and}
 use Rattle.streams.specs.declared.faults.WriteFault.{WriteFault}
+use Rattle.streams.specs.Sink.{IsInTransit}
 use Rattle.streams.proofs.Sinks.{room_fails, line_waits}
+use Rattle.picks.specs.Tables.{asks_any, columns_text}
 use Rattle.picks.proofs.table.write_row.Goals as goal
+
+pub returns-then-not-is_any : goal.returns-then-not-is_any
+returns-then-not-is_any g c =
+    let none : asks_any c.args.columns.now ≡ false = search rules in
+    (c.requires, λ start text way.
+    subst (IsInTransit start (g.S.Sink.taken c.args.sink.now) c.args.lines.now)
+    (sym (append-nil text) ∙ ap (λ b. text ++ (if b then columns_text c.args.columns.now (c.args.combination.now, c.args.number) else [])) (sym none)) way)
 
 pub returns-in_err-make_room : goal.returns-in_err-make_room
 returns-in_err-make_room g c =
@@ -12,4 +21,7 @@ returns-in_err-make_room g c =
     room_fails _ _ _ _ _ _ _ _ c.in_err-make_room.ensures.writes is
 
 pub returns : goal.returns
-returns g c = line_waits _ _ _ _ _ _ _ _ _ c.in_ok-make_room.ensures.writes c.push_row.ensures
+returns g c =
+    let any : asks_any c.args.columns.now ≡ true = search rules in
+    line_waits _ _ _ _ _ _ _ _ _ c.in_ok-make_room.ensures.writes
+    (c.push_row.ensures ∙ ap (λ b. c.make_room.new.self ++ (if b then columns_text c.args.columns.now (c.args.combination.now, c.args.number) else [])) (sym any))

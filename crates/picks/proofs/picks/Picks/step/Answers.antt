@@ -13,8 +13,8 @@ returns-clause-written g c =
     picked_next self.selection start (g.S.Sink.taken c.args.sink.now) (g.S.Sink.taken c.put.new.sink) self.buffer c.put.new.buffer self.current c.in-Some.next self.waiting.items c.take_lines-lines.new.waiting.items
     arrived c.take_lines-lines.result next_is below c.take_lines-lines.ensures.lines c.take_lines-lines.ensures.taken goes (some_waiting self.waiting.items c.in-Some.next below) was)
 
-pub returns-then-next-ge-clause-written : goal.returns-then-next-ge-clause-written
-returns-then-next-ge-clause-written g c = λ start arrived was.
+pub returns-then-next-len-clause-written : goal.returns-then-next-len-clause-written
+returns-then-next-len-clause-written g c = λ start arrived was.
     let self = c.args.self.now in
     let next_is : c.in-Some.next ≡ self.current + 1 = search rules in
     let past : length self.waiting.items ≤ c.in-Some.next = search rules in
