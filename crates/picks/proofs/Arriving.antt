@@ -2,7 +2,7 @@
 use Rattle.std.proofs.Common.{◌≡◌, ◌≢◌, ◌+◌, ◌==◌, ◌<◌, ◌≤◌, ℕ, zero, suc, cond, Bool, true, false, List, [], ◌∷◌, ◌++◌, map, length, get_or, Option, None, Some, is_none, count_by, if◌then◌else◌, inl, inr, refl, sym, ap, subst, ◌∙◌, arith, length-append, zero-add, add-zero, All}
 use Rattle.std.proofs.lemmas.Bool.{eq-eqb, ne_eqb, cases_eq}
 use Rattle.std.proofs.lemmas.List.{map-append, length-map}
-use Rattle.std.proofs.lemmas.List.Sums.{sum_by_push}
+use Rattle.std.proofs.lemmas.List.Sums.{sum_by_push, sum_by-cons}
 use Rattle.planar_code.specs.declared.TheConstants.{MAX_RECORDS}
 use Rattle.streams.specs.declared.frames.Mark.{Mark}
 use Rattle.common.specs.declared.choice.Choice.{Choice}
@@ -78,6 +78,7 @@ first_lacking : (entries : List FactEntry) (entry : FactEntry) → entry.facts �
 first_lacking [] entry is = ap (λ f. cond (is_none f) entry.about.ordinal 0) is
 first_lacking (e ∷ entries) entry is =
     first_behind (is_none e.facts) (unanswered entries) entry.about.ordinal e.about.ordinal (first_unanswered entries) (first_unanswered (entries ++ entry ∷ [])) (first_lacking entries entry is)
+    ∙ ap (λ m. cond (m == 0) entry.about.ordinal (first_unanswered (e ∷ entries))) (sym (sum_by-cons (λ (x : FactEntry). cond (is_none x.facts) 1 0) e entries))
 
 first_answered : (entries : List FactEntry) (entry : FactEntry) (facts : Facts) → entry.facts ≡ Some facts → first_unanswered (entries ++ entry ∷ []) ≡ first_unanswered entries
 first_answered [] entry facts is = ap (λ f. cond (is_none f) entry.about.ordinal 0) is

@@ -67,7 +67,7 @@ header_longer : (whole text : List ℕ) → Longer whole text → Longer (HEADER
 header_longer whole text longer = (longer.0, ap (λ l. HEADER ++ l) longer.1 ∙ sym (append_assoc HEADER text longer.0))
 
 -- there is nothing of the file after the last one
-up_to_last : (s : Selection) (came : ℕ → Arrived) (n : ℕ) → came n ≡ none_arrived → picked_up_to s came (suc n) ≡ picked_up_to s came n
+pub up_to_last : (s : Selection) (came : ℕ → Arrived) (n : ℕ) → came n ≡ none_arrived → picked_up_to s came (suc n) ≡ picked_up_to s came n
 up_to_last s came n none = ap (λ (a : Arrived). picked_up_to s came n ++ picked_in s a.entries) none ∙ append-nil (picked_up_to s came n)
 
 -- ---- what was partly added

@@ -9,7 +9,7 @@ use Rattle.picks.proofs.CountedGraphs.{accepts_known, all_counted, counts_none, 
 use Rattle.picks.proofs.counting.count_known.Goals as goal
 
 pub gather_into-counted-requires-clause-empty : goal.gather_into-counted-requires-clause-empty
-gather_into-counted-requires-clause-empty g c =
+gather_into-counted-requires-clause-empty g c κs within =
     counts_none c.args.selection c.new-counts.result c.in_ok-flaws.flaws.items c.in_ok-flaws.ensures.none c.new-counts.ensures.table
 
 pub gather_into-counted-requires-clause-accepts : goal.gather_into-counted-requires-clause-accepts
@@ -25,8 +25,8 @@ returns-in-Ok-clause-counted g c =
     c.in-Ok.is c.gather_into-counted.ensures.told in
     let count : length counted.flaws.items ≡ run.files = stays.2 ∙ c.in_ok-flaws.ensures.count in
     let columns : counted.counts.columns ≡ c.args.columns = stays.1 ∙ c.new-counts.ensures.columns in
-    all_counted c.args.selection c.args.columns run.choice meaning run.files counted.flaws.items counted.counts told.0 count columns told.1.1
-    (subst (λ s. CountsHold s counted.counts counted.flaws.items told.0) stays.0 told.1.0)
+    all_counted c.args.selection c.args.columns run.choice meaning run.files counted.flaws.items counted.counts told.0 count columns told.2
+    (subst (λ s. CountsHold s counted.counts counted.flaws.items told.0) stays.0 told.1)
 
 pub returns-in-Err-clause-failed : goal.returns-in-Err-clause-failed
 returns-in-Err-clause-failed g c =
