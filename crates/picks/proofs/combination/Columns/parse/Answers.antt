@@ -1,4 +1,4 @@
-use Rattle.std.proofs.Common.{Some, lit<, refl}
+use Rattle.std.proofs.Common.{Some, lit<, refl, rules}
 use Rattle.std.proofs.lemmas.Iterator.Consumers.{fold_from_yields_List}
 use Rattle.std.proofs.lemmas.Iterator.Splits.{YieldsList-from_str_split}
 use Rattle.picks.specs.Words.{no_columns, with_column}
