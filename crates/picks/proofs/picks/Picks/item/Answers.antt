@@ -62,3 +62,7 @@ returns-in_err-add_flaw-clause-partial g c =
     let mid : Picks = record before { flaws = c.add_flaw.new.flaws } in
     err_any c.from_residual.result (λ start ns held.
     left_off_held g.J.KnownFiles.meaning start (g.S.Sink.taken c.args.sink.now) before mid ns (record { selection = refl; choice = refl; files = refl }) held)
+
+pub returns-then-ne-clause-partial : goal.returns-then-ne-clause-partial
+returns-then-ne-clause-partial g c = λ start ns held.
+    left_off_held g.J.KnownFiles.meaning start (g.S.Sink.taken c.args.sink.now) c.args.self.now c.args.self.now ns (record { selection = refl; choice = refl; files = refl }) held
