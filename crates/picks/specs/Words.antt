@@ -23,15 +23,15 @@ if_new asked columns = if asked then None else Some columns
 abbrev pub with_name : Columns → List ℕ → Option Columns
 with_name c name =
     if bytes_eq name (codes "n") then
-      if_new c.vertices (record { vertices = true; edges = c.edges; faces = c.faces; bends = c.bends; rule = c.rule })
+    if_new c.vertices (record { vertices = true; edges = c.edges; faces = c.faces; bends = c.bends; rule = c.rule })
     else if bytes_eq name (codes "m") then
-      if_new c.edges (record { vertices = c.vertices; edges = true; faces = c.faces; bends = c.bends; rule = c.rule })
+    if_new c.edges (record { vertices = c.vertices; edges = true; faces = c.faces; bends = c.bends; rule = c.rule })
     else if bytes_eq name (codes "f") then
-      if_new c.faces (record { vertices = c.vertices; edges = c.edges; faces = true; bends = c.bends; rule = c.rule })
+    if_new c.faces (record { vertices = c.vertices; edges = c.edges; faces = true; bends = c.bends; rule = c.rule })
     else if bytes_eq name (codes "bends") then
-      if_new c.bends (record { vertices = c.vertices; edges = c.edges; faces = c.faces; bends = true; rule = c.rule })
+    if_new c.bends (record { vertices = c.vertices; edges = c.edges; faces = c.faces; bends = true; rule = c.rule })
     else if bytes_eq name (codes "rule") then
-      if_new c.rule (record { vertices = c.vertices; edges = c.edges; faces = c.faces; bends = c.bends; rule = true })
+    if_new c.rule (record { vertices = c.vertices; edges = c.edges; faces = c.faces; bends = c.bends; rule = true })
     else None
 
 abbrev pub with_column : Option Columns → List ℕ → Option Columns

@@ -88,10 +88,7 @@ impl<J: KnownFiles + Send + Sync> Purpose for FindFacts<J> {
 }
 
 /// The facts of a record with this shaped plane, or without one; `None` if memory ran out for it.
-fn facts_found(
-    rec: &Record,
-    shaped_plane: &Result<ShapedPlane, ReadFault>,
-) -> Option<Facts>
+fn facts_found(rec: &Record, shaped_plane: &Result<ShapedPlane, ReadFault>) -> Option<Facts>
     ensures { (choice : Choice) → IsShaped choice (lists_of rec.now) shaped_plane.now
         → AreFacts choice (lists_of rec.now) result }
 {

@@ -18,8 +18,8 @@ mod table;
 pub mod table_laws;
 mod words;
 
-pub use combination::{Columns, Combination};
 pub use crate::conditions::{Conditions, RuleCondition, Selection};
+pub use combination::{Columns, Combination};
 pub use counting::{Counted, count_files};
 pub use counts::Counts;
 pub use facts::Facts;

@@ -118,12 +118,7 @@ pub struct PickTexts<'s, S, W: Drop> {
 
 impl<'s, S: Sink> PickTexts<'s, S, Picks> {
     /// A consumer that streams `picks` to `sink`, and pauses reading by `pace`. Nothing is written yet.
-    fn new(
-        alloc: Global,
-        sink: &'s mut S,
-        picks: Picks,
-        pace: Pace<'s>,
-    ) -> PickTexts<'s, S, Picks>
+    fn new(alloc: Global, sink: &'s mut S, picks: Picks, pace: Pace<'s>) -> PickTexts<'s, S, Picks>
         ensures same { result.sink.ghost_name ≡ sink.entry.ghost_name }
         ensures now { result.sink.now ≡ sink.old }
         ensures start { result.start.value ≡ sink.old }

@@ -66,7 +66,16 @@ fn ranges_have_their_texts(rt: HostRuntime) {
         same!(&rt, Range::parse(text), Ok(Range { from, to }));
     }
     let bad = [
-        "", ":", "a", "1:b", "-1", "1:2:3", "4294967296", ":4294967296", "1 ", " 1:2",
+        "",
+        ":",
+        "a",
+        "1:b",
+        "-1",
+        "1:2:3",
+        "4294967296",
+        ":4294967296",
+        "1 ",
+        " 1:2",
     ];
     for text in bad {
         same!(&rt, Range::parse(text), Err(RangeFault::Malformed));
@@ -121,24 +130,71 @@ fn check_chosen<R: Abort>(rt: &R, conditions: Conditions, triangle: bool, five: 
 /// Conditions on vertices, edges, faces and the broken rule, and all at once.
 #[test]
 fn conditions_choose(rt: HostRuntime) {
-    let range = |from: u32, to: u32| {
-        Some(Range {
-            from,
-            to: Some(to),
-        })
-    };
+    let range = |from: u32, to: u32| { Some(Range { from, to: Some(to) }) };
     let none = ALL.conditions;
     check_chosen(&rt, none, true, true);
-    check_chosen(&rt, Conditions { vertices: range(4, 6), ..none }, false, true);
-    check_chosen(&rt, Conditions { edges: range(3, 5), ..none }, true, true);
-    check_chosen(&rt, Conditions { edges: range(0, 4), ..none }, true, false);
-    check_chosen(&rt, Conditions { faces: range(0, 9), ..none }, true, false);
+    check_chosen(
+        &rt,
+        Conditions {
+            vertices: range(4, 6),
+            ..none
+        },
+        false,
+        true,
+    );
+    check_chosen(
+        &rt,
+        Conditions {
+            edges: range(3, 5),
+            ..none
+        },
+        true,
+        true,
+    );
+    check_chosen(
+        &rt,
+        Conditions {
+            edges: range(0, 4),
+            ..none
+        },
+        true,
+        false,
+    );
+    check_chosen(
+        &rt,
+        Conditions {
+            faces: range(0, 9),
+            ..none
+        },
+        true,
+        false,
+    );
     let degree = Some(RuleCondition::BreaksFirst(Rule::Degree));
-    check_chosen(&rt, Conditions { rule: degree, ..none }, false, true);
+    check_chosen(
+        &rt,
+        Conditions {
+            rule: degree,
+            ..none
+        },
+        false,
+        true,
+    );
     let genus = Some(RuleCondition::BreaksFirst(Rule::Genus));
-    check_chosen(&rt, Conditions { rule: genus, ..none }, false, false);
+    check_chosen(
+        &rt,
+        Conditions {
+            rule: genus,
+            ..none
+        },
+        false,
+        false,
+    );
     let kept = Some(RuleCondition::BreaksNone);
     check_chosen(&rt, Conditions { rule: kept, ..none }, true, false);
-    let both = Conditions { vertices: range(6, 6), rule: kept, ..none };
+    let both = Conditions {
+        vertices: range(6, 6),
+        rule: kept,
+        ..none
+    };
     check_chosen(&rt, both, false, false);
 }

@@ -93,10 +93,28 @@ fn records_are_picked_in_order(rt: HostRuntime) {
     only_edge[15..].copy_from_slice(edge);
     for lanes in 1..=MAX_LANES {
         check_picked(&rt, lanes, ALL, usize::MAX, PICKED);
-        check_picked(&rt, lanes, Selection { others: true, ..ALL }, usize::MAX, header);
+        check_picked(
+            &rt,
+            lanes,
+            Selection {
+                others: true,
+                ..ALL
+            },
+            usize::MAX,
+            header,
+        );
         let straight = selection_of(Some(0), None);
         check_picked(&rt, lanes, straight, usize::MAX, &only_edge);
-        check_picked(&rt, lanes, Selection { others: true, ..straight }, usize::MAX, triangles);
+        check_picked(
+            &rt,
+            lanes,
+            Selection {
+                others: true,
+                ..straight
+            },
+            usize::MAX,
+            triangles,
+        );
         for room in [0, 14, 15, 16, 39] {
             check_picked(&rt, lanes, ALL, room, PICKED);
         }
@@ -152,9 +170,19 @@ fn graphs_are_counted(rt: HostRuntime) {
     };
     for lanes in 1..=MAX_LANES {
         check_counted(&rt, lanes, ALL, none, b"total graphs=3\n");
-        let table = b"n=2 m=1 f=1 bends=0 rule=none graphs=1\nn=3 m=3 f=2 bends=1 rule=none graphs=2\ntotal graphs=3\n";
+        let table =
+            b"n=2 m=1 f=1 bends=0 rule=none graphs=1\nn=3 m=3 f=2 bends=1 rule=none graphs=2\ntotal graphs=3\n";
         check_counted(&rt, lanes, ALL, all, table);
         let few = selection_of(Some(0), None);
-        check_counted(&rt, lanes, few, Columns { vertices: true, ..none }, b"n=2 graphs=1\ntotal graphs=1\n");
+        check_counted(
+            &rt,
+            lanes,
+            few,
+            Columns {
+                vertices: true,
+                ..none
+            },
+            b"n=2 graphs=1\ntotal graphs=1\n",
+        );
     }
 }

@@ -8,10 +8,12 @@ use Rattle.picks.proofs.table.write_row.Goals as goal
 
 pub returns-then-not-is_any : goal.returns-then-not-is_any
 returns-then-not-is_any g c =
-    let none : asks_any c.args.columns.now ≡ false = search rules in
-    (c.requires, λ start text way.
-    subst (IsInTransit start (g.S.Sink.taken c.args.sink.now) c.args.lines.now)
-    (sym (append-nil text) ∙ ap (λ b. text ++ (if b then columns_text c.args.columns.now (c.args.combination.now, c.args.number) else [])) (sym none)) way)
+    let none : asks_any c.args.columns.now ≡ false = search rules in (
+      c.requires,
+      λ start text way.
+          subst (IsInTransit start (g.S.Sink.taken c.args.sink.now) c.args.lines.now)
+          (sym (append-nil text) ∙ ap (λ b. text ++ (if b then columns_text c.args.columns.now (c.args.combination.now, c.args.number) else [])) (sym none)) way,
+    )
 
 pub returns-in_err-make_room : goal.returns-in_err-make_room
 returns-in_err-make_room g c =
