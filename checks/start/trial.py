@@ -24,17 +24,21 @@ MEMORY, DISK = 3500, 200  # MB
 # The last lines of `rt try` if the program ended. Nothing else follows the program's own lines.
 ENDED = re.compile(rb"^checked: ended status=(\d+)\n(?:races: .*\n)?run=ended status=\1 .*proved=no\n\Z", re.M)
 
+# Options with a value.
+VALUED = {"--lanes", "--outer", "--waiting", "--drawing", "--vertices", "--edges", "--bends", "--rule", "--by"}
+
 
 def places_of_files(words):
     """The positions of the files among the arguments, as the program reads them: after the command, neither an option
     nor its value; after `--` all arguments are files."""
-    if words[0] not in ("layout", "frames", "check"):
+    if words[0] not in ("layout", "frames", "check", "pick", "count"):
         return []
     places, rest = [], iter(enumerate(words[1:], 1))
+    valued = VALUED | {"--faces"} if words[0] in ("pick", "count") else VALUED
     for place, word in rest:
         if word == "--":
             return places + [place for place, _ in rest]
-        if word in ("--lanes", "--outer", "--waiting", "--drawing"):
+        if word in valued:
             next(rest, None)
         elif word == "-" or not word.startswith("-"):
             places.append(place)
