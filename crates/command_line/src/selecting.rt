@@ -7,7 +7,7 @@ ghost use Rattle.command_line.specs.Requests as requests;
 ghost use Rattle.command_line.specs.Requests.{IsRangeOf, IsRuleOf, IsSelectedBy};
 
 use crate::reading::{Keyword, Setting, asks, setting_text};
-use picks::{Columns, Conditions, Range, RangeFault, RuleCondition, Selection};
+use picks::{Columns, Conditions, Range, RuleCondition, Selection};
 use std::alloc::{AllocError, Global};
 
 /// The graphs that the arguments select; `None` if a value of a condition is not valid.
