@@ -1,9 +1,10 @@
 -- A text names one range at most.
-use Rattle.std.proofs.Common.{◌≡◌, ◌∙◌, ◌⊎◌, inl, inr, ℕ, Bool, true, false, List, [], Option, None, Some, unwrap_or, refl, ap, sym, subst, true≢false, arith}
+use Rattle.std.proofs.Common.{◌≡◌, ◌∙◌, ◌⊎◌, inl, inr, ℕ, Bool, true, false, List, [], Bor, Option, None, Some, IfNone, option_map, unwrap_or, refl, ap, sym, subst, true≢false, arith}
 use Rattle.picks.specs.declared.range.Range.{Range}
 use Rattle.picks.specs.declared.range.RangeFault.{RangeFault}
 use Rattle.picks.specs.declared.range.RangeFault.TheVariants.{Malformed, Empty}
 use Rattle.picks.specs.Ranges.{IsNumber, IsEnd, NamesEnds, IsRangeText, IsRangeFault, is_up_to, has_numbers}
+use Rattle.command_line.specs.Requests.{IsRangeOf}
 
 no_number : (n : ℕ) → IsNumber [] n → ⊥
 no_number n is = omega (arith, is.0.0.0)
@@ -33,3 +34,22 @@ pub no_range : (text : List ℕ) (fault : RangeFault) (range : Range) → IsRang
 no_range text Malformed range why is = why range is.ends
 no_range text Empty range why is =
     true≢false (sym is.ordered ∙ same_numbers text range why.range is.ends why.ends ∙ why.empty)
+
+none_named : (text : List ℕ) (fault : RangeFault) (range : Option Range) → IsRangeFault text fault → IsRangeOf (Some text) range → ⊥
+none_named text fault None why is = is
+none_named text fault (Some range) why is = no_range text fault range why is
+
+-- nor does an argument with this text, if there is one
+pub no_range_of : (given : Option (Bor (List ℕ))) (text : Bor (List ℕ)) (fault : RangeFault) → given ≡ Some text → IsRangeFault text.now fault
+    → (range : Option Range) → IsRangeOf (option_map (λ t. t.now) given) range → ⊥
+no_range_of given text fault is why range names =
+    none_named text.now fault range why (subst (λ (g : Option (Bor (List ℕ))). IsRangeOf (option_map (λ t. t.now) g) range) is names)
+
+-- what holds without a value
+pub if_none : {A P : Type 0} (answer : Option A) → P → IfNone answer P
+if_none None holds = holds
+if_none (Some value) holds = tt
+
+-- there is no value
+pub not_there : {A : Type 0} (value : A) (answer : Option A) → None ≡ answer → answer ≡ Some value → ⊥
+not_there value answer none some = cc

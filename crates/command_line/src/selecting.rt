@@ -1,5 +1,5 @@
 //! The graphs that a command line selects, and the columns of their table.
-ghost use Rattle.std.specs.Prelude.{◌≡◌, IfNone, IfSome, option_map};
+ghost use Rattle.std.specs.Prelude.{◌≡◌, Option, IfNone, IfSome, option_map};
 ghost use Rattle.picks.specs.declared.range.Range.{Range};
 ghost use Rattle.picks.specs.declared.conditions.RuleCondition.{RuleCondition};
 ghost use Rattle.picks.specs.declared.conditions.Selection.{Selection};

@@ -2,6 +2,7 @@ use Rattle.std.proofs.Common.{◌∙◌, ap, map, subst}
 use Rattle.command_line.specs.declared.reading.Setting.TheVariants as setting
 use Rattle.command_line.specs.Requests.{IsWaiting, setting_text_in}
 use Rattle.command_line.proofs.Asking.{nothing_for_pick, files_of_run, same_number, passes_not}
+use Rattle.command_line.proofs.RangeTexts.{if_none}
 use Rattle.command_line.proofs.request.pick_of.Goals as goal
 
 pub returns-then-not-are_valid-clause-none : goal.returns-then-not-are_valid-clause-none
@@ -19,3 +20,8 @@ returns-then-not-is_waiting-clause-none c =
     nothing_for_pick c.args.words.now c.requires.command (λ pick asked.
     let same = same_number 64 (setting_text_in setting.Waiting c.args.words.now) pick.waiting c.waiting_of-waiting.result asked.waiting_in c.waiting_of-waiting.ensures in
     passes_not c.is_waiting.result (c.is_waiting.ensures.1 (subst IsWaiting same asked.in_range)) c.if-not-is_waiting.true)
+
+pub returns-in_err-selection-clause-none : goal.returns-in_err-selection-clause-none
+returns-in_err-selection-clause-none c =
+    if_none c.from_residual.result
+    (nothing_for_pick c.args.words.now c.requires.command (λ pick asked. c.in_err-selection.ensures.none pick.selection asked.selected))
