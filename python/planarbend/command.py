@@ -19,7 +19,7 @@ from planarbend.layout.planar_code import HEADER
 from planarbend.progress import Progress
 from planarbend.readers import FORMS, ReadError, read
 
-ABOUT = "Draws a graph along horizontal and vertical lines with few bends and few crossings, which are right angles."
+ABOUT = "Draws a graph along horizontal and vertical lines with few bends and few crossings; edges cross at right angles."
 TEXT = """\
 examples:
   planarbend-draw radio.txt -o radio.svg
