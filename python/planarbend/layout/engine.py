@@ -180,7 +180,7 @@ class ProcessEngine:
 
     def lay_keeping(self, lists: Lists, outer: str, conditions: Conditions) -> Answer:
         """Return no layout: raise a `PlanarbendError`, since the program takes no conditions."""
-        raise PlanarbendError("given angles, turns and inner faces need libplanarbend, and only the program planarbend was found")
+        raise PlanarbendError("given angles, turns and inner faces need libplanarbend, which was not found")
 
 
 def answer_of(line: dict[str, Any]) -> Answer:
