@@ -143,8 +143,10 @@ pub fn find_points(
     ensures near { IfDrawn IsNear (answer_in result) }
 {
     let shaped_plane = shaped_plane?;
-    let points = points_of(alloc, scratch, &shaped_plane, drawing_kind)?;
-    Ok((shaped_plane, points))
+    match points_of(alloc, scratch, &shaped_plane, drawing_kind) {
+        Ok(points) => Ok((shaped_plane, points)),
+        Err(AllocError) => Err(ReadFault::Memory),
+    }
 }
 
 /// The entry of a record: all stages, one after another, on the caller's thread, with the quick drawing.

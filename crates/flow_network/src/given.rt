@@ -167,5 +167,8 @@ pub(crate) fn beyond(angle: Option<u8>) -> i32
 pub(crate) fn lefts(turns: Option<i32>) -> i32
     ensures { result ≡ lefts_given turns }
 {
-    turns.unwrap_or(0)
+    match turns {
+        Some(turns) => turns,
+        None => 0,
+    }
 }

@@ -174,7 +174,10 @@ impl Pulling {
             if let Some(target) = self.search_pairs()? {
                 return Ok(self.augment(root, target));
             }
-            if !spend(looks, self.reached.len()) || !self.move_up()? {
+            if !spend(looks, self.reached.len()) {
+                return Ok(false);
+            }
+            if !self.move_up()? {
                 return Ok(false);
             }
         }

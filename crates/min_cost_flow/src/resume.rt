@@ -33,9 +33,10 @@ impl Solver {
         ensures answer { IsVerdict network.new self.new result }
     {
         network.shift(from, to, amount);
-        if !carries_little(&self.residual.capacities, amount)
-            || !rebase(&mut self.nodes.potential, to as usize)
-        {
+        if !carries_little(&self.residual.capacities, amount) {
+            return self.solve(network);
+        }
+        if !rebase(&mut self.nodes.potential, to as usize) {
             return self.solve(network);
         }
         move_units(&mut self.nodes.excess, from, to, amount);

@@ -147,7 +147,10 @@ fn list_straight(
 {
     for place in 0..count {
         let point = points.vertex(place + 1);
-        if !x.add_straight(place + 1, point.x)? || !y.add_straight(place + 1, point.y)? {
+        if !x.add_straight(place + 1, point.x)? {
+            return Ok(false);
+        }
+        if !y.add_straight(place + 1, point.y)? {
             return Ok(false);
         }
     }

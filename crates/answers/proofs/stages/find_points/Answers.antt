@@ -3,8 +3,8 @@ use Rattle.answers.specs.Steps.{IsShaped, IsPlaneOf}
 use Rattle.answers.proofs.stages.find_points.Goals as goal
 
 -- the plane is that of the lists, and the points draw its shape
-pub returns-clause-answers : goal.returns-clause-answers
-returns-clause-answers c choice g shaped =
+pub returns-in-Ok-clause-answers : goal.returns-in-Ok-clause-answers
+returns-in-Ok-clause-answers c choice g shaped =
     let found = c.in_ok-shaped_plane.shaped_plane in
     let known : IsPlaneOf choice g found.plane = subst (IsShaped choice g) c.in_ok-shaped_plane.was shaped in
     record {
@@ -14,7 +14,7 @@ returns-clause-answers c choice g shaped =
       shape_is = found.shape_is;
       least = found.least;
       proof = found.proof;
-      drawn = c.in_ok-points.ensures.drawn.drawn;
-      no_longer = c.in_ok-points.ensures.drawn.no_longer;
-      near = c.in_ok-points.ensures.drawn.near;
+      drawn = c.in-Ok.ensures.drawn.drawn;
+      no_longer = c.in-Ok.ensures.drawn.no_longer;
+      near = c.in-Ok.ensures.drawn.near;
     }

@@ -9,10 +9,10 @@ returns-in_err-by_darts-clause-fault c =
     let q = err_from_is_err_and c.from_residual.result c.from_residual.ensures.1 in
     rw q.1 (subst (IsKeepFault c.args.conditions.now c.args.choice c.args.plane.now) (sym q.2) (c.in_err-by_darts.ensures.fault c.args.choice))
 
-pub returns-in-Ok-chosen_shape-clause-kept : goal.returns-in-Ok-chosen_shape-clause-kept
-returns-in-Ok-chosen_shape-clause-kept c =
+pub returns-in-Ok-clause-kept : goal.returns-in-Ok-clause-kept
+returns-in-Ok-clause-kept c =
     let by_darts = c.in_ok-by_darts.by_darts in
-    let found = c.in-Ok-chosen_shape.ensures in
+    let found = c.in-Ok.ensures in
     record {
       given = by_darts.given;
       barred = by_darts.barred;

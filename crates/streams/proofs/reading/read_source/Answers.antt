@@ -77,7 +77,7 @@ returns-in_err-receive-clause-refused g c =
     let inv = c.loop.invariant in
     let leads = c.read_piece-step.ensures.reads _ _ c.loop.counter inv.found (nothing_new _ _ _ _ _ _ _ _ inv.none inv.being_read) in
     let then = received_from (λ first records x y. g.V.Receiver.refused first records x y c.in_err-receive.field-0.0) _ _ _ _ _ inv.next c.in_err-receive.ensures.refused in
-    rw q.1 (subst (λ refusal. (records : List (List ℕ)) × g.V.Receiver.refused 0 records c.args.receiver.now c.receive.new.receiver refusal
+    rw q.1 (subst (λ refusal. (records : List (List ℕ)) × g.V.Receiver.refused 0 records c.args.receiver.now c.receive.new.self refusal
     × IsFoundIn (g.T.Tap.to_come c.args.source) (g.T.Tap.fails c.args.source) records (Ended Memory)) (sym q.2)
     (_, g.met.V.Receiver.refused_on _ _ _ _ _ _ inv.received then, found_so_far _ _ _ _ _ _ _ _ leads))
 
