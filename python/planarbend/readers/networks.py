@@ -212,7 +212,7 @@ def read_json(data: bytes) -> Graph:
     except json.JSONDecodeError as error:
         raise Fault(f"not JSON: {error.msg}", error.lineno) from None
     except RecursionError:
-        raise Fault("not node-link JSON: lists within lists without end") from None
+        raise Fault("not node-link JSON: nested too deeply") from None
     edges = found.get("links", found.get("edges")) if isinstance(found, dict) else None
     if edges is None or not isinstance(edges, list) or not isinstance(found.get("nodes"), list):
         raise Fault("not node-link JSON: it needs the lists nodes and links (or edges)")
