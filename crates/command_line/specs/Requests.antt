@@ -22,8 +22,8 @@ use Rattle.command_line.specs.declared.reading.Keyword.TheVariants as keyword
 use Rattle.command_line.specs.declared.request.Request.{Request}
 use Rattle.command_line.specs.declared.request.Request.TheVariants.{Frames, Layout, Check, Pick, Count}
 use Rattle.picks.specs.declared.range.Range.{Range}
-use Rattle.picks.specs.declared.conditions.RuleCondition.{RuleCondition}
-use Rattle.picks.specs.declared.conditions.Selection.{Selection}
+use Rattle.picks.specs.declared.selecting.RuleCondition.{RuleCondition}
+use Rattle.picks.specs.declared.selecting.Selection.{Selection}
 use Rattle.picks.specs.declared.combination.Columns.{Columns}
 use Rattle.picks.specs.Ranges.{IsRangeText}
 use Rattle.picks.specs.Words.{IsRuleText, columns_in, no_columns}

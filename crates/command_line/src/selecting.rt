@@ -1,8 +1,8 @@
 //! The graphs that a command line selects, and the columns of their table.
 ghost use Rattle.std.specs.Prelude.{◌≡◌, Option, IfNone, IfSome, option_map};
 ghost use Rattle.picks.specs.declared.range.Range.{Range};
-ghost use Rattle.picks.specs.declared.conditions.RuleCondition.{RuleCondition};
-ghost use Rattle.picks.specs.declared.conditions.Selection.{Selection};
+ghost use Rattle.picks.specs.declared.selecting.RuleCondition.{RuleCondition};
+ghost use Rattle.picks.specs.declared.selecting.Selection.{Selection};
 ghost use Rattle.command_line.specs.Requests as requests;
 ghost use Rattle.command_line.specs.Requests.{IsRangeOf, IsRuleOf, IsSelectedBy};
 

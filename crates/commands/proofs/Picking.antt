@@ -6,7 +6,7 @@ use Rattle.lanes.specs.Opening.{Meaning}
 use Rattle.named_sources.specs.Naming.{meanings_in}
 use Rattle.command_line.specs.declared.request.PickRequest.{PickRequest}
 use Rattle.command_line.specs.declared.request.CountRequest.{CountRequest}
-use Rattle.picks.specs.declared.conditions.Selection.{Selection}
+use Rattle.picks.specs.declared.selecting.Selection.{Selection}
 use Rattle.picks.specs.declared.combination.Columns.{Columns}
 use Rattle.picks.specs.declared.flaws.Flaws.{Flaws}
 use Rattle.picks.specs.Books.{FactBook, IsFlawless, IsFlawlessFacts, flaws_of}

@@ -31,7 +31,7 @@ use Rattle.command_line.specs.declared.request.CheckRequest.{CheckRequest}
 use Rattle.command_line.specs.declared.request.PickRequest.{PickRequest}
 use Rattle.command_line.specs.declared.request.CountRequest.{CountRequest}
 use Rattle.picks.specs.declared.combination.Columns.{Columns}
-use Rattle.picks.specs.declared.conditions.Selection.{Selection}
+use Rattle.picks.specs.declared.selecting.Selection.{Selection}
 use Rattle.picks.specs.declared.flaws.Flaws.{Flaws}
 use Rattle.picks.specs.Books.{FactBook, AreAllFactBooks, IsFlawlessFacts, flaws_of}
 use Rattle.picks.specs.Picked.{IsAllPicked, IsPickBegun, picked_text, chosen_in}

@@ -16,7 +16,7 @@ use Rattle.lanes.specs.Files.{AreToldWhole}
 use Rattle.lanes.specs.declared.fault.RunFault.{RunFault}
 use Rattle.collector.proofs.Notes.{all_told_item, all_told_end}
 use Rattle.picks.specs.declared.combination.Columns.{Columns}
-use Rattle.picks.specs.declared.conditions.Selection.{Selection}
+use Rattle.picks.specs.declared.selecting.Selection.{Selection}
 use Rattle.picks.specs.declared.facts.Facts.{Facts}
 use Rattle.picks.specs.declared.flaws.Flaws.{Flaws}
 use Rattle.picks.specs.Books.{FactEntry, flaws_of}

@@ -23,7 +23,7 @@ use Rattle.collector.specs.Orders.{IsInOrder}
 use Rattle.collector.proofs.Finishing.{book_told, mark_told}
 use Rattle.collector.proofs.Ordering.{found_come, order_none}
 use Rattle.collector.proofs.ToldEnds.{both}
-use Rattle.picks.specs.declared.conditions.Selection.{Selection}
+use Rattle.picks.specs.declared.selecting.Selection.{Selection}
 use Rattle.picks.specs.declared.flaws.Flaws.{Flaws}
 use Rattle.picks.specs.declared.picks.Picks.{Picks}
 use Rattle.picks.specs.Facts.{AreFacts}

@@ -15,7 +15,7 @@ use Rattle.collector.specs.declared.waiting.Waiting.{Waiting}
 use Rattle.collector.specs.Orders.{IsKnownAt, IsInOrder, IsNext}
 use Rattle.collector.specs.Waits.{ChangesAt, GetsMark, IsNothing}
 use Rattle.collector.proofs.Waits.{some_waiting}
-use Rattle.picks.specs.declared.conditions.Selection.{Selection}
+use Rattle.picks.specs.declared.selecting.Selection.{Selection}
 use Rattle.picks.specs.declared.flaws.Flaws.{Flaws}
 use Rattle.picks.specs.declared.picks.Picks.{Picks}
 use Rattle.picks.specs.Books.{FactEntry, flaws_of}

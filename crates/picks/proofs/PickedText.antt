@@ -15,7 +15,7 @@ use Rattle.collector.specs.Written.{GoesOn, IsCounted, IsPartlyAdded}
 use Rattle.collector.proofs.Adding.{counted_one}
 use Rattle.collector.proofs.Partial.{Longer, appends_longer, way_front}
 use Rattle.collector.proofs.Waits.{after_change, changes_both}
-use Rattle.picks.specs.declared.conditions.Selection.{Selection}
+use Rattle.picks.specs.declared.selecting.Selection.{Selection}
 use Rattle.picks.specs.Books.{FactEntry}
 use Rattle.picks.specs.Picked.{picked_in, picked_of}
 use Rattle.picks.specs.Arrived.{Arrived, none_arrived, HasEntryMore, HasEndMore, record_of, records_of, picked_up_to}

@@ -7,7 +7,7 @@ use Rattle.lanes.specs.Faults.{IsOfLanes}
 use Rattle.lanes.specs.declared.fault.RunFault.{RunFault}
 use Rattle.lanes.specs.declared.fault.RunFault.TheVariants.{Memory, LaneLost, Thread, Refused}
 use Rattle.collector.specs.Written.{GivesUp, HasFailedBy}
-use Rattle.picks.specs.declared.conditions.Selection.{Selection}
+use Rattle.picks.specs.declared.selecting.Selection.{Selection}
 use Rattle.picks.specs.declared.picks.Picks.{Picks}
 use Rattle.picks.specs.Picked.{IsPickBegun}
 use Rattle.picks.specs.Holding.{IsPartlyPicked, PicksPartly, files_of}

@@ -8,7 +8,7 @@ use Rattle.reports.specs.declared.answer.Answer.{Answer}
 use Rattle.reports.specs.declared.entry.Entry.{Entry}
 use Rattle.collector.specs.Answered.{entry_of}
 use Rattle.collector.specs.Came.{Came, mark_or_memory}
-use Rattle.picks.specs.declared.conditions.Selection.{Selection}
+use Rattle.picks.specs.declared.selecting.Selection.{Selection}
 use Rattle.picks.specs.declared.facts.Facts.{Facts}
 use Rattle.picks.specs.declared.flaws.Flaws.{Flaws}
 use Rattle.picks.specs.Facts.{AreFacts}

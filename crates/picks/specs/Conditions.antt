@@ -4,10 +4,10 @@ use Rattle.embedding.specs.declared.rules.Rule.{Rule}
 use Rattle.embedding.specs.Rules.{rule_number}
 use Rattle.picks.specs.declared.range.Range.{Range}
 use Rattle.picks.specs.declared.facts.Facts.{Facts}
-use Rattle.picks.specs.declared.conditions.Conditions.{Conditions}
-use Rattle.picks.specs.declared.conditions.Selection.{Selection}
-use Rattle.picks.specs.declared.conditions.RuleCondition.{RuleCondition}
-use Rattle.picks.specs.declared.conditions.RuleCondition.TheVariants.{BreaksNone, BreaksFirst}
+use Rattle.picks.specs.declared.selecting.Conditions.{Conditions}
+use Rattle.picks.specs.declared.selecting.Selection.{Selection}
+use Rattle.picks.specs.declared.selecting.RuleCondition.{RuleCondition}
+use Rattle.picks.specs.declared.selecting.RuleCondition.TheVariants.{BreaksNone, BreaksFirst}
 use Rattle.picks.specs.Ranges.{in_range}
 
 -- The number meets a condition on it, if there is one. A graph that has no such number meets no condition on it.

@@ -3,7 +3,7 @@ use Rattle.std.specs.Prelude.{◌≡◌, ℕ, List, map}
 use Rattle.common.specs.declared.choice.Choice.{Choice}
 use Rattle.lanes.specs.Opening.{Meaning}
 use Rattle.picks.specs.declared.combination.Columns.{Columns}
-use Rattle.picks.specs.declared.conditions.Selection.{Selection}
+use Rattle.picks.specs.declared.selecting.Selection.{Selection}
 use Rattle.picks.specs.declared.flaws.Flaws.{Flaws}
 use Rattle.picks.specs.Books.{FactBook, AreAllFactBooks, flaws_of}
 use Rattle.picks.specs.Picked.{chosen_in}

@@ -4,7 +4,7 @@ use Rattle.std.proofs.Common.{refl}
 use Rattle.lanes.specs.Notes.{Note, Stop}
 use Rattle.collector.specs.Came.{IsToldByNotes}
 use Rattle.collector.specs.Stops.{told_same}
-use Rattle.picks.specs.declared.conditions.Selection.{Selection}
+use Rattle.picks.specs.declared.selecting.Selection.{Selection}
 use Rattle.picks.specs.declared.facts.Facts.{Facts}
 use Rattle.picks.specs.declared.flaws.Flaws.{Flaws}
 use Rattle.picks.specs.Books.{flaws_of}

@@ -9,7 +9,7 @@ use Rattle.collector.specs.declared.waiting.Waiting.{Waiting}
 use Rattle.collector.specs.Came.{IsToldByNotes}
 use Rattle.collector.specs.Orders.{IsInOrder}
 use Rattle.collector.specs.Written.{IsCounted}
-use Rattle.picks.specs.declared.conditions.Selection.{Selection}
+use Rattle.picks.specs.declared.selecting.Selection.{Selection}
 use Rattle.picks.specs.declared.flaws.Flaws.{Flaws}
 use Rattle.picks.specs.declared.picks.Picks.{Picks}
 use Rattle.picks.specs.Books.{flaws_of}

@@ -6,7 +6,7 @@ use Rattle.planar_code.specs.declared.TheConstants.{HEADER}
 use Rattle.streams.specs.Sink.{AppendsPrefix}
 use Rattle.common.specs.declared.choice.Choice.{Choice}
 use Rattle.lanes.specs.Opening.{Meaning}
-use Rattle.picks.specs.declared.conditions.Selection.{Selection}
+use Rattle.picks.specs.declared.selecting.Selection.{Selection}
 use Rattle.picks.specs.declared.facts.Facts.{Facts}
 use Rattle.picks.specs.declared.flaws.Flaws.{Flaws}
 use Rattle.picks.specs.Books.{FactEntry, FactBook, AreAllFactBooks, flaws_of}

@@ -2,8 +2,8 @@
 use Rattle.std.specs.Prelude.{◌≡◌, ◌==◌, ℕ, Bool, true, false, if◌then◌else◌, List, Option, None, Some, codes, bytes_eq, fold}
 use Rattle.std.specs.List.{slice_split}
 use Rattle.embedding.specs.Words.{word_of}
-use Rattle.picks.specs.declared.conditions.RuleCondition.{RuleCondition}
-use Rattle.picks.specs.declared.conditions.RuleCondition.TheVariants.{BreaksNone, BreaksFirst}
+use Rattle.picks.specs.declared.selecting.RuleCondition.{RuleCondition}
+use Rattle.picks.specs.declared.selecting.RuleCondition.TheVariants.{BreaksNone, BreaksFirst}
 use Rattle.picks.specs.declared.combination.Columns.{Columns}
 
 -- the text of a condition on the first broken rule: 'none', or the word of a rule

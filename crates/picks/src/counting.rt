@@ -11,7 +11,7 @@ ghost use Rattle.picks.specs.CountsHeld.{CountsHold, counted_stop};
 ghost use Rattle.picks.specs.Tables.{IsTable};
 
 use crate::combination::Columns;
-use crate::conditions::Selection;
+use crate::selecting::Selection;
 use crate::counts::Counts;
 use crate::facts::Facts;
 use crate::find_facts::fact_lanes;

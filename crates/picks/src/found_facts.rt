@@ -7,7 +7,7 @@ ghost use Rattle.answers.specs.Spelt.{IsSpelt};
 ghost use Rattle.picks.specs.Conditions.{is_chosen};
 ghost use Rattle.picks.specs.Facts.{AreFacts};
 
-use crate::conditions::Selection;
+use crate::selecting::Selection;
 use crate::facts::Facts;
 use collector::KnownFiles;
 use common::Choice;

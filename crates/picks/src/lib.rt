@@ -3,7 +3,6 @@
 #![tactic(auto)]
 
 mod combination;
-mod conditions;
 mod counting;
 mod counts;
 mod facts;
@@ -14,11 +13,11 @@ pub mod pick_laws;
 mod picking;
 mod picks;
 mod range;
+mod selecting;
 mod table;
 pub mod table_laws;
 mod words;
 
-pub use crate::conditions::{Conditions, RuleCondition, Selection};
 pub use combination::{Columns, Combination};
 pub use counting::{Counted, count_files};
 pub use counts::Counts;
@@ -29,4 +28,5 @@ pub use found_facts::FoundFacts;
 pub use picking::{PickTexts, pick_files};
 pub use picks::Picks;
 pub use range::{Range, RangeFault};
+pub use selecting::{Conditions, RuleCondition, Selection};
 pub use table::write_counts;

@@ -2,7 +2,7 @@
 ghost use Rattle.std.specs.Prelude.{◌≡◌, ◌≢◌, ℕ, List, [], ◌∷◌, None, All, map, not};
 ghost use Rattle.planar_code.specs.declared.ending.Ending.{Ending};
 ghost use Rattle.planar_code.specs.Split.{IsSplit};
-ghost use Rattle.picks.specs.declared.conditions.Conditions.{Conditions};
+ghost use Rattle.picks.specs.declared.selecting.Conditions.{Conditions};
 ghost use Rattle.picks.specs.declared.facts.Facts.{Facts};
 ghost use Rattle.picks.specs.Books.{FactBook};
 ghost use Rattle.picks.specs.Conditions.{chooses, no_condition, others_than, those_meeting};

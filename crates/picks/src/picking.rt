@@ -14,7 +14,7 @@ ghost use Rattle.picks.specs.Picked.{IsAllPicked, IsPickBegun};
 ghost use Rattle.picks.specs.Holding.{ArePicksOf, IsFlushed, PicksHold, PicksPartly, files_of};
 ghost use Rattle.picks.specs.Stops.{held_stop};
 
-use crate::conditions::Selection;
+use crate::selecting::Selection;
 use crate::find_facts::fact_lanes;
 use crate::flaws::Flaws;
 use crate::found_facts::FoundFacts;

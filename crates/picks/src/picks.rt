@@ -12,7 +12,7 @@ ghost use Rattle.picks.specs.Books.{FactEntry};
 ghost use Rattle.picks.specs.Picked.{IsAllPicked, picked_of};
 ghost use Rattle.picks.specs.Holding.{ArePicksOf, IsFlushed, IsPartOfPicked, PicksHold, PicksPartly, PicksWrite, files_of, flaws_in};
 
-use crate::conditions::Selection;
+use crate::selecting::Selection;
 use crate::flaws::{Flaws, add_flaw, no_flaws, set_mark};
 use crate::found_facts::FoundFacts;
 use collector::{

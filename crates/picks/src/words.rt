@@ -1,10 +1,10 @@
 //! The texts by which conditions on rules and columns are asked for.
 ghost use Rattle.std.specs.Prelude.{◌≡◌, IfNone, IfSome};
-ghost use Rattle.picks.specs.declared.conditions.RuleCondition.{RuleCondition};
+ghost use Rattle.picks.specs.declared.selecting.RuleCondition.{RuleCondition};
 ghost use Rattle.picks.specs.Words.{IsRuleText, columns_in, no_columns, with_column};
 
 use crate::combination::Columns;
-use crate::conditions::RuleCondition;
+use crate::selecting::RuleCondition;
 use embedding::Rule;
 
 impl RuleCondition {

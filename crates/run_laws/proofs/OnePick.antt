@@ -14,7 +14,7 @@ use Rattle.lanes.specs.Notes.{About, numbered}
 use Rattle.lanes.specs.Opening.{Meaning, known_of, fails_of}
 use Rattle.faces.specs.Planes.{PlaneModel, vertices, darts}
 use Rattle.ortho_rep.specs.Representation.{IsShape, IsLeast}
-use Rattle.picks.specs.declared.conditions.Selection.{Selection}
+use Rattle.picks.specs.declared.selecting.Selection.{Selection}
 use Rattle.picks.specs.declared.facts.Facts.{Facts}
 use Rattle.picks.specs.Books.{FactEntry, FactBook, IsFactBook, AreFactBooks, AreAllFactBooks, about_of}
 use Rattle.picks.specs.Conditions.{is_chosen}

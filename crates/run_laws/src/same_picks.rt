@@ -3,7 +3,7 @@
 ghost use Rattle.std.specs.Prelude.{◌≡◌, ℕ, List, All, Some};
 ghost use Rattle.common.specs.declared.choice.Choice.{Choice};
 ghost use Rattle.lanes.specs.Opening.{Meaning};
-ghost use Rattle.picks.specs.declared.conditions.Selection.{Selection};
+ghost use Rattle.picks.specs.declared.selecting.Selection.{Selection};
 ghost use Rattle.picks.specs.declared.facts.Facts.{Facts};
 ghost use Rattle.picks.specs.Books.{FactBook, AreAllFactBooks};
 ghost use Rattle.picks.specs.Facts.{AreFacts};
