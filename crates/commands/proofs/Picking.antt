@@ -13,7 +13,7 @@ use Rattle.picks.specs.Books.{FactBook, IsFlawless, IsFlawlessFacts, flaws_of}
 use Rattle.picks.specs.Picked.{IsAllPicked, IsPickBegun}
 use Rattle.picks.specs.Counted.{IsAllCounted}
 use Rattle.picks.specs.Tables.{TableModel, table_text}
-use Rattle.picks.proofs.Flaws.{flawless_flaws}
+use Rattle.commands.proofs.NoFlaws.{flawless_flaws}
 use Rattle.commands.specs.Statuses.{AreCountsWritten, ErrorOutput, IsTextOfCounted, IsTextOfPicked, TellsFlaws}
 use Rattle.std.specs.Prelude.{vec_len}
 
