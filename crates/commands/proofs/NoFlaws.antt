@@ -1,6 +1,8 @@
 -- A book is flawless exactly if nothing is lacking in it.
-use Rattle.std.proofs.Common.{◌≡◌, ◌≢◌, ◌+◌, ◌↔◌, ℕ, Bool, cond, List, [], ◌∷◌, Option, None, Some, All, is_none, refl, arith}
+use Rattle.std.proofs.Common.{◌≡◌, ◌≢◌, ◌+◌, ◌↔◌, ℕ, Bool, cond, List, [], ◌∷◌, Option, None, Some, All, is_none, refl, sym, ◌∙◌, arith}
 use Rattle.std.specs.Prelude.{count_by}
+use Rattle.std.proofs.lemmas.List.Elements.{All-nil, All-cons, All-head, All-tail}
+use Rattle.std.proofs.lemmas.List.Sums.{sum_by-cons}
 use Rattle.picks.specs.declared.facts.Facts.{Facts}
 use Rattle.picks.specs.Books.{FactBook, FactEntry, IsFlawless, IsFlawlessFacts, flaws_of, unanswered}
 
@@ -15,16 +17,22 @@ none_more : (facts : Option Facts) (n : ℕ) → facts ≢ None → n ≡ 0 → 
 none_more None n some is = absurd (some refl)
 none_more (Some facts) n some is = omega (arith, is)
 
-all_answered : (entries : List FactEntry) → unanswered entries ≡ 0 → All (λ entry. entry.facts ≢ None) entries
-all_answered [] is = tt
-all_answered (entry ∷ entries) is = (
-  some_facts entry.facts (unanswered entries) is,
-  all_answered entries (no_more (is_none entry.facts) (unanswered entries) is),
-)
+one_more : (entry : FactEntry) (entries : List FactEntry) → unanswered (entry ∷ entries) ≡ cond (is_none entry.facts) 1 0 + unanswered entries
+one_more entry entries = sum_by-cons (λ (e : FactEntry). cond (is_none e.facts) 1 0) entry entries
 
-none_unanswered : (entries : List FactEntry) → All (λ entry. entry.facts ≢ None) entries → unanswered entries ≡ 0
+abbrev HasFacts : FactEntry → Type 0
+HasFacts entry = entry.facts ≢ None
+
+all_answered : (entries : List FactEntry) → unanswered entries ≡ 0 → All HasFacts entries
+all_answered [] is = All-nil HasFacts
+all_answered (entry ∷ entries) is =
+    All-cons HasFacts entry entries (some_facts entry.facts (unanswered entries) (sym (one_more entry entries) ∙ is))
+    (all_answered entries (no_more (is_none entry.facts) (unanswered entries) (sym (one_more entry entries) ∙ is)))
+
+none_unanswered : (entries : List FactEntry) → All HasFacts entries → unanswered entries ≡ 0
 none_unanswered [] all = refl
-none_unanswered (entry ∷ entries) all = none_more entry.facts (unanswered entries) all.0 (none_unanswered entries all.1)
+none_unanswered (entry ∷ entries) all =
+    one_more entry entries ∙ none_more entry.facts (unanswered entries) (All-head HasFacts entry entries all) (none_unanswered entries (All-tail HasFacts entry entries all))
 
 pub flawless_flaws : (book : FactBook) → IsFlawlessFacts book ↔ IsFlawless (flaws_of book)
 flawless_flaws book = (

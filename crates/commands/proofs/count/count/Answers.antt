@@ -22,12 +22,12 @@ returns-in_err-counted-clause-begun g c = on_err c.from_residual-in_err-counted.
 pub returns-in_err-counted-clause-refused : goal.returns-in_err-counted-clause-refused
 returns-in_err-counted-clause-refused g c =
     let p = err_from_is_err_and c.from_residual-in_err-counted.result c.from_residual-in_err-counted.ensures.1 in
-    no_misuse _ _ _ p.1 p.2
+    no_misuse _ _ _ _ p.1 p.2
 
 pub returns-in_err-counted-clause-refusable : goal.returns-in_err-counted-clause-refusable
 returns-in_err-counted-clause-refusable g c =
     let p = err_from_is_err_and c.from_residual-in_err-counted.result c.from_residual-in_err-counted.ensures.1 in
-    no_misuse _ _ _ p.1 p.2
+    no_misuse _ _ _ _ p.1 p.2
 
 pub returns-in_err-write_counts-clause-begun : goal.returns-in_err-write_counts-clause-begun
 returns-in_err-write_counts-clause-begun g c =
@@ -43,9 +43,9 @@ returns-in_err-write_counts-clause-begun g c =
 pub returns-in_err-write_counts-clause-refused : goal.returns-in_err-write_counts-clause-refused
 returns-in_err-write_counts-clause-refused g c =
     let p = err_from_is_err_and c.from_residual-in_err-write_counts.result c.from_residual-in_err-write_counts.ensures.1 in
-    no_misuse_written _ _ _ p.1 p.2
+    no_misuse_written _ _ _ _ p.1 p.2
 
 pub returns-in_err-write_counts-clause-refusable : goal.returns-in_err-write_counts-clause-refusable
 returns-in_err-write_counts-clause-refusable g c =
     let p = err_from_is_err_and c.from_residual-in_err-write_counts.result c.from_residual-in_err-write_counts.ensures.1 in
-    no_misuse_written _ _ _ p.1 p.2
+    no_misuse_written _ _ _ _ p.1 p.2
