@@ -6,5 +6,5 @@ use Rattle.commands.proofs.flaw_lines.write_incomplete.Goals as goal
 pub returns-clause-added : goal.returns-clause-added
 returns-clause-added g c =
     subst (λ t. OnOk c.write_mark.result (Appends (g.E.Sink.taken c.args.err.now) (g.E.Sink.taken c.write_mark.new.err) t))
-    (line_of_mark c.args.name.now c.args.mark c.mark_word.result.now c.args.why.now (search rules) c.mark_word.ensures)
+    (line_of_mark c.args.name.now c.args.mark c.mark_word.result.now c.args.why.now (search rules) c.mark_word.ensures.word)
     c.write_mark.ensures.added
