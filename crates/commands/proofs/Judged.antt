@@ -30,8 +30,12 @@ pub written_of : (files : List ℕ → Meaning) (request : Request) (err : Error
     ⊎ ((asked : CountRequest) × IsTextOfCounted files asked err old new failed 3)
 written_of files (Frames name) err old new failed is = inl (name.now, is)
 written_of files (Layout asked) err old new failed is =
-    inr (inl (asked.choice, asked.style.form, asked.names.items,
-    subst (λ n. IsTextOfBooks asked.choice asked.style.form (meanings_in files asked.names.items) n old new failed 3) asked.names.ok.0 is))
+    inr (inl (
+      asked.choice,
+      asked.style.form,
+      asked.names.items,
+      subst (λ n. IsTextOfBooks asked.choice asked.style.form (meanings_in files asked.names.items) n old new failed 3) asked.names.ok.0 is,
+    ))
 written_of files (Check asked) err old new failed is = inr (inr (inl (asked, is)))
 written_of files (Pick asked) err old new failed is = inr (inr (inr (inl (asked, is))))
 written_of files (Count asked) err old new failed is = inr (inr (inr (inr (asked, is))))

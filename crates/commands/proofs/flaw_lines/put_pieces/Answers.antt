@@ -20,7 +20,6 @@ loop-piece-preserved g c =
       );
     }
 
-
 pub returns-in_err-put_all-clause-failed : goal.returns-in_err-put_all-clause-failed
 returns-in_err-put_all-clause-failed g c = on_err c.from_residual.result (has_failed _ _ _ _ _ c.in_err-put_all.ensures)
 

@@ -29,7 +29,7 @@ loop-name-preserved g c =
         before.0 ++ lines_of_file name.now lacking c.as_str.result.now,
         added_both _ _ _ _ _ before.1 c.in-Ok.ensures.added,
         lines_next names flaws i name lacking c.as_str.result.now before.0 (drop_more names i d c.loop-name-test.true)
-        (subst (λ (k : ℕ). drop k flaws ≡ lacking ∷ drop (k + 1) flaws) c.loop-name.invariant.place here) before.2,
+            (subst (λ (k : ℕ). drop k flaws ≡ lacking ∷ drop (k + 1) flaws) c.loop-name.invariant.place here) before.2,
       );
     }
 
