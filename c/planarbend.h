@@ -26,7 +26,8 @@
  *         return 0;
  *     }
  *
- * Compile with `cc ... $(pkg-config --cflags --libs planarbend)`. In C++, set the members one after another.
+ * Compile with `cc ... $(pkg-config --cflags --libs planarbend)`, and with `-Wl,-rpath,FOLDER` if the library is in a FOLDER
+ * that the system does not search. In C++, set the members one after another.
  *
  * The library keeps state only in `planarbend` objects: it has no global state, and uses no threads, locks or signals. Any
  * number of threads may call it at once, each with its own object or none. A call opens and writes no file, and reports
@@ -49,7 +50,7 @@ extern "C" {
 #define PLANARBEND_VERSION "2.0.0"
 #define PLANARBEND_VERSION_NUMBER 20000
 
-/* Upper bounds for a graph. Of these, conditions lift only PLANARBEND_MAX_BENDS. */
+/* Upper bounds for a graph. Only PLANARBEND_MAX_BENDS can be exceeded, and only with conditions. */
 enum {
     PLANARBEND_MAX_VERTICES = 1200,
     PLANARBEND_MAX_EDGES = 2400,
@@ -95,7 +96,7 @@ enum {
     PLANARBEND_NO_EDGE = 14,
     /* All faces must be inner faces. */
     PLANARBEND_NO_OUTER = 15,
-    /* A shape was found, but no drawing with the order of its boxes fits 16-bit coordinates. */
+    /* A shape was found, but its drawing does not fit 16-bit coordinates. */
     PLANARBEND_WIDE = 16,
     /* The record has more than 1,200 vertices. Only with entries of 16 bits. */
     PLANARBEND_LARGE = 17,
@@ -104,7 +105,7 @@ enum {
     PLANARBEND_CONFLICT = 18
 };
 
-/* The choice of outer face, among those that may be outside. */
+/* The choice of outer face, among the faces that may be it. */
 enum {
     PLANARBEND_OUTER_FIRST = 0, /* the face with the most darts; among several, the one with the lowest number */
     PLANARBEND_OUTER_BEST = 1   /* the face that minimises bends; among several, the one with the lowest number */
@@ -114,7 +115,7 @@ enum {
 enum {
     PLANARBEND_DRAWING_NONE = 0,  /* none, which is fastest; points, corner_starts and corners are not written */
     PLANARBEND_DRAWING_QUICK = 1, /* quick to compute */
-    PLANARBEND_DRAWING_SHORT = 2  /* shorter edges; with conditions, of the same shape */
+    PLANARBEND_DRAWING_SHORT = 2  /* shorter edges; with conditions, the shape is that of a quick drawing */
 };
 
 /* A dart: an edge in the direction from one end to the other. Vertices are numbered from 1. */
@@ -223,18 +224,18 @@ typedef struct planarbend_lists {
 } planarbend_lists;
 
 /*
- * A cut shows why no shape has the given angles and turns: it is a set of vertices and faces that turn more than can leave
- * it.
+ * A cut shows why no shape has the given angles and turns: it is a set whose vertices and faces require more turns than the
+ * edges leaving it can absorb.
  *
  * Item v - 1 of `vertices` is 1 if vertex v is in the set, item f of `faces` is 1 if face f is; all other items are 0,
  * also those after the last vertex or face. A list with less room has the first items; with room 0 its pointer may be null.
  *
- * If a vertex is in the set, the face of each of its angles that is not given is, since a right angle can go there. If a
- * face is in the set, each face across an edge whose turns are not given is. A vertex has to turn 4 minus its degree, less
+ * If a vertex is in the set, so is the face of each of its angles that is not given, since a right angle can go there. If a
+ * face is in the set, so is each face across an edge whose turns are not given. A vertex has to turn 4 minus its degree, less
  * k - 1 for each given angle k; an inner face 4 minus its degree, plus k - 1 for each given angle k of its darts, less the
  * given turns of its darts (to the left; those to the right are negative); the outer face 8 less than that. The degree of
  * a face is its number of darts. For the whole set, these sum to more than 0. The sum takes `outer_face` as the outer
- * face: of the faces allowed outside, the one with the most darts; among several, the one with the lowest number.
+ * face: of the faces that may be the outer face, the one with the most darts; among several, the one with the lowest number.
  */
 typedef struct planarbend_cut {
     size_t size; /* sizeof (planarbend_cut) */

@@ -9,7 +9,6 @@ import unittest
 from collections.abc import Iterable
 from typing import Any
 
-import planted
 import programs
 
 
@@ -69,7 +68,7 @@ def asked(checks: type[Checks], *options: programs.Option, what: str = "CASE") -
     parser = programs.parser_of(sys.modules["__main__"].__doc__, *options)
     programs.add_names(parser, what, [name for name, value in vars(checks).items() if name[0] != "_" and name != "setUp"
                                       and (callable(value) or hasattr(value, "__get__"))])
-    checks.told = planted.asked(parser, os.path.abspath(sys.argv[0]))
+    checks.told = parser.parse_args()
     return checks.told
 
 
@@ -87,6 +86,6 @@ def run(checks: type[Checks], names: Iterable[str], is_quiet: bool = False) -> i
     return 1 if result.failed else 0
 
 
-def main(checks: type[Checks], *options: programs.Option) -> int:
+def main(checks: type[Checks], *options: programs.Option, is_quiet: bool = False) -> int:
     """Runs a script whose arguments are names of its cases and these options."""
-    return run(checks, asked(checks, *options).names)
+    return run(checks, asked(checks, *options).names, is_quiet)

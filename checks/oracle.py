@@ -57,7 +57,7 @@ def broken_rule(lists: Lists) -> str | None:
     """The word of the first rule of docs/FORMAT.md that neighbour lists break."""
     count = len(lists)
     darts = {(tail, head) for tail, heads in enumerate(lists, 1) for head in heads}
-    met, waiting = {1}, [1]
+    met, waiting = {1}, [1] if lists else []
     for vertex in waiting:  # which grows
         new = [head for head in lists[vertex - 1] if head <= count and head not in met]
         met.update(new)

@@ -21,7 +21,6 @@
 extern void *__libc_malloc(size_t);
 extern void *__libc_calloc(size_t, size_t);
 extern void *__libc_realloc(void *, size_t);
-extern void *__libc_memalign(size_t, size_t);
 extern void __libc_free(void *);
 
 static atomic_long calls, starts, bytes, held, most, files;
@@ -65,15 +64,6 @@ void *realloc(void *old, size_t size) {
     void *block = __libc_realloc(old, size);
     if (block || !size) atomic_fetch_sub(&held, before);
     return add(block);
-}
-
-void *aligned_alloc(size_t align, size_t size) { return is_refused(size) ? NULL : add(__libc_memalign(align, size)); }
-
-int posix_memalign(void **out, size_t align, size_t size) {
-    void *block = aligned_alloc(align, size);
-    if (!block) return ENOMEM;
-    *out = block;
-    return 0;
 }
 
 void free(void *block) {

@@ -3,10 +3,12 @@ library, copies of crates, files of graphs, runs of a program, and the sections 
 import argparse
 import contextlib
 import datetime
+import glob
 import hashlib
 import importlib.machinery
 import os
 import re
+import resource
 import shutil
 import subprocess
 import sys
@@ -125,30 +127,17 @@ def measure(parts: dict[str, Part], *options: Option, default: str = "") -> int:
 
 
 def where() -> str:
-    """The day, the program's commit, and how many cores were busy just before the run."""
-    busy = busy_cores()
-    beside = "nothing else running" if busy < 0.3 else f"with other work on {busy:.1f} of them"
-    return f"{datetime.date.today()}, commit {commit()}, {len(os.sched_getaffinity(0))} cores, {beside}."
-
-
-def busy_cores() -> float:
-    """How many cores were busy during one second."""
-    def ticks() -> tuple[int, int]:
-        numbers = list(map(int, read("/proc/stat").split()[1:9]))
-        return sum(numbers), numbers[3] + numbers[4]  # all; idle or waiting for a disk
-
-    before, idle_before = ticks()
-    time.sleep(1)
-    after, idle = ticks()
-    return (os.cpu_count() or 1) * (1 - (idle - idle_before) / max(1, after - before))
+    """The day, the program's commit, the number of cores, and the load of the last minute."""
+    cores = len(os.sched_getaffinity(0))
+    return f"{datetime.date.today()}, commit {commit()}, {cores} cores with a load of {os.getloadavg()[0]:.1f}."
 
 
 def commit() -> str:
-    """The commit of the checkout that holds the program, or of this one."""
-    folders = (os.path.dirname(os.path.abspath(os.environ.get("PLANARBEND") or RESULTS)), ROOT)
-    found = (subprocess.run(["git", "-C", folder, "log", "-1", "--format=%h"], capture_output=True, text=True).stdout.strip()
-             for folder in folders)
-    return next(filter(None, found), "unknown")
+    """The commit of the checkout that holds the program, or else of this one."""
+    for folder in (os.path.dirname(os.path.abspath(os.environ.get("PLANARBEND") or RESULTS)), ROOT):
+        if found := ran(["git", "-C", folder, "log", "-1", "--format=%h"], None, text=True).stdout.strip():
+            return str(found)
+    return "unknown"
 
 
 def planarbend() -> str:
@@ -235,6 +224,11 @@ def name_of(path: str) -> str:
     return os.path.basename(path).removesuffix(".pc")
 
 
+def corpus_files() -> list[str]:
+    """The files of planar_code in crates/corpus/data."""
+    return sorted(glob.glob(os.path.join(DATA, "*.pc")))
+
+
 def records_of(path: str) -> list[bytes]:
     """The records of a file of planar_code."""
     with open(path, "rb") as source:
@@ -299,6 +293,20 @@ def run(words: Sequence[str], stderr: int | None = None) -> Run:
     return Run(seconds, used.ru_utime + used.ru_stime, peak or used.ru_maxrss * 1024, digest.hexdigest())
 
 
+def in_turn(ways: dict[Any, Any], rounds: int) -> dict[Any, list[Any]]:
+    """What each way returns, called in turn in each round. A command in place of a function stands for its run."""
+    found = [[way() if callable(way) else run(way) for way in ways.values()] for _ in range(rounds)]
+    return dict(zip(ways, map(list, zip(*found))))
+
+
+def limits(**which: int) -> Callable[[], None]:
+    """A function that sets limits by name, such as AS or NOFILE, in the process that becomes a program."""
+    def set_limits() -> None:
+        for name, most in which.items():
+            resource.setrlimit(getattr(resource, f"RLIMIT_{name}"), (most, most))
+    return set_limits
+
+
 def wait_for(holds: Callable[[], object], text: str, patience: float, pause: float = 0.1) -> None:
     """Waits until a condition holds."""
     end = time.monotonic() + patience
@@ -310,7 +318,7 @@ def wait_for(holds: Callable[[], object], text: str, patience: float, pause: flo
 def peak_of(process: int) -> int:
     """The most memory, in bytes, that a process has had so far; 0 once it has ended."""
     with contextlib.suppress(OSError):
-        if found := re.search(rb"^VmHWM: *\t*(\d+)", read(f"/proc/{process}/status"), re.M):
+        if found := re.search(rb"^VmHWM:\s*(\d+)", read(f"/proc/{process}/status"), re.M):
             return int(found[1]) * 1024
     return 0
 
@@ -325,11 +333,6 @@ def written(path: str, *words: str) -> str:
     with open(path, "wb") as out:
         subprocess.run([sys.executable, os.path.join(OUTSIDE, "generate.py"), *words], check=True, stdout=out)
     return path
-
-
-def repeated(folder: str, path: str, times: int) -> str:
-    """A file with the records of this one, this many times over."""
-    return write(os.path.join(folder, f"{times}_{os.path.basename(path)}"), records_of(path) * times)
 
 
 def files(folder: str, count: int) -> list[str]:
@@ -355,13 +358,20 @@ def enumerated(folder: str, orders: Iterable[int], is_needed: bool = False) -> l
     return paths
 
 
-def text_of(words: Sequence[str]) -> str:
+def ran(words: Iterable[object], status: int | None = 0, **how: Any) -> subprocess.CompletedProcess[Any]:
+    """A run of a program to its end, with what it wrote. It must end with this status, unless that is None."""
+    done = subprocess.run(list(map(str, words)), capture_output=True, **how)
+    assert status in (None, done.returncode), \
+        f"{' '.join(map(str, words))}: status {done.returncode}\n{done.stdout[-400:]!r}\n{done.stderr[-4000:]!r}"
+    return done
+
+
+def text_of(words: Iterable[object]) -> str:
     """The output of a program."""
-    return subprocess.run(words, check=True, stdout=subprocess.PIPE, stderr=subprocess.DEVNULL, text=True).stdout
+    return str(ran(words, text=True).stdout)
 
 
-def figures(words: Sequence[str], given: bytes = b"") -> dict[str, int]:
+def figures(words: Iterable[object]) -> dict[str, int]:
     """The numbers that a program prints in one line, by name."""
-    ran = subprocess.run(words, check=True, input=given, stdout=subprocess.PIPE, stderr=subprocess.DEVNULL)
-    pairs = (word.partition("=") for word in ran.stdout.decode().split())
+    pairs = (word.partition("=") for word in text_of(words).split())
     return {name: int(figure) for name, _, figure in pairs if figure}

@@ -11,8 +11,16 @@ _planarbend() {
     layout:*) if [[ $word == -* ]]; then words="--lanes --waiting --outer --drawing --json --progress -h --help"; fi ;;
     frames:*) if [[ $word == -* ]]; then words="-h --help"; fi ;;
     check:*) if [[ $word == -* ]]; then words="--json --faces -h --help"; fi ;;
-    help:*) words="layout frames check" ;;
-    *) words="layout frames check help --version -h --help" ;;
+    pick:--rule) words="none range loop multi asymmetric edgeless degree disconnected genus" ;;
+    pick:--outer) words="first best" ;;
+    pick:--bends | pick:--vertices | pick:--edges | pick:--faces | pick:--lanes | pick:--waiting) compopt +o default ;;
+    pick:*) if [[ $word == -* ]]; then words="--bends --rule --vertices --edges --faces --not --outer --lanes --waiting --progress -h --help"; fi ;;
+    count:--rule) words="none range loop multi asymmetric edgeless degree disconnected genus" ;;
+    count:--outer) words="first best" ;;
+    count:--bends | count:--vertices | count:--edges | count:--faces | count:--by | count:--lanes) compopt +o default ;;
+    count:*) if [[ $word == -* ]]; then words="--bends --rule --vertices --edges --faces --not --by --outer --lanes --progress -h --help"; fi ;;
+    help:*) words="layout frames check pick count" ;;
+    *) words="layout frames check pick count help --version -h --help" ;;
     esac
     mapfile -t COMPREPLY < <(compgen -W "$words" -- "$word")
 }

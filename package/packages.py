@@ -103,7 +103,8 @@ def outdated(record: Path, root: Path = ROOT) -> str:
 
 
 def commit_of(root: Path, is_trial: bool) -> str:
-    """Return the commit of a checkout; end if there is none, or if there are changes since and this is no trial."""
+    """Return the commit of a checkout; end if there is none, or if there are changes since and this is no trial. New files are
+    changes only where a package takes every file."""
     def git(*words: str) -> list[str]:
         """The lines that git prints."""
         try:
@@ -115,7 +116,7 @@ def commit_of(root: Path, is_trial: bool) -> str:
     commit, top = git("rev-parse", "HEAD", "--show-toplevel")
     if Path(top).resolve() != root:
         stop(f"the commit, which a package names, was not found: {root} is not a git checkout")
-    changed = git("status", "--porcelain")
+    changed = [line for line in git("status", "--porcelain") if not line.startswith("?? ") or line.startswith("?? python/")]
     if changed and not is_trial:
         stop(f"{changed[0][3:]} has changes since commit {commit[:12]}: commit them or undo them")
     return commit + " with changes" * bool(changed)

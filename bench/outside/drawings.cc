@@ -1,8 +1,8 @@
 // Points for orthogonal representations, by the compaction of OGDF (the Open Graph Drawing Framework).
-// Reads graphs from standard input, each as whole numbers and words with spaces between: how many vertices there are;
-// for each vertex its degree and its neighbours clockwise, counted from 1; a dart with the outer face on its left; for
-// each dart its angle and its turns, or `-` where it has none. What darts, angles and turns are says docs/JSON.md.
-// Prints two lines a graph, each the points of a drawing in the form that this page has for them: those of the
+// Reads graphs from standard input, each as whole numbers and words with spaces between: how many vertices and darts there are;
+// a dart with the outer face on its left; for each dart, in the order of docs/JSON.md, its tail, its reverse, its angle and its
+// turns, or `-` if it has none. All numbers begin with 0.
+// Prints two lines a graph, each the points of a drawing in the form that docs/JSON.md has for them: those of the
 // longest paths in the constraint graphs of the boxes, and those of the flow compaction that begins with these.
 #include <iostream>
 #include <map>
@@ -14,37 +14,22 @@
 #include <utility>
 #include <vector>
 
+struct Dart {
+  int tail = 0, reverse = 0, angle = 0;
+  std::string turns;
+};
+
 struct Shape {
-  std::vector<std::vector<int>> lists;  // by vertex, both from 0
-  std::vector<int> tail, reverse;       // by dart
-  int outer = 0;
-  std::vector<int> angles;
-  std::vector<std::string> turns;
+  int vertices = 0, outer = 0;
+  std::vector<Dart> darts;
 };
 
 // The next shape; false where the input ends.
 static bool next_shape(std::istream &in, Shape &shape) {
-  int vertices = 0;
-  if (!(in >> vertices)) return false;
-  shape = Shape();
-  shape.lists.resize(vertices);
-  std::map<std::pair<int, int>, int> number;
-  for (int v = 0; v < vertices; ++v) {
-    int degree = 0;
-    in >> degree;
-    for (int neighbour = 0; degree > 0 && in >> neighbour; --degree) {
-      number[{v, neighbour - 1}] = static_cast<int>(shape.tail.size());
-      shape.lists[v].push_back(neighbour - 1);
-      shape.tail.push_back(v);
-    }
-  }
-  const int darts = static_cast<int>(shape.tail.size());
-  shape.reverse.resize(darts);
-  for (const auto &[ends, dart] : number) shape.reverse[dart] = number.at({ends.second, ends.first});
-  shape.angles.resize(darts);
-  shape.turns.resize(darts);
-  in >> shape.outer;
-  for (int d = 0; d < darts; ++d) in >> shape.angles[d] >> shape.turns[d];
+  size_t darts = 0;
+  if (!(in >> shape.vertices >> darts >> shape.outer)) return false;
+  shape.darts.assign(darts, {});
+  for (Dart &dart : shape.darts) in >> dart.tail >> dart.reverse >> dart.angle >> dart.turns;
   if (!in) throw std::runtime_error("a shape is cut off");
   return true;
 }
@@ -57,20 +42,19 @@ struct Drawn {
   std::vector<ogdf::node> vertices;
   std::vector<ogdf::adjEntry> darts;
 
-  explicit Drawn(const Shape &shape) : plane(none), darts(shape.tail.size()) {
-    for (size_t v = 0; v < shape.lists.size(); ++v) vertices.push_back(plane.newNode());
+  explicit Drawn(const Shape &shape) : plane(none), darts(shape.darts.size()) {
+    for (int v = 0; v < shape.vertices; ++v) vertices.push_back(plane.newNode());
+    std::vector<ogdf::List<ogdf::adjEntry>> around(vertices.size());
     for (size_t d = 0; d < darts.size(); ++d) {
-      const size_t back = shape.reverse[d];
-      if (back < d) continue;
-      const ogdf::edge edge = plane.newEdge(vertices[shape.tail[d]], vertices[shape.tail[back]]);
-      darts[d] = edge->adjSource();
-      darts[back] = edge->adjTarget();
+      const size_t back = shape.darts[d].reverse, tail = shape.darts[d].tail;
+      if (d < back) {
+        const ogdf::edge edge = plane.newEdge(vertices[tail], vertices[shape.darts[back].tail]);
+        darts[d] = edge->adjSource();
+        darts[back] = edge->adjTarget();
+      }
+      around[tail].pushBack(darts[d]);
     }
-    for (size_t v = 0, dart = 0; v < vertices.size(); ++v) {
-      ogdf::List<ogdf::adjEntry> around;
-      for (size_t i = 0; i < shape.lists[v].size(); ++i) around.pushBack(darts[dart++]);
-      plane.sort(vertices[v], around);
-    }
+    for (size_t v = 0; v < vertices.size(); ++v) plane.sort(vertices[v], around[v]);
   }
 };
 
@@ -78,9 +62,9 @@ struct Drawn {
 // the face on the right; a bend `0` turns to the right.
 static void represent(const Shape &shape, const Drawn &drawn, ogdf::OrthoRep &rep) {
   for (size_t d = 0; d < drawn.darts.size(); ++d) {
-    rep.angle(drawn.darts[d]) = shape.angles[shape.reverse[d]];
+    rep.angle(drawn.darts[d]) = shape.darts[shape.darts[d].reverse].angle;
     std::string bends;
-    for (const char turn : shape.turns[d])
+    for (const char turn : shape.darts[d].turns)
       if (turn != '-') bends += turn == 'R' ? '0' : '1';
     rep.bend(drawn.darts[d]).set(bends.c_str());
   }
@@ -124,16 +108,16 @@ static void print_points(const Shape &shape, const Drawn &drawn, const ogdf::Gri
   };
   const auto corners = corners_of(drawn);
   std::string edges;
-  for (int v = 0; v < static_cast<int>(shape.lists.size()); ++v)
-    for (const int w : shape.lists[v])
-      if (w >= v) edges += (edges.empty() ? "" : ",") + listed(corners.at({v, w}));
+  for (const Dart &dart : shape.darts)
+    if (const int head = shape.darts[dart.reverse].tail; dart.tail < head)
+      edges += (edges.empty() ? "" : ",") + listed(corners.at({dart.tail, head}));
   std::cout << "{\"corners\":[" << edges << "],\"vertices\":" << listed(drawn.vertices) << "}\n";
 }
 
 static void draw(const Shape &shape) {
   Drawn drawn(shape);
   ogdf::CombinatorialEmbedding embedding(drawn.plane);
-  embedding.setExternalFace(embedding.rightFace(drawn.darts[shape.reverse[shape.outer]]));
+  embedding.setExternalFace(embedding.rightFace(drawn.darts[shape.darts[shape.outer].reverse]));
   ogdf::OrthoRep rep(embedding);
   represent(shape, drawn, rep);
   rep.normalize();

@@ -7,6 +7,9 @@
     grid      connected parts of a square grid
     tree      random trees
     nested    prisms round one another: cycles of as many vertices as there are cycles, joined one to the next
+    triangles the same with cycles of three vertices
+    chain     triangles, each with one vertex of the next
+    leaves    a cycle with a leaf at each vertex, all on one side
     mixed     one of the first three, of any size up to VERTICES, without a random share of the edges that are not
               needed to connect it
   generate.py KIND                        fixed graphs
@@ -22,11 +25,11 @@
     families  graphs whose fewest bends are known (crates/corpus/data/families.pc). Paths of 2 to 40 vertices, cycles of
               4 to 40 and of 255, stars of 2 to 4 leaves and grids of 2 to 6 by 2 to 6 vertices need no bend; a triangle
               needs 1, K4 and each prism over a cycle of 3 to 12 need 4, the octahedron, which is the antiprism over a
-              triangle, needs 12, and an antiprism over a cycle of k = 4 to 12 needs 2k + 4. --report prints instead the
-              report that `planarbend layout` must give for it.
+              triangle, needs 12, and an antiprism over a cycle of k = 4 to 12 needs 2k + 4.
 
 Needs Python's standard library alone, and takes a few milliseconds a graph of 250 vertices.
 """
+import cmath
 import math
 import os
 import random
@@ -36,7 +39,6 @@ from collections.abc import Callable, Iterator
 sys.path.insert(0, os.path.join(os.path.dirname(os.path.abspath(__file__)), "../../checks"))
 import programs
 from planarbend.layout.planar_code import HEADER, MOST_VERTICES, Lists, record_of, wide_record_of
-from planarbend.layout.reports import End, File, Graph
 
 MOST_DEGREE = 4
 TREE = [[2, 3, 4], [1, 5, 6], [1, 7, 8], [1, 9, 10], [2], [2], [3], [3], [4], [4]]
@@ -45,7 +47,7 @@ SIDES = 85
 
 Rotation = dict[int, list[int]]  # the neighbours of each vertex, clockwise, from 0
 Dart = tuple[int, int]
-Placed = tuple[list[tuple[float, float]], list[Dart]]  # the places of vertices, and edges
+Placed = tuple[list[complex], list[Dart]]  # the places of vertices, and edges
 
 
 def triangulation(corners: int, rng: random.Random) -> Rotation:
@@ -118,18 +120,33 @@ def tree(vertices: int, rng: random.Random) -> Rotation:
     return rotation
 
 
+def rings(cycles: int, sides: int) -> Rotation:
+    """Cycles round one another, the first of them inside, each joined to the next vertex by vertex."""
+    return {sides * cycle + at: [*([sides * (cycle + 1) + at] if cycle + 1 < cycles else []), sides * cycle + (at + 1) % sides,
+                                 *([sides * (cycle - 1) + at] if cycle else []), sides * cycle + (at - 1) % sides]
+            for cycle in range(cycles) for at in range(sides)}
+
+
 def nested(vertices: int, _: random.Random) -> Rotation:
-    """Prisms round one another: cycles of as many vertices as there are cycles, the first of them inside."""
+    """Rings of as many vertices as there are rings."""
     sides = max(3, math.isqrt(vertices))
-    cycles = max(1, vertices // sides)
-    rotation: Rotation = {}
-    for cycle in range(cycles):
-        first = cycle * sides
-        for at in range(sides):
-            outward = [first + sides + at] if cycle + 1 < cycles else []
-            inward = [first - sides + at] if cycle else []
-            rotation[first + at] = [*outward, first + (at + 1) % sides, *inward, first + (at - 1) % sides]
+    return rings(max(1, vertices // sides), sides)
+
+
+def chain(vertices: int, _: random.Random) -> Rotation:
+    """Triangles, each with one vertex of the next."""
+    rotation: Rotation = {at: [] for at in range(vertices - 1 + vertices % 2)}
+    for first in range(0, len(rotation) - 1, 2):
+        for at in range(3):
+            rotation[first + at] += [first + (at + 1) % 3, first + (at + 2) % 3]
     return rotation
+
+
+def with_leaves(sides: int, leaves: int) -> Rotation:
+    """A cycle, with the face on the left of the dart from 0 to 1 inside, and leaves outside at each vertex."""
+    rotation = {at: [(at + 1) % sides, *range(sides + at * leaves, sides + (at + 1) * leaves), (at - 1) % sides]
+                for at in range(sides)}
+    return rotation | {sides + leaf: [leaf // leaves] for leaf in range(sides * leaves)}
 
 
 def thinned(rotation: Rotation, rng: random.Random) -> Rotation:
@@ -159,7 +176,13 @@ def mixed(vertices: int, rng: random.Random) -> Rotation:
 RANDOM: dict[str, Callable[[int, random.Random], Rotation]] = {
     "cubic": lambda vertices, rng: dual(triangulation(vertices // 2 + 2, rng)),
     "medial": lambda vertices, rng: medial(triangulation(vertices // 3 + 2, rng)),
-    "grid": grid_part, "tree": tree, "nested": nested, "mixed": mixed}
+    "grid": grid_part, "tree": tree, "nested": nested, "mixed": mixed, "chain": chain,
+    "triangles": lambda vertices, _: rings(vertices // 3, 3), "leaves": lambda vertices, _: with_leaves(vertices // 2, 1)}
+
+
+def numbered(rotation: Rotation) -> Lists:
+    """The lists of neighbours, from 1, of the vertices in their order."""
+    return [[other + 1 for other in rotation[vertex]] for vertex in range(len(rotation))]
 
 
 def relabelled(rotation: Rotation, rng: random.Random) -> Lists:
@@ -204,10 +227,9 @@ def growing(lists: Lists) -> Iterator[Lists]:
                    for vertex, around in enumerate(lists[:last], 1)]
 
 
-def circle(count: int, radius: float, turn: float) -> list[tuple[float, float]]:
+def circle(count: int, radius: float, turn: float) -> list[complex]:
     """Places on a circle."""
-    return [(radius * math.cos(2 * math.pi * (i + turn) / count), radius * math.sin(2 * math.pi * (i + turn) / count))
-            for i in range(count)]
+    return [cmath.rect(radius, 2 * math.pi * (i + turn) / count) for i in range(count)]
 
 
 def ring(first: int, count: int) -> list[Dart]:
@@ -220,13 +242,13 @@ def cycle(n: int) -> Placed:
 
 
 def star(leaves: int) -> Placed:
-    return [(0, 0)] + circle(leaves, 1, 0), [(0, i + 1) for i in range(leaves)]
+    return [0, *circle(leaves, 1, 0)], [(0, i + 1) for i in range(leaves)]
 
 
 def grid(a: int, b: int) -> Placed:
     edges = [(x * b + y, x * b + y + 1) for x in range(a) for y in range(b - 1)]
     edges += [(x * b + y, x * b + y + b) for x in range(a - 1) for y in range(b)]
-    return [(x, y) for x in range(a) for y in range(b)], edges
+    return [complex(x, y) for x in range(a) for y in range(b)], edges
 
 
 def prism(k: int) -> Placed:
@@ -250,27 +272,18 @@ def families() -> list[tuple[Placed, int]]:
 def drawn(graph: Placed) -> Lists:
     """The lists of neighbours, from 1, clockwise by where they lie."""
     places, edges = graph
-    around: Lists = [[] for _ in places]
+    around: Rotation = {vertex: [] for vertex in range(len(places))}
     for v, w in edges:
         around[v].append(w)
         around[w].append(v)
-    for (x, y), others in zip(places, around):
-        others.sort(key=lambda w: -math.atan2(places[w][1] - y, places[w][0] - x))
-    return [[w + 1 for w in others] for others in around]
+    for vertex, place in enumerate(places):
+        around[vertex].sort(key=lambda w: -cmath.phase(places[w] - place))
+    return numbered(around)
 
 
 def form_of(lists: Lists) -> bytes:
     """The record with these neighbour lists: of more than 255 vertices in the two-byte form, after a byte 0."""
     return record_of(lists) if len(lists) <= MOST_VERTICES else b"\0" + wide_record_of(lists).tobytes()
-
-
-def report() -> Iterator[object]:
-    """The lines of the report on the families."""
-    graphs = families()
-    yield File(1)
-    for number, ((places, edges), bends) in enumerate(graphs, 1):
-        yield Graph(number, (len(places), len(edges), len(edges) - len(places) + 2), bends, "yes")
-    yield End("complete", len(graphs))
 
 
 FIXED: dict[str, Callable[[], Iterator[Lists]]] = {
@@ -282,14 +295,10 @@ FIXED: dict[str, Callable[[], Iterator[Lists]]] = {
 def main() -> None:
     parser = programs.parser_of(
         __doc__, ("kind", {"metavar": "KIND", "choices": [*RANDOM, *FIXED], "help": ", ".join([*RANDOM, *FIXED])}),
-        ("numbers", {"metavar": "NUMBER", "type": int, "nargs": "*", "help": "of random graphs: VERTICES COUNT SEED"}),
-        ("--report", {"action": "store_true", "help": "of families: print the report instead"}))
+        ("numbers", {"metavar": "NUMBER", "type": int, "nargs": "*", "help": "of random graphs: VERTICES COUNT SEED"}))
     told = parser.parse_args()
     if len(told.numbers) != (3 if told.kind in RANDOM else 0):
         parser.error("VERTICES, COUNT and SEED go with random graphs")
-    if told.report:
-        print(*report(), sep="\n")
-        return
     graphs = random_graphs(told.kind, *told.numbers) if told.kind in RANDOM else FIXED[told.kind]()
     sys.stdout.buffer.write(HEADER)
     sys.stdout.buffer.writelines(map(form_of, graphs))

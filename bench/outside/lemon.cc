@@ -1,21 +1,14 @@
-// Answers of an outside program, to compare with, by its first argument. FILE is planar_code; `bends`, `best` and
-// `planes` print the lines of the report up to the bends, by LEMON's network simplex, and totals at last, which stand
-// alone after the word `quiet`.
+// Answers of an outside program, to compare with, by its first argument. FILE is planar_code. `bends` and `best` print
+// the lines of the report up to the bends, by LEMON's network simplex, and totals after each file.
 //
-//   bends FILE    the fewest bends of each graph
-//   best FILE     the fewest bends with whichever face as the outer one
-//   planes FILE   rules and faces alone
-//   many FILES    the fewest bends of the graphs of files, one after another in one process
+//   bends FILES   the fewest bends of each graph
+//   best FILES    the fewest bends with whichever face as the outer one
 //   times FILE N  a line: the nanoseconds of building and solving the networks of all graphs, each the least of N times
 //   turning FILE  a line: how many vertices have degree 2, and how few of them turn in shapes with the fewest bends
-//   costs         the least costs of random networks, `-` if there is no flow (crates/flow_tests/src/flows.rt)
-//   keep FILE     the lines of `planarbend frames`, once all records are gathered, each in a buffer of its own
-//   stream FILE   the same lines, and no record is kept
+//   frames FILE   the lines of `planarbend frames` for a file without faults
 #include "planar.hpp"
 #include <chrono>
 #include <cstdlib>
-#include <cstring>
-#include <iostream>
 
 // The fewest bends with whichever face as the outer one.
 static long best_bends(Graph graph) {
@@ -68,159 +61,52 @@ static int print_turning(const std::string &text) {
   return std::printf("graphs=%ld bends=%ld two=%ld turning=%ld\n", graphs, bends, two, turning) < 0;
 }
 
-// How far the graphs of each file are taken, and whether totals stand alone.
-struct Report {
-  bool planes = false, best = false, quiet = false;
-};
-
-static void print_report(const std::string &text, Report report) {
+static void print_report(const std::string &text, const std::string &mode) {
   size_t at = 15;
   Graph graph;
-  long number = 0, accepted = 0, all_faces = 0, all_bends = 0;
+  long number = 0, accepted = 0, all_bends = 0;
   for (; next_record(text, at, graph); ++number) {
     const char *rule = broken_rule(graph);
-    if (rule && !report.quiet) std::printf("graph %ld refused %s\n", number + 1, rule);
-    if (rule) continue;
-    const int faces = static_cast<int>(graph.degree.size());
-    const long bends = report.planes ? 0 : report.best ? best_bends(graph) : fewest_bends(graph);
+    if (rule) {
+      std::printf("graph %ld refused %s\n", number + 1, rule);
+      continue;
+    }
+    const long bends = mode == "best" ? best_bends(graph) : fewest_bends(graph);
     ++accepted;
-    all_faces += faces;
     all_bends += bends;
-    if (!report.quiet)
-      std::printf("graph %ld ok n=%d m=%d f=%d bends=%ld\n", number + 1, graph.vertices, graph.darts() / 2, faces, bends);
+    std::printf("graph %ld ok n=%d m=%d f=%zu bends=%ld\n", number + 1, graph.vertices, graph.darts() / 2, graph.degree.size(),
+                bends);
   }
-  std::printf("graphs %ld accepted %ld faces %ld bends %ld\n", number, accepted, all_faces, all_bends);
-}
-
-// ---- Random networks, as crates/flow_tests/src/flows.rt makes them.
-
-struct Random {
-  uint64_t state;
-  int below(int count) {
-    state = state * 6364136223846793005u + 1442695040888963407u;
-    return static_cast<int>((state >> 33) % static_cast<uint64_t>(count));
-  }
-};
-
-static std::string next_cost(Random &random) {
-  using Net = lemon::SmartDigraph;
-  const int nodes = 2 + random.below(7);
-  Net net;
-  for (int v = 0; v < nodes; ++v) net.addNode();
-  Net::NodeMap<long> supply(net, 0);
-  Net::ArcMap<long> upper(net), cost(net);
-  for (int pairs = 1 + random.below(5); pairs > 0; --pairs) {
-    const int units = 1 + random.below(3);
-    supply[net.nodeFromId(random.below(nodes))] += units;
-    supply[net.nodeFromId(random.below(nodes))] -= units;
-  }
-  if (random.below(16) == 0) supply[net.nodeFromId(0)] += 1;
-  for (int arcs = 2 * nodes + random.below(3 * nodes); arcs > 0; --arcs) {
-    const int from = random.below(nodes), to = random.below(nodes), limit = random.below(9);
-    const auto arc = net.addArc(net.nodeFromId(from), net.nodeFromId(to));
-    upper[arc] = limit < 6 ? limit : 1 << 20;
-    cost[arc] = std::min(1, random.below(4));
-  }
-  long sum = 0;
-  for (int v = 0; v < nodes; ++v) sum += supply[net.nodeFromId(v)];
-  lemon::NetworkSimplex<Net, long, long> simplex(net);
-  simplex.upperMap(upper).costMap(cost).supplyMap(supply);
-  if (sum != 0 || simplex.run() != simplex.OPTIMAL) return "-";
-  return std::to_string(simplex.totalCost<long>());
-}
-
-static int print_costs() {
-  Random random{20261122};
-  for (int network = 0; network < 1000; ++network) std::cout << next_cost(random) << "\n";
-  return 0;
+  std::printf("graphs %ld accepted %ld bends %ld\n", number, accepted, all_bends);
 }
 
 // ---- Records.
 
-constexpr char kHeader[] = ">>planar_code<<";
-constexpr size_t kHeaderSize = 15;
-constexpr size_t kPiece = 65536;
-constexpr size_t kMostRecords = 1000000;
+// The place after the record that begins here; 0 if none is whole.
+static size_t end_of_record(const std::string &text, size_t place) {
+  if (place == text.size()) return 0;
+  for (int left = static_cast<unsigned char>(text[place++]); left > 0; --left) {
+    const size_t zero = text.find('\0', place);
+    if (zero == std::string::npos) return 0;
+    place = zero + 1;
+  }
+  return place;
+}
 
-struct Splitter {
-  bool keep = false;
-  size_t header_done = 0;
-  std::vector<unsigned char> open;            // bytes of the open record
-  unsigned left = 0, entries = 0;             // lists to come, entries of the open list
-  size_t records = 0;
-  std::vector<std::vector<unsigned char>> kept;
-  std::string out;
-
-  void line(const std::vector<unsigned char> &record, size_t number) {
-    char text[96];
-    out.append(text, snprintf(text, sizeof text, "record %zu n=%u bytes=%zu\n", number, record[0], record.size()));
-    if (out.size() > kPiece) flush();
-  }
-  void flush() {
-    fwrite(out.data(), 1, out.size(), stdout);
-    out.clear();
-  }
-  // Takes a byte of a record; the word of a fault, or null.
-  const char *add(unsigned char byte) {
-    if (open.empty()) {
-      if (records == kMostRecords) return "many";
-      if (byte == 0) return "large";
-      left = byte;
-    } else if (byte != 0 && ++entries > 254) {
-      return "oversize";
-    }
-    const bool ends_list = byte == 0;
-    open.push_back(byte);
-    if (ends_list) entries = 0;
-    if (ends_list && --left == 0) {
-      ++records;
-      if (keep) kept.emplace_back(open);
-      else line(open, records);
-      open.clear();
-    }
-    return nullptr;
-  }
-  // Takes one piece; the word of a fault, or null.
-  const char *feed(const unsigned char *piece, size_t size) {
-    const char *fault = nullptr;
-    for (size_t i = 0; i < size && !fault; ++i)
-      if (header_done == kHeaderSize) fault = add(piece[i]);
-      else if (piece[i] != static_cast<unsigned char>(kHeader[header_done++])) fault = "header";
-    return fault;
-  }
-};
-
-static int print_frames(const char *name, bool keep) {
-  Splitter splitter;
-  splitter.keep = keep;
-  FILE *file = fopen(name, "rb");
-  const char *end = file ? nullptr : "io";
-  static unsigned char piece[kPiece];
-  while (!end) {
-    const size_t size = fread(piece, 1, sizeof piece, file);
-    end = size > 0                               ? splitter.feed(piece, size)
-          : ferror(file)                         ? "io"
-          : splitter.header_done < kHeaderSize   ? "header"
-          : splitter.open.empty()                ? "complete"
-                                                 : "truncated";
-  }
-  size_t number = 0;
-  for (const auto &record : splitter.kept) splitter.line(record, ++number);
-  splitter.flush();
-  printf("end %s records=%zu\n", end, splitter.records);
-  return strcmp(end, "complete") == 0 ? 0 : 3;
+static int print_frames(const std::string &text) {
+  size_t place = 15, number = 0;
+  for (size_t end; (end = end_of_record(text, place)) != 0; place = end)
+    std::printf("record %zu n=%d bytes=%zu\n", ++number, static_cast<unsigned char>(text[place]), end - place);
+  return std::printf("end complete records=%zu\n", number) < 0;
 }
 
 int main(int count, char **words) {
   const std::string mode = count > 1 ? words[1] : "";
-  if (mode == "costs") return print_costs();
   if (count < 3) return 2;
-  if (mode == "keep" || mode == "stream") return print_frames(words[2], mode == "keep");
+  if (mode == "frames") return print_frames(bytes_of(words[2]));
   if (mode == "turning") return print_turning(bytes_of(words[2]));
   if (mode == "times" && count > 3) return print_times(bytes_of(words[2]), std::atoi(words[3]));
-  const bool many = mode == "many", quiet = !many && count > 3 && std::strcmp(words[3], "quiet") == 0;
-  if (!many && mode != "bends" && mode != "best" && mode != "planes") return 2;
-  for (int file = 2; file < (many ? count : 3); ++file)
-    print_report(bytes_of(words[file]), {mode == "planes", mode == "best", quiet});
+  if (mode != "bends" && mode != "best") return 2;
+  for (int file = 2; file < count; ++file) print_report(bytes_of(words[file]), mode);
   return 0;
 }

@@ -8,9 +8,9 @@ import time
 from typing import Any
 
 from machine import (
-    AS_NOBODY, broken_pipe, closing, FULL, full_disk, HEADER, limits, LONE, Machine, Ran, TRIANGLE, TWICE, TWO, WRITE)
+    AS_NOBODY, broken_pipe, closing, FULL, full_disk, HEADER, LONE, Machine, Ran, TRIANGLE, TWICE, TWO, WRITE)
 from outputs import ends_by
-from programs import ROOT, read
+from programs import ROOT, limits, read
 
 
 # ---- Arguments of the command line: wrong ones, help, and the version.

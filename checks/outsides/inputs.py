@@ -33,6 +33,7 @@ def check_files(machine: Machine) -> None:
     address, zeros = machine.path(), machine.file(HEADER + EDGE + b"\0" + EDGE)
     spaced = machine.file(TWO, os.path.join(machine.folder, " a name\nwith\tspaces and lines "))
     unicode = machine.file(TWO, os.path.join(machine.folder, "größe-图").encode())
+    long = machine.file(TWO, os.path.join(machine.folder, "n" * 255))
     no_utf8 = machine.file(TWO, os.path.join(machine.folder.encode(), b"\xff\xfe"))
     files: list[tuple[str, Any, File]] = [
         ("a socket", address, IO), ("/dev/null", "/dev/null", EMPTY), ("/dev/zero", "/dev/zero", EMPTY),
@@ -40,6 +41,7 @@ def check_files(machine: Machine) -> None:
         ("a byte 0 for a record", zeros, File([EDGE], "large")),
         ("a list of 255", machine.file(HEADER + EDGE + b"\1" + 255 * b"\1"), File([EDGE], "oversize")),
         ("a name with spaces and lines", spaced, split(TWO)), ("a name in UTF-8", unicode, split(TWO)),
+        ("a name of 255 bytes", long, split(TWO)),
         *((f"two.pc cut after byte {length}", machine.file(TWO[:length]), split(TWO[:length])) for length in range(len(TWO)))]
     with socket.socket(socket.AF_UNIX) as listening:
         listening.bind(address)
@@ -73,7 +75,7 @@ GRAPHS = 45_000  # whose report leaves in more than 100 writes
 
 
 def check_pieces(machine: Machine) -> None:
-    """A long file, a pipe that delivers pieces of all sizes, and files with names of each length."""
+    """A long file, and a pipe that delivers pieces of all sizes."""
     text, records = bulky_text(270)
     machine.whole(FRAMES, "a file of 17 MB", [machine.file(text)], [File(records)])
     with machine.case(FRAMES, "a pipe of 1.3 MB in pieces"):
@@ -83,9 +85,6 @@ def check_pieces(machine: Machine) -> None:
     edges = machine.file(HEADER + EDGE * GRAPHS)
     for command in (LAYOUT, LAYOUT_JSON):
         machine.whole(command, f"{GRAPHS} graphs", [edges], [File([EDGE] * GRAPHS)])
-    for command in (FRAMES, LAYOUT):
-        with machine.case(command, "names of 1 to 255 bytes"):
-            names_of_each_length(machine, command)
 
 
 def bulky_text(count: int) -> tuple[bytes, list[bytes]]:
@@ -109,15 +108,6 @@ def in_pieces(machine: Machine, command: Command, text: bytes, records: list[byt
         is_whole(command, machine.ended(child), [File(records)])
 
 
-def names_of_each_length(machine: Machine, command: Command) -> None:
-    """Files with names of 1 to 255 bytes, each with as many records as its name has bytes."""
-    for length in range(1, 256):
-        name = "n" * length
-        path = machine.file(HEADER + EDGE * length, os.path.join(machine.folder, name))
-        is_whole(command, machine.ran([*command.words, os.path.join("..", name)]), [File([EDGE] * length)])
-        os.remove(path)
-
-
 # ---- Pipes, slow files and standard input, by its path and by its name `-`.
 
 PAUSE = 0.003  # seconds between two bytes of a slow file
@@ -127,11 +117,8 @@ def check_streams(machine: Machine) -> None:
     """Standard input by its path, pipes and slow files."""
     two = split(TWO)
     for command in COMMANDS:
-        machine.whole(command, "/dev/stdin, a pipe", ["/dev/stdin"], [two], given=TWO)
-        machine.whole(command, "/dev/stdin, an empty pipe", ["/dev/stdin"], [EMPTY], given=b"")
         with open(machine.two, "rb") as file:
             machine.whole(command, "/dev/stdin, a file", ["/dev/stdin"], [two], stdin=file)
-        machine.whole(command, "/dev/stdin, closed", ["/dev/stdin"], [IO], **closing(0))
         machine.whole(command, "a closed standard input", [machine.two], [two], **closing(0))
         named_pipes(machine, command)
     with machine.case(FRAMES, "a pipe that never ends"):
@@ -196,28 +183,21 @@ def check_input(machine: Machine) -> None:
 
 
 def input_is_a_pipe(machine: Machine, command: Command) -> None:
-    """Standard input that is a pipe, is empty or is closed; and a file that has its name."""
-    two, cut = split(TWO), TWO[:-3]
-    machine.whole(command, "- is a pipe", ["-"], [two], given=TWO)
-    machine.whole(command, "- behind --", ["--", "-"], [two], given=TWO)
-    machine.whole(command, "- is a pipe, cut in a record", ["-"], [split(cut)], given=cut)
-    machine.whole(command, "- is an empty pipe", ["-"], [EMPTY], given=b"")
+    """Standard input that is a pipe or is empty; and a file that has its name."""
+    for name in ("-", "/dev/stdin"):
+        for text in (TWO, TWO[:-3], b""):
+            machine.whole(command, f"{name} is a pipe of {len(text)} bytes", [name], [split(text)], given=text)
+    machine.whole(command, "- behind --", ["--", "-"], [split(TWO)], given=TWO)
     machine.whole(command, "- is /dev/null", ["-"], [EMPTY])
-    machine.whole(command, "- is closed", ["-"], [IO], **closing(0))
     machine.whole(command, "a file of the name -", ["../-"], [File([LONE])], given=TWO)
 
 
 def input_is_a_file(machine: Machine, command: Command, before: str) -> None:
-    """Standard input that is a file, one of which four bytes were read before, one that cannot be read, or a folder."""
-    with open(before, "rb", buffering=0) as file:
-        file.seek(4)
-        machine.whole(command, "- is a file, read before", ["-"], [split(TWO)], stdin=file)
-    for name, path, how, found in (("a file", machine.two, os.O_RDONLY, split(TWO)),
-                                   ("a directory", machine.room, os.O_RDONLY, IO),
-                                   ("open for writing only", os.devnull, os.O_WRONLY, IO)):
-        given = os.open(path, how)
-        machine.whole(command, f"- is {name}", ["-"], [found], stdin=given)
-        os.close(given)
+    """Standard input that is a file, or one of which four bytes were read before."""
+    for name, path, place in (("a file", machine.two, 0), ("a file, read before", before, 4)):
+        with open(path, "rb", buffering=0) as file:
+            file.seek(place)
+            machine.whole(command, f"- is {name}", ["-"], [split(TWO)], stdin=file)
 
 
 def beside_closed_input(machine: Machine, command: Command) -> Ran:
@@ -293,8 +273,11 @@ def check_reasons(machine: Machine) -> None:
             tells(machine, command, name, path, file, reason, **(AS_NOBODY if reason == "Permission denied" else {}))
         tells(machine, command, "- is closed", "-", IO, CLOSED, **closing(0))
         tells(machine, command, "/dev/stdin, closed", "/dev/stdin", IO, FOLDER, **closing(0))
-        with open("/dev/null", "wb") as null:
-            tells(machine, command, "- is open for writing only", "-", IO, CLOSED, stdin=null)
+        for name, path, how, reason in (("open for writing only", os.devnull, os.O_WRONLY, CLOSED),
+                                        ("a folder", machine.room, os.O_RDONLY, FOLDER)):
+            given = os.open(path, how)
+            tells(machine, command, f"- is {name}", "-", IO, reason, stdin=given)
+            os.close(given)
         master, terminal = pty.openpty()
         with os.fdopen(master, "rb", buffering=0) as given:  # reads of it fail after this text
             tty.setraw(terminal)

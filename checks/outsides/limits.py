@@ -1,5 +1,6 @@
 """Limits on open files, threads and address space."""
 import bisect
+import contextlib
 import ctypes
 import os
 import re
@@ -11,11 +12,11 @@ from typing import NamedTuple
 
 from machine import (
     are_same, AS_NOBODY, both_ends, Command, COMMANDS, expected_lines, File, IO, is_beginning, is_fault, IS_ROOT,
-    is_whole, LAYOUT, LAYOUT_JSON, LAYOUTS, limits, lines_of, Machine, NOBODY, Ran, split, TRIANGLE, TWO, wait_for,
+    is_whole, LAYOUT, LAYOUT_JSON, LAYOUTS, lines_of, Machine, NOBODY, Ran, split, TRIANGLE, TWO, wait_for,
     waiting_bytes)
 import programs
 from planarbend.layout.planar_code import HEADER
-from programs import LOST, MEMORY, THREAD
+from programs import LOST, MEMORY, THREAD, limits
 
 
 # ---- Limits on open files: a file that cannot be opened is `io`.
@@ -44,17 +45,17 @@ def check_open_files(machine: Machine) -> None:
                 is_whole(command, machine.ended(child), [split(TWO), IO])
 
 
-# ---- Limits on threads: besides its first thread, a run has four threads for each lane, and `frames` one.
+# ---- Limits on threads: besides its first thread, a run has four threads for each lane, and `frames` none.
 
 def check_threads(machine: Machine) -> None:
     """If a thread cannot be started, the error says so; a lane may end before the next one starts."""
     alone = IS_ROOT and not is_in_use(NOBODY)
     for command in COMMANDS:
-        enough = 2 if command.frames else 1 + 4 * command.lanes
+        enough = 1 if command.frames else 1 + 4 * command.lanes
         for most in range(1, enough + 2):
             with machine.case(command, f"ulimit -u {most} as {'nobody' if IS_ROOT else 'this user'}"):
                 ran = machine.ran([*command.words, machine.two], preexec_fn=limits(NPROC=most), **AS_NOBODY)
-                if ran.status == 0 and most > 1 or most >= enough and alone:
+                if ran.status == 0 and most >= min(enough, 2) or most >= enough and alone:
                     is_whole(command, ran, [split(TWO)])
                 else:
                     is_fault(ran, 1, THREAD)
@@ -62,8 +63,9 @@ def check_threads(machine: Machine) -> None:
 
 def is_in_use(user: int) -> bool:
     """Whether a process of this user runs."""
-    words = ["find", "/proc", "-maxdepth", "1", "-user", str(user)]  # which fails if a process ends at the same time
-    return bool(subprocess.run(words, stdout=subprocess.PIPE, stderr=subprocess.DEVNULL).stdout)
+    with contextlib.suppress(OSError):  # if a process ends at the same time
+        return any(entry.name.isdecimal() and entry.stat().st_uid == user for entry in os.scandir("/proc"))
+    return True
 
 
 # ---- Limits on address space, in steps from too little to enough.
@@ -92,7 +94,7 @@ def check_memory(machine: Machine) -> None:
     few, many = File([TRIANGLE] * 1000), File([TRIANGLE] * 4000)
     thousand, thousands = (machine.file(HEADER + b"".join(file.records)) for file in (few, many))
     for command in COMMANDS:
-        stacks = least + 8192 * (1 if command.frames else 4 * command.lanes)
+        stacks = least + 8192 * (0 if command.frames else 4 * command.lanes)
         above = [stacks + step for step in (0, 512, 1024, 2048, 4096, 8192, 16_384, 65_536, 262_144, 4 << 20)]
         climb(machine, Climb(command, "2 graphs", machine.two, split(TWO), steps, {}))
         climb(machine, Climb(command, "1000 graphs", thousand, few, above, {}))
@@ -109,40 +111,26 @@ def loaded_from(machine: Machine) -> int:
 
 def climb(machine: Machine, runs: Climb) -> None:
     """Runs with more address space from step to step: each ends with a defined answer, the last with the whole report,
-    and an error says what was missing. Prints the step from which on all succeeded."""
+    and an error says what was missing. If the system refuses a page for the stack, there is no answer. Prints the step from
+    which on all succeeded."""
     answers: dict[int, Ran] = {}
-    with machine.case(runs.command, f"ulimit -v, {runs.name}"):
-        each_ends_by_name(machine, runs, answers)
-        is_whole(runs.command, answers[max(answers)], [runs.file])
-    with machine.case(runs.command, f"ulimit -v, {runs.name}: the error says what was missing"):
-        lost = [step for step, ran in answers.items() if ran.err == LOST]
-        assert not lost, f"at {len(lost)} of {len(answers)} steps, from {lost[0]} to {lost[-1]} kB, {LOST!r}"
-    served = [step for step, ran in answers.items() if ran.status == 0]
-    refused = max((step for step, ran in answers.items() if ran.status != 0), default=0)
-    print(f"{runs.command}, {runs.name}: {min(served, default=None)} kB of address space sufficed, and each step from "
-          f"{min((step for step in served if step > refused), default=None)} kB on", flush=True)
-
-
-def each_ends_by_name(machine: Machine, runs: Climb, answers: dict[int, Ran]) -> None:
-    """Fills in how the run ends at each step. If the system refuses a page for the stack, there is no answer."""
-    wrong: list[str] = []
     for step in runs.steps:
-        ran = machine.ran([*runs.command.words, runs.path], environment=runs.environment, preexec_fn=limits(AS=step << 10))
-        answers[step] = ran
-        if ran.status == -signal.SIGSEGV and lacks_stack(machine, runs, step):
-            print(f"{runs.command}, {runs.name}: {step} kB of address space: the stack may not grow", flush=True)
-            continue
-        try:
-            wants_memory(runs.command, ran, [runs.file])
-        except (AssertionError, ValueError) as reason:
-            wrong.append(f"{step} kB: {reason}")
-    assert not wrong, f"{len(wrong)} of {len(answers)} steps, first {wrong[0]}"
+        with machine.case(runs.command, f"ulimit -v {step}, {runs.name}"):
+            answers[step] = ran = machine.ran([*runs.command.words, runs.path], environment=runs.environment,
+                                              preexec_fn=limits(AS=step << 10))
+            assert ran.err != LOST, LOST
+            if ran.status != -signal.SIGSEGV or not lacks_stack(machine, runs, step):
+                wants_memory(runs.command, ran, [runs.file])
+    with machine.case(runs.command, f"ulimit -v, {runs.name}"):
+        is_whole(runs.command, answers[max(answers)], [runs.file])
+    refused = max((step for step, ran in answers.items() if ran.status != 0), default=0)
+    print(f"{runs.command}, {runs.name}: enough address space: {min(filter(refused.__lt__, answers), default=None)} kB", flush=True)
 
 
 def wants_memory(command: Command, ran: Ran, files: list[File]) -> None:
-    """A whole report, or one in which graphs or ends of files are `memory`; or a fault of memory, threads or lanes with
-    a beginning of such a report."""
-    if ran.status == 1 and ran.err in (MEMORY, THREAD, LOST):
+    """A whole report, or one in which graphs or ends of files are `memory`; or a fault of memory or threads with a beginning
+    of such a report."""
+    if ran.status == 1 and ran.err in (MEMORY, THREAD):
         is_beginning(command, ran.out, files, scarce=True)
         return
     lines, rest = lines_of(command, ran.out)

@@ -3,15 +3,15 @@ end, the use of Linux, and the folder in which the program runs."""
 import array
 import contextlib
 import fcntl
+import functools
 import json
 import os
 import re
-import resource
 import shutil
 import subprocess
 import termios
 import time
-from collections.abc import Callable, Iterable, Iterator
+from collections.abc import Iterable, Iterator
 from typing import Any, NamedTuple
 
 import harness
@@ -102,16 +102,10 @@ def lines_of(command: Command, text: bytes) -> tuple[list[str], str]:
 
 
 def line_of_json(text: str) -> str:
-    """The content of a JSON line. It is compact, with the keys of docs/JSON.md in order; the lists of a graph have as many
-    members as docs/JSON.md says, and the turns are the bends."""
+    """The content of a JSON line. It is compact, with the keys of docs/JSON.md in order, and the turns are the bends."""
     line = reports.json_line(text)
     assert json.dumps(line, sort_keys=True, separators=(",", ":")) == text, f"not compact or in order: {text[:80]}"
-    if line.get("status") == "ok":
-        n, m, f, turns = line["n"], line["m"], line["f"], line["turns"]
-        lists = [line["angles"], turns, *(line[key][part] for key, parts in (
-            ("prices", ("faces", "vertices")), ("points", ("vertices", "corners"))) for part in parts)]
-        assert list(map(len, lists)) == [2 * m, 2 * m, f, n, n, m], f"lists of other lengths: {line}"
-        assert len("".join(turns)) == 2 * line["bends"], f"other bends than turns: {line}"
+    assert len("".join(line.get("turns", ""))) == 2 * line.get("bends", 0), f"other bends than turns: {line}"
     return f"{line['file']}: {reports.of_json(line)}"
 
 
@@ -168,17 +162,10 @@ def is_fault(ran: Ran, status: int, text: str | None) -> None:
 # that take nothing, and what is seen of a process while it runs.
 
 PATIENCE = 20  # seconds that one run may take
+wait_for = functools.partial(programs.wait_for, patience=PATIENCE, pause=0.001)  # until a condition holds
 NOBODY = 65534
 IS_ROOT = os.geteuid() == 0
 AS_NOBODY: dict[str, Any] = {"user": NOBODY, "group": NOBODY, "extra_groups": []} if IS_ROOT else {}
-
-
-def limits(**which: int) -> Callable[[], None]:
-    """A function that sets limits by name, such as AS or NOFILE, in the process that becomes the program."""
-    def set_limits() -> None:
-        for name, most in which.items():
-            resource.setrlimit(getattr(resource, f"RLIMIT_{name}"), (most, most))
-    return set_limits
 
 
 def closing(*descriptors: int) -> dict[str, Any]:
@@ -201,11 +188,6 @@ def full_disk() -> Any:
 def both_ends(fifo: str) -> Any:
     """The writing end of a FIFO, which is also open for reading."""
     return open(fifo, "r+b", buffering=0)
-
-
-def wait_for(holds: Callable[[], object], text: str) -> None:
-    """Waits until a condition holds."""
-    programs.wait_for(holds, text, PATIENCE, 0.001)
 
 
 def waiting_bytes(pipe: int) -> int:

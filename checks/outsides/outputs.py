@@ -16,14 +16,15 @@ from typing import Any
 import programs
 from machine import (
     both_ends, broken_pipe, closing, Command, COMMANDS, EDGE, expected_lines, File, FRAMES, FULL, full_disk, IO,
-    is_beginning, is_whole, LAYOUT, LAYOUTS, limits, lines_of, LONG, Machine, MANY, PATIENCE, place_in, Ran, split,
+    is_beginning, is_whole, LAYOUT, LAYOUTS, lines_of, LONG, Machine, MANY, PATIENCE, place_in, Ran, split,
     TRIANGLE, TWO, wait_for, waiting_bytes, WRITE)
 from planarbend.layout.planar_code import HEADER
+from programs import limits
 
 
 # ---- Standard output and standard error that are closed or full.
 
-IGNORED = {"preexec_fn": lambda: signal.signal(signal.SIGPIPE, signal.SIG_IGN)}
+IGNORED = {"restore_signals": False}  # Python ignores SIGPIPE and SIGXFSZ, and so does then the program
 
 
 def check_outputs(machine: Machine) -> None:
@@ -80,11 +81,8 @@ def nobody_reads(machine: Machine, command: Command, long: str) -> None:
 
 def to_a_short_file(machine: Machine, words: list[Any]) -> Ran:
     """A run that writes to a file limited to 16 bytes."""
-    def prepare() -> None:
-        signal.signal(signal.SIGXFSZ, signal.SIG_IGN)
-        limits(FSIZE=16)()
     with open(machine.path(), "w+b") as file:
-        ran = machine.ran(words, stdout=file, preexec_fn=prepare)
+        ran = machine.ran(words, stdout=file, preexec_fn=limits(FSIZE=16), **IGNORED)
         file.seek(0)
         return ran._replace(out=file.read())
 
@@ -128,7 +126,7 @@ def check_signals(machine: Machine) -> None:
                 with machine.started([*command.words, path]) as child:
                     writer.write(TWO + EDGE[:2])
                     wait_for(lambda: not waiting_bytes(writer.fileno()), "a read")
-                    ends_by(machine, child, which)
+                    ends_by(machine, child, which, writes=command.frames)  # which prints as records come
             with machine.case(command, f"{which.name} while it writes"):
                 with machine.started([*command.words, long]) as child:
                     wait_for(lambda: waiting_bytes(child.stdout.fileno()) > FULL_PIPE, "a full pipe")
@@ -364,7 +362,6 @@ def changes_nothing_else(machine: Machine, command: Command) -> None:
         with machine.case(command, "standard output full"):
             ran = machine.ran([*command.words, machine.two], stdout=full)
             assert ran.status == 1 and ran.err.endswith("/s\n" + FULL), ran
-    machine.faulty(command, "257 files", [*command.words, *[machine.two] * 257], 2, "planarbend: more than 256 files\n")
 
 
 # ---- How far a later file is read while the first is held, by `--waiting`; and how many files are open at once, by
@@ -379,12 +376,9 @@ STILL = 1  # seconds in which a file that pauses is not read
 def check_waiting(machine: Machine) -> None:
     """Numbers of megabytes, and of lanes."""
     later = machine.file(HEADER + EDGE * RECORDS)
-    for most in (1, 8):
-        for words in (["--waiting", str(most)], [f"--waiting={most}"]):
-            with machine.case("layout", *words, "a later file pauses"):
-                pauses(machine, words, later, most * 1_000_000 // LINE * len(EDGE))
-    with machine.case(LAYOUT, "a later file that may wait whole"):
-        pauses(machine, [], later, len(EDGE) * RECORDS)
+    for words, most in [(["--waiting", "1"], 1), (["--waiting=1"], 1), (["--waiting", "8"], 8), ([], 64)]:
+        with machine.case(LAYOUT, *words, "a later file pauses, or may wait whole"):
+            pauses(machine, words, later, min(most * 1_000_000 // LINE, RECORDS) * len(EDGE))
     for lanes in range(1, 9):
         for words in (["--lanes", str(lanes)], [f"--lanes={lanes}"]):
             with machine.case("layout", *words, "files that are open at once"):

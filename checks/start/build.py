@@ -240,17 +240,6 @@ def seconds_of(crates):
     return {name: known.get(name, OTHER_SECONDS) for name in crates}, {name for name, _, is_alone in lines if is_alone}
 
 
-def clear_line():
-    if os.isatty(2):
-        write_error(b"\r\033[K")
-
-
-def tell_state(text):
-    """Overwrites the last line on a terminal, and otherwise writes a new line."""
-    clear_line()
-    write_error(os.fsencode(f"planarbend: {text}") + b"\n" * (not os.isatty(2)))
-
-
 @contextlib.contextmanager
 def kept_out(names):
     """Locks the folders of these crates against rt and other builds, and returns the locks. They hold as long as a
@@ -335,20 +324,17 @@ class Proofs:
 
 
 def stop_failed(log):
-    clear_line()
     write_error("".join(log.splitlines(keepends=True)[-LOG_LINES:]).encode())
     stop("the build failed")
 
 
 def prove(crates, held):
     """Proves the libraries."""
-    proved = set()
-    for name in sorted(crates.libraries, key=lambda name: len(crates.below(name))):
-        if proved.issuperset(crates.uses[name]) and crates.is_built(name):
-            proved.add(name)
+    built = set(filter(crates.is_built, crates.libraries))
+    proved = {name for name in built if built.issuperset(crates.below(name))}
     waiting = set(crates.libraries) - proved
     if proved:
-        tell_state(f"{len(proved)} of {len(crates.libraries)} libraries are already proved")
+        say(f"{len(proved)} of {len(crates.libraries)} libraries are already proved")
     with Proofs(crates, held) as proofs:
         proofs.begin_ready(waiting, proved)
         while proofs.running:
@@ -357,7 +343,7 @@ def prove(crates, held):
                     stop_failed(log)
                 crates.keep(name)
                 proved.add(name)
-                tell_state(f"{name} is proved ({len(proved)} of {len(crates.libraries)})")
+                say(f"{name} is proved ({len(proved)} of {len(crates.libraries)})")
             proofs.begin_ready(waiting, proved)
 
 
@@ -372,9 +358,8 @@ def compile_proved(crates, held):
         process = start(words, "planarbend", held)
         try:
             log, _ = process.communicate()
-        except SystemExit:  # by a signal
+        finally:  # also by a signal
             end(process)
-            raise
         if process.returncode:
             stop_failed(log)
 
@@ -390,11 +375,10 @@ def build(crates):
         " next --build continues")
     with kept_out(both.uses) as held:
         prove(both, held)
-        tell_state("proving and compiling the program itself")
+        say("proving and compiling the program itself")
         os.makedirs(os.path.dirname(LINKED), exist_ok=True)
         compile_proved(crates, held)
         crates.keep_program()
-    clear_line()
     if not crates.is_program_built():
         stop("a source was changed during the build: start --build again")
     say(f"proved and built the program in {(time.monotonic() - started) / 60:.0f} min")
@@ -433,7 +417,6 @@ def main():
             give_to_rt()
     except SystemExit as ended:
         if isinstance(ended.code, int) and ended.code > 128:  # a signal
-            clear_line()
             say("stopped: the next --build continues from what is proved")
         raise
     except OSError as error:

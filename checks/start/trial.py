@@ -6,10 +6,8 @@ run-time checks, proves nothing, and runs the compiled program in its own folder
 output is written only after the trial has ended successfully; the exit status is then that of the program. If a trial
 cannot answer, a message says why and what to do, and the exit status is 1.
 """
-import contextlib
 import os
 import re
-import stat
 import subprocess
 import sys
 import tempfile
@@ -26,17 +24,21 @@ MEMORY, DISK = 3500, 200  # MB
 # The last lines of `rt try` if the program ended. Nothing else follows the program's own lines.
 ENDED = re.compile(rb"^checked: ended status=(\d+)\n(?:races: .*\n)?run=ended status=\1 .*proved=no\n\Z", re.M)
 
+# Options with a value.
+VALUED = {"--lanes", "--outer", "--waiting", "--drawing", "--vertices", "--edges", "--bends", "--rule", "--by"}
+
 
 def places_of_files(words):
     """The positions of the files among the arguments, as the program reads them: after the command, neither an option
     nor its value; after `--` all arguments are files."""
-    if words[0] not in ("layout", "frames", "check"):
+    if words[0] not in ("layout", "frames", "check", "pick", "count"):
         return []
     places, rest = [], iter(enumerate(words[1:], 1))
+    valued = VALUED | {"--faces"} if words[0] in ("pick", "count") else VALUED
     for place, word in rest:
         if word == "--":
             return places + [place for place, _ in rest]
-        if word in ("--lanes", "--outer", "--waiting", "--drawing"):
+        if word in valued:
             next(rest, None)
         elif word == "-" or not word.startswith("-"):
             places.append(place)
@@ -56,12 +58,6 @@ class Trial:
 
     def refuse(self, why=f"its files and standard input have more than {INPUT >> 10} KiB in total"):
         stop(f"a trial run cannot answer this: {why}", self.way_out)
-
-    def look_at_sizes(self):
-        """Refuses at once input that is known to be too large: files have sizes, and so has standard input if it is a
-        file."""
-        if sum(size_of(0 if self.words[place] == "-" else self.words[place]) for place in self.files) > self.room:
-            self.refuse()
 
     def take_input(self):
         """Copies the caller's files and standard input. A file that cannot be read is missing in the trial too, and
@@ -131,35 +127,16 @@ class Trial:
         self.refuse("the lines above say why")
 
 
-def size_of(file):
-    """The size of a regular file in bytes, or 0 if a file does not exist or has no size in advance."""
-    with contextlib.suppress(OSError, ValueError):
-        found = os.stat(file)
-        return found.st_size * stat.S_ISREG(found.st_mode)
-    return 0
-
-
-def first_not_utf8(words):
-    """The number, from 1, of the first argument that is not UTF-8, or None."""
-    for number, word in enumerate(words, 1):
-        try:
-            os.fsencode(word).decode()
-        except UnicodeDecodeError:
-            return number
-    return None
-
-
 def main(called, why, *words):
     end_on_signals()
-    if number := first_not_utf8(words):
-        stop(f"argument {number} is not valid UTF-8, as the name of a file must be", status=2)
+    if wrong := [number for number, word in enumerate(words, 1) if re.search("[\udc80-\udcff]", word)]:  # bytes of no UTF-8
+        stop(f"argument {wrong[0]} is not valid UTF-8, as the name of a file must be", status=2)
     with tempfile.TemporaryDirectory(prefix="planarbend-") as folder:
         look_at_machine("a trial run", MEMORY, DISK, folder)
         trial = Trial(words, called, folder)
-        trial.look_at_sizes()
+        trial.take_input()
         say(f"{why}: an unverified build of the same sources, with run-time checks, answers in one to two minutes",
             trial.way_out)
-        trial.take_input()
         return trial.answer(trial.run())
 
 

@@ -25,7 +25,7 @@ int main(void) {
     planarbend *object;
     planarbend_counts counts;
     if (fread(header, 1, sizeof header, stdin) != sizeof header || memcmp(header, ">>planar_code<<", sizeof header) != 0) {
-        fputs("bends: this is no planar_code\n", stderr);
+        fputs("bends: not a planar_code file\n", stderr);
         return 1;
     }
     if (planarbend_new(&object) != PLANARBEND_OK) return 1;

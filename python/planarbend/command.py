@@ -19,7 +19,7 @@ from planarbend.layout.planar_code import HEADER
 from planarbend.progress import Progress
 from planarbend.readers import FORMS, ReadError, read
 
-ABOUT = "Draws a graph along horizontal and vertical lines with few bends and few crossings, which are right angles."
+ABOUT = "Draws a graph along horizontal and vertical lines with few bends and few crossings; edges cross at right angles."
 TEXT = """\
 examples:
   planarbend-draw radio.txt -o radio.svg
@@ -75,7 +75,8 @@ def command_line() -> argparse.Namespace:
     parser.add_argument("--straight", metavar="NAME--NAME", action="append", default=[],
                         help="draw the edges between these two vertices without bends; may be repeated; needs libplanarbend")
     parser.add_argument("--split", metavar="NETS|DEGREE",
-                        help="draw these vertices, or nets of more connections than DEGREE, as a flag at each connection")
+                        help="replace these vertices, or nets of more connections than DEGREE, by a labelled flag at each"
+                             " connection")
     add_circuits(parser)
     parser.add_argument("--compact", action="store_true", help="smaller drawing with more bends")
     parser.add_argument("--effort", metavar="N", type=int, default=1,
@@ -98,10 +99,10 @@ def add_circuits(parser: argparse.ArgumentParser) -> None:
     parser.add_argument("--sheet", "--module", metavar="NAME", dest="inner",
                         help="of a circuit, draw this sheet of the hierarchy, this module or this subcircuit")
     parser.add_argument("--flags", metavar="N", type=int, default=8,
-                        help="in a schematic, draw nets with more pins than N as a flag at each pin (default 8)")
+                        help="in a schematic, replace nets with more pins than N by a labelled flag at each pin (default 8)")
     parser.add_argument("--wire", metavar="NETS", default="",
-                        help="draw these nets of a schematic as wires, whatever their pins; commas separate names")
-    parser.add_argument("--free", action="store_true", help="fewest bends: no part of a schematic must be upright")
+                        help="draw these nets of a schematic as wires, however many pins they have; commas separate names")
+    parser.add_argument("--free", action="store_true", help="fewer bends: any part of a schematic may be rotated")
 
 
 def numbers(word: str) -> list[int]:

@@ -10,6 +10,10 @@ The graphs are as OGDF received them: parallel connections of a board only once,
 boxes with names only, so that sizes are comparable (`--labels` draws the graphs as they are). OGDF's figures are from its
 release 2012.07, with 10 pixels between lines; pydot read the graphs. Those that pydot reads differently from Graphviz were
 measured again.
+
+With --large, the graphs are those of large_graphs.py, which have 200 vertices or more; random ones are only planarized
+(--planarize-only). OGDF's figures are those of Debian's libogdf-tulip-5.4 for the same graphs without loops and parallel edges,
+with boxes that are squares with 20 pixels of side for each edge and 8 starts; with effort, each edge is inserted again.
 """
 from __future__ import annotations
 
@@ -33,10 +37,12 @@ TESTS = Path(__file__).resolve().parent
 PACKAGE = TESTS.parent
 sys.path.insert(0, str(PACKAGE))
 import drawing_checker
-from planarbend.graph import Arrow, Graph, Kind
+import large_graphs
+from planarbend.command import to_split
+from planarbend.graph import Graph, Kind, split
 from planarbend.readers import read
 
-TABLE = TESTS / "real_graphs.csv"
+TABLE, LARGE_TABLE = TESTS / "real_graphs.csv", TESTS / "large_graphs.csv"
 PACKAGES = {"graphviz-doc": "usr/share/doc/graphviz/examples/graphs", "kicad-demos": "usr/share/kicad/demos"}
 BIG = "lesmis"  # the sums are without it
 WANTED = {"crossings": 680, "bends": 480, "boxes": 2, "room": 1.1, "room of --compact": 0.85, "median": 0.3, "worst": 20.0}
@@ -68,6 +74,7 @@ def command_line() -> argparse.Namespace:
     parser = argparse.ArgumentParser(description=__doc__, formatter_class=argparse.RawDescriptionHelpFormatter,
                                      epilog="status: 0 where all that is wanted is reached, 1 where it is not")
     parser.add_argument("--only", metavar="NAME", action="append", help="this graph alone; may be repeated")
+    parser.add_argument("--large", action="store_true", help="the graphs of large_graphs.py")
     parser.add_argument("--planarize-only", action="store_true", help="find crossings and draw nothing")
     parser.add_argument("--labels", action="store_true", help="draw the files as they are, with their labels and loops")
     parser.add_argument("--compact", action="store_true", help="draw with --compact")
@@ -94,6 +101,9 @@ def package(name: str, folder: Path) -> Path:
 
 def input_of(name: str, folder: Path, is_whole: bool) -> Path:
     """The file of a graph, written below this folder: the whole of it, or what OGDF had of it."""
+    if name in large_graphs.GRAPHS:
+        ending, text, _ = large_graphs.GRAPHS[name]
+        return written(folder / f"{name}.{ending}", text(folder).encode())
     for found in package("graphviz-doc", folder).glob(f"*/{name}.gv*"):
         data = gzip.decompress(found.read_bytes()) if found.suffix == ".gz" else found.read_bytes()
         if is_whole:
@@ -156,13 +166,15 @@ def of_networkx(name: str) -> dict[str, object]:
 
 def drawn(name: str, words: argparse.Namespace, folder: Path) -> Result:
     """Draws one graph and checks the drawing."""
-    source = input_of(name, folder, words.labels)
+    source, degree = input_of(name, folder, words.labels), large_graphs.GRAPHS.get(name, ("", None, ""))[2]
     graph = read(source.read_bytes(), source.name)
+    graph = split(graph, to_split(graph, degree)) if degree else graph
     size = len(graph.vertices), len(graph.edges)
     if words.planarize_only:
         return planarized(name, size, graph, words)
     out, environment = folder / f"{name}.drawing.json", compiled(folder)
     options = ["--format", "netlist"] if source.suffix == ".net" else []  # a graph, not a schematic
+    options += ["--split", degree] if degree else []
     options += ["--compact"] if words.compact else []
     options += ["--effort", words.effort] if words.effort else []
     options += ["--seed", words.seed] if words.seed else []
@@ -244,7 +256,7 @@ def sums(rows: list[dict[str, str]], results: list[Result], words: argparse.Name
         counted["pixels"] += UNDRAWN * 1000 * int(row["ogdf_kilopixels"]) if result.fault else result.pixels
         counted["boxes"] += result.boxes
         counted["above"] += not result.fault and result.crossings > most_crossings(row)
-    whole = len(pairs) == sum(row["graph"] != BIG for row in table())
+    whole = len(pairs) == sum(row["graph"] != BIG for row in table(TABLE))
     undrawn = sum(bool(result.fault) for result in results)
     room = counted["pixels"] / (1000 * sum(int(row["ogdf_kilopixels"]) for row, _ in pairs) or 1)
     seconds = [result.seconds for result in results]
@@ -264,15 +276,16 @@ def sums(rows: list[dict[str, str]], results: list[Result], words: argparse.Name
     return all(value <= wanted for _, value, wanted in lines)
 
 
-def table() -> list[dict[str, str]]:
-    """The rows of the table of figures."""
-    with open(TABLE, encoding="utf-8", newline="") as source:
+def table(path: Path) -> list[dict[str, str]]:
+    """The rows of a table of figures."""
+    with open(path, encoding="utf-8", newline="") as source:
         return list(csv.DictReader(source))
 
 
 def main() -> int:
     words = command_line()
-    rows = [row for row in table() if not words.only or row["graph"] in words.only]
+    rows = [row for row in table(LARGE_TABLE if words.large else TABLE) if not words.only or row["graph"] in words.only]
+    rows = [row for row in rows if words.planarize_only or not row["graph"].startswith("random")]
     unknown = set(words.only or ()) - {row["graph"] for row in rows}
     if unknown:
         sys.exit(f"real_graphs.py: no such graph: {', '.join(sorted(unknown))}")
@@ -285,6 +298,8 @@ def main() -> int:
             for row, result in zip(rows, pool.map(lambda row: drawn(row["graph"], words, folder), rows)):
                 print(line_of(row, result), flush=True)
                 results.append(result)
+    if words.large:
+        return int(any(result.fault for result in results))
     return 0 if sums(rows, results, words) else 1
 
 

@@ -93,6 +93,17 @@ class Svg(Case):
                 self.looks_like(xml.fromstring(self.said("svg", N7, number, "--outer", data=text)), line, lists,
                                 shaded=True)
 
+    def test_dots(self) -> None:
+        """A picture without numbers is otherwise the same, with smaller circles."""
+        text = self.lines(N7)
+        numbered, dots = (xml.fromstring(self.said("svg", N7, 34, *words, data=text)) for words in ([], ["--dots"]))
+        self.assertEqual(list(dots.iter(SVG + "text")), [])
+        for tag, names in ("circle", ("cx", "cy")), ("polyline", ("points",)):
+            found = [[[one.get(name) for name in names] for one in picture.iter(SVG + tag)] for picture in (numbered, dots)]
+            self.assertEqual(*found)
+        radii = [{numbers(one, "r") for one in picture.iter(SVG + "circle")} for picture in (numbered, dots)]
+        self.assertLess(max(radii[1]), min(radii[0]))
+
     def looks_like(self, picture: xml.Element, line: dict[str, Any], lists: list[list[int]], shaded: bool) -> None:
         """Looks that a picture is that of a line."""
         vertices = line["points"]["vertices"]

@@ -167,7 +167,7 @@ class Kept(unittest.TestCase):
         """The inside of a triangle has three corners, which turn three times at most, and no edge may bend."""
         triangle = [[2, 3], [3, 1], [1, 2]]
         straight = Conditions(straight=[(1, 2), (3, 2), (1, 3)])
-        with self.assertRaisesRegex(NotKept, r"noshape \(faces 1 turn more than can leave them\)") as raised:
+        with self.assertRaisesRegex(NotKept, r"noshape \(faces 1 need more turns than the conditions allow\)") as raised:
             keeper().lay_keeping(triangle, "first", straight)
         self.assertEqual(raised.exception.cut, Cut((), (1,), 0))
         line = keeper().library.line(record_of(triangle), straight=straight.straight)

@@ -248,7 +248,7 @@ class Library(unittest.TestCase):
         self.assertEqual(none, short | {"points": None, "drawn": "no"})
 
     def test_cuts_show_why(self) -> None:
-        """By the definition in planarbend.h: the marked vertices and faces turn more than can leave them."""
+        """By the definition in planarbend.h: the marked vertices and faces need more turns than the conditions allow."""
         seen = 0
         for record in records_of("planar_d4_n6.pc") + records_of("medial60.pc")[:5]:
             edges = [(tail, head) for tail, heads in enumerate(record.lists, 1) for head in heads if tail < head]
@@ -342,7 +342,7 @@ class Given(unittest.TestCase):
     def test_cuts_by_name(self) -> None:
         star = {"hub": ["x", "y", "z"], "x": ["hub"], "y": ["hub"], "z": ["hub"]}
         few = {("x", "hub"): 1, ("y", "hub"): 1, ("z", "hub"): 1}
-        with self.assertRaisesRegex(planarbend.GraphUnkept, "noshape: vertices 'hub' turn more") as raised:
+        with self.assertRaisesRegex(planarbend.GraphUnkept, "noshape: vertices 'hub' need more turns") as raised:
             planarbend.layout_of(star, angles=few)
         self.assertEqual((raised.exception.vertices, raised.exception.faces), (("hub",), ()))
         round_hub = ("hub", "x", "hub", "y", "hub", "z")
@@ -351,7 +351,7 @@ class Given(unittest.TestCase):
         fault = raised.exception
         self.assertEqual((fault.word, fault.vertices, fault.faces, fault.outer_face),
                          ("noshape", ("x", "y", "z"), (round_hub,), round_hub))
-        self.assertIn(f"vertices 'x', 'y', 'z' and faces {round_hub!r} turn more than can leave them", str(fault))
+        self.assertIn(f"vertices 'x', 'y', 'z' and faces {round_hub!r} need more turns than the conditions allow", str(fault))
         with self.assertRaisesRegex(planarbend.GraphUnkept, "noedge: 'x' and 'y' are not neighbours") as raised:
             planarbend.layout_of(star, turns={("x", "y"): 0})
         self.assertEqual(raised.exception.vertices, ("x", "y"))
@@ -427,7 +427,7 @@ class StandIn(unittest.TestCase):
                 planarbend.layout_of(planarbend.Record((1,), [[10]]))
             with library.Library() as called, self.assertRaises(MemoryError):
                 list(called.bends([bytes([1, 10, 0])]))
-            with self.assertRaisesRegex(planarbend.PlanarbendError, "does not draw a graph: memory"):
+            with self.assertRaisesRegex(planarbend.PlanarbendError, "could not lay out the graph: memory"):
                 library.LibraryEngine().lay([[[10]]], "first")
         with self.assertRaises(MemoryError):
             library.Library(self.full)
@@ -454,7 +454,7 @@ class StandIn(unittest.TestCase):
             line = engine.library.line(bytes([1, result, 0]), straight=kept.straight, inner=kept.inner, angles=kept.angles,
                                        turns=kept.turns)
             self.assertEqual(line, {"status": word} | ({"cut": cut} if cut else {}))
-        self.assertEqual(str(Cut((1, 5), (3,), 6)), "vertices 1, 5 and faces 3 turn more than can leave them")
+        self.assertEqual(str(Cut((1, 5), (3,), 6)), "vertices 1, 5 and faces 3 need more turns than the conditions allow")
 
     def test_an_older_library(self) -> None:
         with self.assertRaisesRegex(planarbend.NoProgram, "older than the package"):

@@ -113,6 +113,19 @@ class Packages(unittest.TestCase):
         (self.folder / "out/it").unlink()
         self.assertEqual(packages.outdated(record, self.folder), "there is no proved out/it here yet")
 
+    def test_changes(self) -> None:
+        """New files are changes only below python/, of which a wheel takes every file."""
+        with tempfile.TemporaryDirectory() as name:
+            folder = Path(name).resolve()
+            subprocess.run(["git", "init", "-q", folder], check=True)
+            for new, is_change in ("graphs.pc", False), ("python/new.py", True):
+                (folder / new).parent.mkdir(exist_ok=True)
+                (folder / new).touch()
+                author = ["-c", "user.name=a", "-c", "user.email=a@example.org"]
+                subprocess.run(["git", "-C", folder, *author, "commit", "-q", "--allow-empty", "-m", "x"], check=True)
+                with self.subTest(new):
+                    self.assertEqual(packages.commit_of(folder, True).endswith(" with changes"), is_change)
+
     def test_the_same_version(self) -> None:
         about = tomllib.loads((support.PACKAGE / "pyproject.toml").read_text())["project"]
         header, cited = (support.ROOT / "c/planarbend.h").read_text(), (support.ROOT / "CITATION.cff").read_text()

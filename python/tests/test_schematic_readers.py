@@ -177,7 +177,7 @@ class KiCad(Case):
         line = whole[:whole.index("(junction")].count("\n") + 1
         self.refused(whole.replace("(junction (at 110 100)", "(junction (at 110 1x)"), "not a number: 1x", line)
         place = whole.index("(name")
-        self.refused(whole[:place], "the list pin has no end; the file is cut off", whole[:whole.index("(pin")].count("\n") + 1)
+        self.refused(whole[:place], r"unclosed '\(pin': the file is cut off", whole[:whole.index("(pin")].count("\n") + 1)
         self.refused("(kicad_sch)", "there are no parts")
 
 
@@ -446,8 +446,8 @@ class Spice(Case):
     def test_faults(self) -> None:
         for lines, words, line in (
                 ("R1 a", "R1 needs 2 nodes", 2), ("R1 a 0 1\n\nR1 a 0 1", "a second element R1", 4), ("Q1 a b", "Q1 needs 3 nodes and a model", 2),
-                ("*\n+ more", "a line that continues none", 3), (".subckt s a\nR1 a 0 1", "the subcircuit s has no end", 2),
-                (".ends", "the end of a subcircuit that has no beginning", 2), ("Z1 a b c", "no known kind: Z1", 2),
+                ("*\n+ more", "a continuation line with no line before it", 3), (".subckt s a\nR1 a 0 1", ".subckt s without .ends", 2),
+                (".ends", ".ends without .subckt", 2), ("Z1 a b c", "unknown kind of element: Z1", 2),
                 (".subckt s a b\nR1 a b 1\n.ends\nX1 c s", "X1 has 1 nodes, and s has 2", 5), (".model q", "a model without its name or type", 2),
                 (".subckt s a\n.ends\n.subckt S b\n.ends", "a second subcircuit S", 4)):
             self.refused("title\n" + lines, words, line, "spice")

@@ -87,6 +87,12 @@ struct Held<'r> {
 }
 
 impl Console for Held<'_> {
+    ghost has_terminal = { λ _. false };
+
+    fn out_is_terminal(&self) -> bool {
+        false
+    }
+
     fn is_terminal(&self) -> bool {
         false
     }

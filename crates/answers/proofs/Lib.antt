@@ -1,3 +1,4 @@
+pub mod Held
 pub mod Lengths
 pub mod Straight
 pub mod Remaining

@@ -55,6 +55,11 @@ impl DrawScratch {
     /// Those of the points stay here; those of the shaped plane return in its holder.
     pub fn take_back(&mut self, shaped_plane: ShapedPlane, points: Points) {
         self.points.take_back(points);
+        self.take_back_shaped(shaped_plane);
+    }
+
+    /// Consumes a shaped plane that is not drawn; its lists return in its holder.
+    pub fn take_back_shaped(&mut self, shaped_plane: ShapedPlane) {
         if let Some(shell) = &mut self.shell {
             shell.refill(shaped_plane);
         }

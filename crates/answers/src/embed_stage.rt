@@ -1,6 +1,7 @@
 //! The stage of a lane that reads graphs and traces their faces.
 
 use crate::carried::Carried;
+use crate::holder::held;
 use crate::item::Item;
 use crate::purpose::{KeepEntries, Purpose};
 use crate::scratch::EmbedScratch;
@@ -35,7 +36,7 @@ impl<P: Purpose> Staged for Item<P, Record, ()> {
             task: self.task,
             purpose: self.purpose,
             rec: P::Carried::of(self.rec),
-            state: scratch.hold(alloc, plane),
+            state: held(alloc, scratch.shell.take(), plane),
         }
     }
 }

@@ -1,7 +1,9 @@
 //! Values in holders that go round, as from an object pool: once the value is taken out, the holder goes back.
 ghost use Rattle.std.specs.Prelude.{◌≡◌, true};
 ghost use Rattle.answers.specs.Slots.{is_full};
+ghost use Rattle.answers.specs.Held.{IsHeld};
 
+use embedding::ReadFault;
 use std::alloc::{AllocError, Global};
 use std::boxed::Box;
 use std::marker::Model;
@@ -81,4 +83,24 @@ impl<T: Drop> Holder<T> {
             Slot::Empty | Slot::Spent(_) => unreachable!(),
         }
     }
+}
+
+/// The value in this holder, or in a new one where there is none; a fault stays as it is.
+///
+/// # Errors
+///
+/// `Memory` if there is no memory for a holder.
+pub(crate) fn held<T: Drop>(
+    alloc: Global,
+    shell: Option<Shell<T>>,
+    value: Result<T, ReadFault>,
+) -> Result<Holder<T>, ReadFault>
+    ensures { IsHeld value result }
+{
+    let value = value?;
+    let shell = match shell {
+        Some(shell) => shell,
+        None => Shell::new(alloc)?,
+    };
+    Ok(shell.fill(value))
 }

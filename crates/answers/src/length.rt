@@ -17,12 +17,9 @@ pub(crate) fn is_no_longer(plane: &Plane, points: &Points, others: &Points) -> b
     requires others { HasPoints plane.now others.now }
     ensures { IsTrue result → edge_length plane.now points.now ≤ edge_length plane.now others.now }
 {
-    let Some(length) = edge_length(plane, points) else {
-        return false;
-    };
-    match edge_length(plane, others) {
-        Some(other_length) => length <= other_length,
-        None => false,
+    match (edge_length(plane, points), edge_length(plane, others)) {
+        (Some(length), Some(other_length)) => length <= other_length,
+        _ => false,
     }
 }
 

@@ -23,7 +23,6 @@ mod shaping;
 mod stages;
 mod state;
 mod task;
-mod wide;
 
 pub use answering::Answering;
 pub use carried::Carried;

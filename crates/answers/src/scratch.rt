@@ -1,11 +1,8 @@
 //! What the stages of a lane take memory for and do not keep.
-ghost use Rattle.std.specs.Prelude.{ℕ, List};
-ghost use Rattle.answers.specs.Steps.{IsEmbedded};
 
 use crate::drawing::DrawScratch;
-use crate::holder::{Holder, Shell};
+use crate::holder::Shell;
 use crate::shaping::{ReturnQueues, ShapeScratch};
-use embedding::ReadFault;
 use faces::Plane;
 use lanes::{LaneScratch, MOST_IN_LISTS, ReturnQueue};
 use std::alloc::{AllocError, Global};
@@ -16,7 +13,7 @@ use std::sync::Wait;
 pub struct EmbedScratch {
     pub(crate) planes: faces::Scratch,
     // the holder of the next plane
-    shell: Option<Shell<Plane>>,
+    pub(crate) shell: Option<Shell<Plane>>,
     spent: ReturnQueue<Shell<Plane>>,
 }
 
@@ -37,24 +34,6 @@ impl EmbedScratch {
                 plane.give_back(&mut self.planes);
             }
             self.shell = Some(shell);
-        }
-    }
-
-    /// The plane in a holder, if there is memory for one.
-    pub(crate) fn hold(
-        &mut self,
-        alloc: Global,
-        plane: Result<Plane, ReadFault>,
-    ) -> Result<Holder<Plane>, ReadFault>
-        ensures { (g : List (List ℕ)) → IsEmbedded g plane → IsEmbedded g result }
-    {
-        let plane = plane?;
-        match self.shell.take() {
-            Some(shell) => Ok(shell.fill(plane)),
-            None => match Shell::new(alloc) {
-                Ok(shell) => Ok(shell.fill(plane)),
-                Err(AllocError) => Err(ReadFault::Memory),
-            },
         }
     }
 }

@@ -1,6 +1,7 @@
 //! The stage of a lane that finds least shapes.
 
 use crate::draw_stage::Shaped;
+use crate::holder::held;
 use crate::item::Item;
 use crate::purpose::{KeepEntries, Purpose};
 use crate::shaping::ShapeScratch;
@@ -37,7 +38,7 @@ impl<P: Purpose> Staged for Item<P, <P as Purpose>::Carried, Traced> {
             task,
             purpose: self.purpose,
             rec: self.rec,
-            state: scratch.hold(alloc, shaped_plane),
+            state: held(alloc, scratch.shell.take(), shaped_plane),
         }
     }
 }

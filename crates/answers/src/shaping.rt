@@ -35,7 +35,7 @@ pub struct ShapeScratch {
     // a plane that is done with, the holder of the plane that was taken last, and the holder of the next shaped plane
     plane: Option<Plane>,
     plane_shell: Option<Shell<Plane>>,
-    shell: Option<Shell<ShapedPlane>>,
+    pub(crate) shell: Option<Shell<ShapedPlane>>,
     pub(crate) return_queues: ReturnQueues,
 }
 
@@ -106,24 +106,6 @@ impl ShapeScratch {
         self.plane_shell = Some(shell);
         Ok(plane)
     }
-
-    /// The shaped plane in a holder, if there is memory for one.
-    pub(crate) fn hold(
-        &mut self,
-        alloc: Global,
-        shaped_plane: Result<ShapedPlane, ReadFault>,
-    ) -> Result<Holder<ShapedPlane>, ReadFault>
-        ensures { (choice : Choice) (g : List (List ℕ)) → IsShaped choice g shaped_plane → IsShaped choice g result }
-    {
-        let shaped_plane = shaped_plane?;
-        match self.shell.take() {
-            Some(shell) => Ok(shell.fill(shaped_plane)),
-            None => match Shell::new(alloc) {
-                Ok(shell) => Ok(shell.fill(shaped_plane)),
-                Err(AllocError) => Err(ReadFault::Memory),
-            },
-        }
-    }
 }
 
 /// The plane with a least shape for this drawing; its outer face is then the chosen one.
@@ -185,23 +167,18 @@ pub(crate) fn with_shape_keeping(
     ensures fault { IfErr result (IsKeepFault conditions.now choice plane) }
 {
     let shapes = &mut scratch.shapes;
-    let (shape, prices) = match shape_keeping_in(alloc, shapes, &mut plane, conditions, choice) {
-        Ok(found) => found,
-        Err(fault) => return Err(fault),
-    };
+    let (shape, prices) = shape_keeping_in(alloc, shapes, &mut plane, conditions, choice)?;
     // Only the proof needs this: `graph` says that the plane still is one.
     let _graph = plane.graph();
     let spare = mem::replace(&mut scratch.directions, Vec::new(alloc));
-    match directions_of(alloc, &mut scratch.search, spare, &plane, &shape) {
-        Ok(directions) => Ok(KeptPlane {
-            plane,
-            shape,
-            prices,
-            directions,
-            drawing_kind,
-        }),
-        Err(AllocError) => Err(KeepFault::Memory),
-    }
+    let directions = directions_of(alloc, &mut scratch.search, spare, &plane, &shape)?;
+    Ok(KeptPlane {
+        plane,
+        shape,
+        prices,
+        directions,
+        drawing_kind,
+    })
 }
 
 /// A least shape of the plane, whose outer face is then the chosen one, and prices that prove it least.

@@ -14,14 +14,14 @@ use crate::shaped_plane::ShapedPlane;
 use crate::shaping::{ShapeScratch, with_least_shape};
 use crate::state::PointsFound;
 use common::{Choice, DrawingKind};
-use embedding::{Graph, ReadFault, Rule, broken_rule};
+use embedding::{Graph, ReadFault, Rule, WideRecord, broken_rule, broken_wide_rule};
 use faces::{Plane, TraceFault};
 use planar_code::Record;
 use reports::{Answer, Entry};
 use std::alloc::{AllocError, Global};
 
 /// Why lists have no plane if there is no memory for their graph: the first rule that they break, or else out of memory.
-pub(crate) fn fault_without_graph(broken: Option<Rule>) -> ReadFault
+fn fault_without_graph(broken: Option<Rule>) -> ReadFault
     ensures { (g : List (List ℕ))
         → MatchOption broken (KeepsBefore g 9) (λ rule. FirstBroken g rule) → IsRefused g result }
 {
@@ -32,11 +32,7 @@ pub(crate) fn fault_without_graph(broken: Option<Rule>) -> ReadFault
 }
 
 /// The plane of a graph, unless it breaks the last rule; reuses the caller's scratch.
-pub(crate) fn trace(
-    alloc: Global,
-    scratch: &mut faces::Scratch,
-    graph: Graph,
-) -> Result<Plane, ReadFault>
+fn trace(alloc: Global, scratch: &mut faces::Scratch, graph: Graph) -> Result<Plane, ReadFault>
     ensures { IsEmbedded graph result }
 {
     match Plane::trace_in(alloc, scratch, graph) {
@@ -65,6 +61,21 @@ pub(crate) fn embed(
     }
 }
 
+/// The plane of a wide record, or why there is none, as that of a record.
+pub(crate) fn embed_wide(
+    alloc: Global,
+    scratch: &mut faces::Scratch,
+    rec: &WideRecord,
+) -> Result<Plane, ReadFault>
+    ensures { IsEmbedded (lists_of rec.now) result }
+{
+    match Graph::read_wide_in(alloc, &mut scratch.graph, rec) {
+        Ok(graph) => trace(alloc, scratch, graph),
+        Err(ReadFault::Rule(broken)) => Err(ReadFault::Rule(broken)),
+        Err(ReadFault::Memory) => Err(fault_without_graph(broken_wide_rule(rec))),
+    }
+}
+
 /// A record's plane with the chosen outer face and a least shape for this drawing, or why there is none.
 pub(crate) fn shape(
     alloc: Global,
@@ -76,10 +87,7 @@ pub(crate) fn shape(
     ensures shaped { (g : List (List ℕ)) → IsEmbedded g plane → IsShaped choice g result }
     ensures kind { IfOk result (λ shaped_plane. shaped_plane.drawing_kind ≡ drawing_kind) }
 {
-    match with_least_shape(alloc, scratch, plane?, choice, drawing_kind) {
-        Ok(shaped_plane) => Ok(shaped_plane),
-        Err(AllocError) => Err(ReadFault::Memory),
-    }
+    Ok(with_least_shape(alloc, scratch, plane?, choice, drawing_kind)?)
 }
 
 /// What is answered to a record with this shaped plane, which is drawn so, or without one.

@@ -41,13 +41,8 @@ impl<R: Wait, L: Tap, S: Sink> Receiver for CheckedRecords<'_, '_, '_, R, L, S> 
         first: u32,
         records: &mut Vec<Record>,
     ) -> Result<(), WriteFault> {
-        match self
-            .checker
+        self.checker
             .write_verdicts(self.rt, first, records, self.out)
-        {
-            Ok(()) => Ok(()),
-            Err(fault) => Err(fault),
-        }
     }
 
     ghost received_none = { λ x. (refl, goes_by_none L.to_come L.fails _ _) };

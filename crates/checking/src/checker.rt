@@ -82,10 +82,8 @@ impl<L: Tap> Checker<L> {
     {
         let mut place = first;
         for rec in records.iter() {
-            match self.write_verdict(rt, place, rec, out) {
-                Ok(()) => place += 1,
-                Err(fault) => return Err(fault),
-            }
+            self.write_verdict(rt, place, rec, out)?;
+            place += 1;
         }
         records.clear();
         Ok(())
@@ -117,10 +115,7 @@ impl<L: Tap> Checker<L> {
             input,
         );
         self.note(verdict);
-        match self.text.make_room(out) {
-            Ok(()) => {}
-            Err(fault) => return Err(fault),
-        }
+        self.text.make_room(out)?;
         let number = u64::from(place) + 1;
         push_verdict(&mut self.text, self.options.form, number, verdict);
         Ok(())
@@ -161,14 +156,8 @@ impl<L: Tap> Checker<L> {
             → end.count ≡ length records → IsUnderWay L.to_come L.fails known fails start (S.taken out.old) self records
             → (surplus : ℕ) × IsCutShort self.options known fails start (S.taken out.new) end.mark surplus records) }
     {
-        let rest = match read_trailing(rt, self.alloc, &mut self.lines) {
-            Ok(rest) => rest,
-            Err(fault) => return Err(fault),
-        };
-        match self.text.make_room(out) {
-            Ok(()) => {}
-            Err(fault) => return Err(fault),
-        }
+        let rest = read_trailing(rt, self.alloc, &mut self.lines)?;
+        self.text.make_room(out)?;
         let SourceEnd { count, mark } = end;
         push_end(
             &mut self.text,
@@ -177,10 +166,7 @@ impl<L: Tap> Checker<L> {
             u64::from(count),
             rest.surplus,
         );
-        match self.text.flush(out) {
-            Ok(()) => {}
-            Err(fault) => return Err(fault),
-        }
+        self.text.flush(out)?;
         let whole = is_whole(mark, rest.failed, self.wants_memory);
         Ok(CheckOutcome {
             mark,

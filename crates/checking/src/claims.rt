@@ -27,10 +27,7 @@ pub(crate) fn bends_in(value: &Value) -> Result<Option<u32>, LineFault>
     ensures fault { IfErr result (λ fault. fault ≡ Number) }
 {
     match field_in(value, "bends") {
-        Some(field) => match number_in(field, 4_294_967_295) {
-            Ok(number) => Ok(Some(number as u32)),
-            Err(fault) => Err(fault),
-        },
+        Some(field) => Ok(Some(number_in(field, 4_294_967_295)? as u32)),
         None => Ok(None),
     }
 }
@@ -47,10 +44,7 @@ pub(crate) fn outer_in(value: &Value) -> Result<Option<u16>, LineFault>
     ensures fault { IfErr result (λ fault. fault ≡ Number) }
 {
     match field_in(value, "outer") {
-        Some(field) => match number_in(field, 65_535) {
-            Ok(number) => Ok(Some(number as u16)),
-            Err(fault) => Err(fault),
-        },
+        Some(field) => Ok(Some(number_in(field, 65_535)? as u16)),
         None => Ok(None),
     }
 }
@@ -70,10 +64,7 @@ pub(crate) fn angles_in(alloc: Global, value: &Value) -> Result<Option<Vec<u8>>,
     ensures fault { IfErr result (λ fault. fault ≢ Memory → IsWrongField IsWrongAngles (codes "angles") (view value.now) fault) }
 {
     match field_in(value, "angles") {
-        Some(field) => match angle_list(alloc, field) {
-            Ok(angles) => Ok(Some(angles)),
-            Err(fault) => Err(fault),
-        },
+        Some(field) => Ok(Some(angle_list(alloc, field)?)),
         None => Ok(None),
     }
 }
@@ -88,10 +79,7 @@ fn angle_list(alloc: Global, value: &Value) -> Result<Vec<u8>, LineFault>
     let mut angles = Vec::new(alloc);
     let elements = list_in(value, LineFault::Angles)?;
     for element in elements {
-        let angle = match number_in(element, 255) {
-            Ok(angle) => angle,
-            Err(fault) => return Err(fault),
-        };
+        let angle = number_in(element, 255)?;
         angles.push(angle as u8)?;
     }
     Ok(angles)
@@ -112,10 +100,7 @@ pub(crate) fn prices_in(alloc: Global, value: &Value) -> Result<Option<Prices>, 
     ensures fault { IfErr result (λ fault. fault ≢ Memory → IsWrongField IsWrongPrices (codes "prices") (view value.now) fault) }
 {
     match field_in(value, "prices") {
-        Some(field) => match two_price_lists(alloc, field) {
-            Ok(prices) => Ok(Some(prices)),
-            Err(fault) => Err(fault),
-        },
+        Some(field) => Ok(Some(two_price_lists(alloc, field)?)),
         None => Ok(None),
     }
 }
@@ -128,10 +113,7 @@ fn two_price_lists(alloc: Global, field: &Value) -> Result<Prices, LineFault>
     ensures fault { IfErr result (λ fault. fault ≢ Memory → IsWrongPrices (view field.now) fault) }
 {
     let vertices = prices_at(alloc, field, "vertices")?;
-    let faces = match prices_at(alloc, field, "faces") {
-        Ok(faces) => faces,
-        Err(fault) => return Err(fault),
-    };
+    let faces = prices_at(alloc, field, "faces")?;
     Ok(Prices::new(vertices, faces))
 }
 
@@ -160,10 +142,7 @@ fn price_list(alloc: Global, value: &Value) -> Result<Vec<i32>, LineFault>
     let mut prices = Vec::new(alloc);
     let elements = list_in(value, LineFault::Prices)?;
     for element in elements {
-        let price = match integer_in(element) {
-            Ok(price) => price,
-            Err(fault) => return Err(fault),
-        };
+        let price = integer_in(element)?;
         prices.push(price)?;
     }
     Ok(prices)
@@ -183,10 +162,7 @@ pub(crate) fn turns_in(alloc: Global, value: &Value) -> Result<Option<Vec<Vec<Tu
     ensures fault { IfErr result (λ fault. fault ≢ Memory → IsWrongField IsWrongTurns (codes "turns") (view value.now) fault) }
 {
     match field_in(value, "turns") {
-        Some(field) => match string_list(alloc, field) {
-            Ok(strings) => Ok(Some(strings)),
-            Err(fault) => Err(fault),
-        },
+        Some(field) => Ok(Some(string_list(alloc, field)?)),
         None => Ok(None),
     }
 }
@@ -201,10 +177,7 @@ fn string_list(alloc: Global, value: &Value) -> Result<Vec<Vec<Turn>>, LineFault
     let mut strings = Vec::new(alloc);
     let elements = list_in(value, LineFault::Turns)?;
     for element in elements {
-        let turns = match turns_of(alloc, element) {
-            Ok(turns) => turns,
-            Err(fault) => return Err(fault),
-        };
+        let turns = turns_of(alloc, element)?;
         strings.push(turns)?;
     }
     Ok(strings)
@@ -218,10 +191,7 @@ fn turns_of(alloc: Global, value: &Value) -> Result<Vec<Turn>, LineFault>
     ensures fault { IfErr result (λ fault. fault ≢ Memory → fault ≡ Turns) }
 {
     let text = text_in(value, LineFault::Turns)?;
-    match letters_of(alloc, text.as_bytes()) {
-        Ok(turns) => Ok(turns),
-        Err(fault) => Err(fault),
-    }
+    letters_of(alloc, text.as_bytes())
 }
 
 /// The turns of these letters.

@@ -56,10 +56,7 @@ pub(crate) fn needed_field_in<'v>(value: &'v Value, name: &str) -> Result<&'v Va
     ensures none { IfErr result (λ _. get name.now (view value.now) ≡ None) }
     ensures fault { IfErr result (λ fault. fault ≡ Points) }
 {
-    match field_in(value, name) {
-        Some(field) => Ok(field),
-        None => Err(LineFault::Points),
-    }
+    field_in(value, name).ok_or(LineFault::Points)
 }
 
 /// The elements of the list that a value is; otherwise this fault.
@@ -106,8 +103,5 @@ pub(crate) fn text_in(value: &Value, otherwise: LineFault) -> Result<&str, LineF
     ensures none { IfErr result (λ _. (text : List ℕ) → view value.now ≢ string text) }
     ensures fault { IfErr result (λ fault. fault ≡ otherwise) }
 {
-    match value.as_str() {
-        Some(text) => Ok(text),
-        None => Err(otherwise),
-    }
+    value.as_str().ok_or(otherwise)
 }

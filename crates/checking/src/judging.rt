@@ -74,10 +74,7 @@ pub(crate) fn record_verdict(
 fn is_out_of_memory(input: &DrawingInput) -> bool
     ensures { (result ≡ true) ↔ (input.now ≡ given.Fault line.Memory) }
 {
-    match input {
-        DrawingInput::Fault(LineFault::Memory) => true,
-        _ => false,
-    }
+    matches!(input, DrawingInput::Fault(LineFault::Memory))
 }
 
 /// The verdict on the input for a plane.

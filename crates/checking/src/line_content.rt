@@ -44,17 +44,11 @@ pub(crate) fn content_of(alloc: Global, line: &[u8]) -> Result<LineContent, Line
     ensures none { IfErr result (λ fault. fault ≢ Memory → SaysNothing line.now) }
     ensures fault { IfErr result (λ fault. fault ≢ Memory → IsWrongLine line.now fault) }
 {
-    let value = match value_in(alloc, line) {
-        Ok(value) => value,
-        Err(fault) => return Err(fault),
-    };
+    let value = value_in(alloc, line)?;
     if is_end(&value) {
         return Ok(LineContent::End);
     }
-    match drawing_in(alloc, &value) {
-        Ok(drawing) => Ok(LineContent::Drawing(drawing)),
-        Err(fault) => Err(fault),
-    }
+    Ok(LineContent::Drawing(drawing_in(alloc, &value)?))
 }
 
 /// Whether a value has a field `end`.
@@ -62,10 +56,7 @@ fn is_end(value: &Value) -> bool
     ensures ended { result ≡ true → get (codes "end") (view value.now) ≢ None }
     ensures goes_on { result ≡ false → get (codes "end") (view value.now) ≡ None }
 {
-    match value.get("end") {
-        Some(_) => true,
-        None => false,
-    }
+    value.get("end").is_some()
 }
 
 /// The drawing that a value describes.
@@ -78,14 +69,9 @@ fn drawing_in(alloc: Global, value: &Value) -> Result<ClaimedDrawing, LineFault>
     if !value.is_object() {
         return Err(LineFault::Malformed);
     }
-    let points = match points_in(alloc, value) {
-        Ok(points) => points,
-        Err(fault) => return Err(fault),
-    };
-    match claims_in(alloc, value) {
-        Ok(claims) => Ok(ClaimedDrawing { points, claims }),
-        Err(fault) => Err(fault),
-    }
+    let points = points_in(alloc, value)?;
+    let claims = claims_in(alloc, value)?;
+    Ok(ClaimedDrawing { points, claims })
 }
 
 /// What a value claims of its points.
@@ -95,26 +81,11 @@ fn claims_in(alloc: Global, value: &Value) -> Result<Claims, LineFault>
         → HasClaimRanges claims → HasClaims (view value.now) claims → ⊥) }
     ensures fault { IfErr result (λ fault. fault ≢ Memory → IsWrongClaim (view value.now) fault) }
 {
-    let angles = match angles_in(alloc, value) {
-        Ok(angles) => angles,
-        Err(fault) => return Err(fault),
-    };
-    let turns = match turns_in(alloc, value) {
-        Ok(turns) => turns,
-        Err(fault) => return Err(fault),
-    };
-    let prices = match prices_in(alloc, value) {
-        Ok(prices) => prices,
-        Err(fault) => return Err(fault),
-    };
-    let bends = match bends_in(value) {
-        Ok(bends) => bends,
-        Err(fault) => return Err(fault),
-    };
-    let outer = match outer_in(value) {
-        Ok(outer) => outer,
-        Err(fault) => return Err(fault),
-    };
+    let angles = angles_in(alloc, value)?;
+    let turns = turns_in(alloc, value)?;
+    let prices = prices_in(alloc, value)?;
+    let bends = bends_in(value)?;
+    let outer = outer_in(value)?;
     Ok(Claims {
         angles,
         turns,

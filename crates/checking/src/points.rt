@@ -47,10 +47,7 @@ fn corner_lists(alloc: Global, value: &Value) -> Result<Vec<Vec<Point>>, LineFau
     let mut lists = Vec::new(alloc);
     let elements = list_in(value, LineFault::Points)?;
     for element in elements {
-        let points = match point_list(alloc, element) {
-            Ok(points) => points,
-            Err(fault) => return Err(fault),
-        };
+        let points = point_list(alloc, element)?;
         lists.push(points)?;
     }
     Ok(lists)
@@ -67,10 +64,7 @@ fn point_list(alloc: Global, value: &Value) -> Result<Vec<Point>, LineFault>
     let mut points = Vec::new(alloc);
     let elements = list_in(value, LineFault::Points)?;
     for element in elements {
-        let point = match point_in(element) {
-            Ok(point) => point,
-            Err(fault) => return Err(fault),
-        };
+        let point = point_in(element)?;
         points.push(point)?;
     }
     Ok(points)

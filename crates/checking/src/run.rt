@@ -65,10 +65,8 @@ pub fn check_files<R: AllocGlobal + Wait, G: Tap, L: Tap, S: Sink>(
     let Ok(mut checker) = Checker::new(alloc, lines, options) else {
         return Err(WriteFault::Memory);
     };
-    match check_records(rt, alloc, graphs, buffer.as_mut_slice(), &mut checker, out) {
-        Ok(end) => checker.finish(rt, end, out),
-        Err(fault) => Err(fault),
-    }
+    let end = check_records(rt, alloc, graphs, buffer.as_mut_slice(), &mut checker, out)?;
+    checker.finish(rt, end, out)
 }
 
 /// Writes the verdicts on the records of a file of graphs; returns their number and the mark of the file.

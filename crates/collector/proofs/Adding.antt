@@ -25,7 +25,7 @@ lines-more form [] entry = append-nil (line_in form entry)
 lines-more form (x ∷ xs) entry = ap (λ l. line_in form x ++ l) (lines-more form xs entry) ∙ sym (append_assoc (line_in form x) (lines_in form xs) (line_in form entry))
 
 -- an entry more is counted
-counted_one : (file : ℕ) (entry : Entry) (came next : ℕ → Came) (w w' : Waiting) → HasEntryMore file entry came next → w'.count ≡ w.count + 1 → w'.mark ≡ w.mark
+pub counted_one : (file : ℕ) (entry : Entry) (came next : ℕ → Came) (w w' : Waiting) → HasEntryMore file entry came next → w'.count ≡ w.count + 1 → w'.mark ≡ w.mark
     → IsCounted w (came file) → IsCounted w' (next file)
 counted_one file entry came next w w' more count mark was = record {
   count =

@@ -37,7 +37,7 @@ mark_told choice meaning file ns came has told =
     told.mark ∙ ap (mark_after None) has.told ∙ mark-end None (map Item (numbered choice file 0 has.records)) file has.mark
 
 -- all that is told of a file is its book
-book_told : (choice : Choice) (meaning : Meaning) (file : ℕ) (ns : List Note) (came : Came) (has : HasFile choice meaning file ns) → IsToldByNotes file ns came
+pub book_told : (choice : Choice) (meaning : Meaning) (file : ℕ) (ns : List Note) (came : Came) (has : HasFile choice meaning file ns) → IsToldByNotes file ns came
     → IsBook choice meaning file (record { entries = came.entries; mark = has.mark })
 book_told choice meaning file ns came has told = record {
   whole = record {

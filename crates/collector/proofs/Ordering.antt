@@ -108,7 +108,7 @@ all_records (entry ∷ entries) all =
     All-cons IsRecord entry.rec (map rec_of entries) (record_spelt entry.rec (All-head IsOfRecord entry entries all)) (all_records entries (All-tail IsOfRecord entry entries all))
 
 -- its records and this mark are the file's
-found_come : (choice : Choice) (meaning : Meaning) (file : ℕ) (came : Came) → IsInOrder choice meaning file came → ∥ IsFoundAt meaning (map rec_of came.entries) (mark_or_memory came.mark) ∥₁
+pub found_come : (choice : Choice) (meaning : Meaning) (file : ℕ) (came : Came) → IsInOrder choice meaning file came → ∥ IsFoundAt meaning (map rec_of came.entries) (mark_or_memory came.mark) ∥₁
 found_come choice Silent file came order =
     let count = length-map came.entries rec_of in
     found_unknown (map rec_of came.entries) (length came.entries) came.mark (all_records came.entries order.records) (omega (arith, order.few, count)) (sym count) order.ends

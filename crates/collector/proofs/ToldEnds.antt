@@ -11,11 +11,7 @@ use Rattle.streams.specs.declared.frames.Mark.TheVariants.{Ended, Io}
 use Rattle.streams.specs.Marks.{IsMarked, IsBeginningOf}
 use Rattle.streams.specs.Reading.{IsFoundIn}
 use Rattle.streams.specs.Placing.{IsAt, IsPlaced, EachAt}
-
--- the mark of a book of a file, which is `Memory` if the file has none
-abbrev pub mark_or_memory : Option Mark → Mark
-mark_or_memory None = Ended ending.Memory
-mark_or_memory (Some mark) = mark
+pub use Rattle.collector.specs.Came.{mark_or_memory}
 
 -- one more of records in a row
 pub each_push : (fits : ℕ → List ℕ → Type 0) (first : ℕ) (records : List (List ℕ)) (bytes : List ℕ) → EachAt fits first records → fits (first + length records) bytes

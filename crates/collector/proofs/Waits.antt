@@ -3,7 +3,6 @@ use Rattle.std.proofs.Common.{◌≡◌, ◌≢◌, ℕ, ◌<◌, List, [], ◌�
 use Rattle.std.proofs.lemmas.Bool.{cases_eq}
 use Rattle.std.proofs.lemmas.List.{get_or_default, length-set}
 use Rattle.collector.specs.declared.waiting.Waiting.{Waiting}
-use Rattle.collector.specs.Came.{Came}
 use Rattle.collector.specs.Waits.{ChangesAt}
 
 -- one of those that wait
@@ -21,7 +20,7 @@ changes_both xs ys zs file first next both join p q = record {
 }
 
 -- what holds of each file on which `Q` holds
-pub after_change : (P : Waiting → Came → Type 0) (Q : ℕ → Type 0) (file : ℕ) (before after : List Waiting) (came next : ℕ → Came) (change : Waiting → Waiting → Type 0)
+pub after_change : {C : Type 0} (P : Waiting → C → Type 0) (Q : ℕ → Type 0) (file : ℕ) (before after : List Waiting) (came next : ℕ → C) (change : Waiting → Waiting → Type 0)
     → ChangesAt file change before after → ((other : ℕ) → other ≢ file → next other ≡ came other) → file < length before
     → (Q file → (w w' : Waiting) → change w w' → P w (came file) → P w' (next file))
     → ((k : ℕ) (other : Waiting) → Q k → k < length before → P (get_or before k other) (came k))

@@ -21,6 +21,11 @@ nothing = record { entries = []; mark = None }
 abbrev pub HasMark : Came → Type 0
 HasMark came = (mark : Mark) × (came.mark ≡ Some mark)
 
+-- the mark of a book of a file, which is `Memory` if the file has none
+abbrev pub mark_or_memory : Option Mark → Mark
+mark_or_memory None = Mark.Ended Ending.Memory
+mark_or_memory (Some mark) = mark
+
 -- one more entry has arrived of this file, and nothing of the others
 pub record HasEntryMore (file : ℕ) (entry : Entry) (before after : ℕ → Came) : Type 0 where
   pub here : after file ≡ record { entries = (before file).entries ++ entry ∷ []; mark = (before file).mark }

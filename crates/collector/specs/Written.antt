@@ -18,6 +18,13 @@ GivesUp failed Memory = failed ≡ false
 GivesUp failed LaneLost = failed ≡ false
 GivesUp failed Thread = ⊥
 
+-- the sink has failed exactly if a run of lanes failed for that
+abbrev pub HasFailedBy : Bool → RunFault SinkFault → Type 0
+HasFailedBy failed (Refused fault) = failed ≡ true
+HasFailedBy failed Memory = failed ≡ false
+HasFailedBy failed LaneLost = failed ≡ false
+HasFailedBy failed Thread = failed ≡ false
+
 -- the sink has not failed where all went well, and otherwise exactly if the message was refused for that
 pub record TellsFailure {A : Type 0} (failed : Bool) (result : Result A (RunFault SinkFault)) : Type 0 where
   pub stands : OnOk result (failed ≡ false)

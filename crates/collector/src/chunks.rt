@@ -48,7 +48,7 @@ impl Chunks {
     }
 
     /// The memory that the text holds, in bytes.
-    pub(crate) fn size(&self) -> usize {
+    pub fn size(&self) -> usize {
         self.size
     }
 
@@ -74,8 +74,12 @@ impl Chunks {
         Ok(room)
     }
 
-    /// Writes the text to the buffer and the sink.
-    pub(crate) fn put<S: Sink>(
+    /// Writes the text to the sink through the buffer.
+    ///
+    /// # Errors
+    ///
+    /// `Refused` exactly if the sink has then failed. There is no other error.
+    pub fn put<S: Sink>(
         &self,
         buffer: &mut TextBuffer,
         sink: &mut S,

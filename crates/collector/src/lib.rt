@@ -42,4 +42,5 @@ pub use streams::{
     write_frames,
 };
 pub use texts::Texts;
-pub use waiting::Waiting;
+pub use waiting::{Waiting, count_one, keep_line, keep_mark, none_come, take_lines};
+pub use writing::put;

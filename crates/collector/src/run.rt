@@ -7,8 +7,7 @@ ghost use Rattle.collector.specs.DrawnBooks.{AreDrawnBooks};
 
 use answers::{Answering, KeepEntries};
 use common::{Choice, DrawingKind};
-use lane_runs::{Run, run_lanes};
-use lanes::{Drafts, Gate, Opener, Pauses, RunFault};
+use lanes::{Drafts, Gate, Opener, Pauses, Run, RunFault, run_lanes};
 use reports::{Batch, Entry, MAX_FILES, books_of};
 use ruled_lanes::LANES;
 use std::alloc::Global;

@@ -20,7 +20,7 @@ pub struct Waiting {
 }
 
 /// The state of each of `files` files, of which nothing has arrived.
-pub(crate) fn none_come(alloc: Global, files: u32) -> Result<Vec<Waiting>, AllocError>
+pub fn none_come(alloc: Global, files: u32) -> Result<Vec<Waiting>, AllocError>
     ensures count { IfOk result (λ waiting. length waiting.items ≡ files) }
     ensures empty { IfOk result (λ waiting. All IsNothing waiting.items) }
 {
@@ -36,7 +36,7 @@ pub(crate) fn none_come(alloc: Global, files: u32) -> Result<Vec<Waiting>, Alloc
 }
 
 /// Counts one more entry of a file. `LaneLost` if there are too many to count.
-pub(crate) fn count_one(waiting: &mut Vec<Waiting>, file: u32) -> Result<(), RunFault<SinkFault>>
+pub fn count_one(waiting: &mut Vec<Waiting>, file: u32) -> Result<(), RunFault<SinkFault>>
     requires { file < length waiting.old.items }
     ensures count { length waiting.new.items ≡ length waiting.old.items }
     ensures counted { OnOk result (ChangesAt file IsCountedOne waiting.old.items waiting.new.items) }
@@ -53,7 +53,7 @@ pub(crate) fn count_one(waiting: &mut Vec<Waiting>, file: u32) -> Result<(), Run
 }
 
 /// Buffers a line of a file, and returns how many bytes of memory that took. `Memory` if there is no memory for it.
-pub(crate) fn keep_line(
+pub fn keep_line(
     alloc: Global,
     waiting: &mut Vec<Waiting>,
     file: u32,
@@ -72,7 +72,7 @@ pub(crate) fn keep_line(
 }
 
 /// Keeps the mark of a file, and returns true, if it has none yet and `count` of its entries have arrived.
-pub(crate) fn keep_mark(waiting: &mut Vec<Waiting>, file: u32, count: u32, mark: Mark) -> bool
+pub fn keep_mark(waiting: &mut Vec<Waiting>, file: u32, count: u32, mark: Mark) -> bool
     requires { file < length waiting.old.items }
     ensures count { length waiting.new.items ≡ length waiting.old.items }
     ensures kept { IsTrue result → ChangesAt file (GetsMark count mark) waiting.old.items waiting.new.items }
@@ -87,7 +87,7 @@ pub(crate) fn keep_mark(waiting: &mut Vec<Waiting>, file: u32, count: u32, mark:
 }
 
 /// Takes out the buffered lines of a file.
-pub(crate) fn take_lines(alloc: Global, waiting: &mut Vec<Waiting>, file: u32) -> Chunks
+pub fn take_lines(alloc: Global, waiting: &mut Vec<Waiting>, file: u32) -> Chunks
     requires { file < length waiting.old.items }
     ensures count { length waiting.new.items ≡ length waiting.old.items }
     ensures lines { (other : Waiting) → result ≡ (slice_index_or waiting.old.items file other).lines }

@@ -10,7 +10,11 @@ use std::alloc::Global;
 use streams::{Sink, SinkFault, SourceEnd, TextBuffer};
 
 /// Writes `text` to the sink through the buffer.
-pub(crate) fn put<S: Sink>(
+///
+/// # Errors
+///
+/// `Refused` exactly if the sink has then failed. There is no other error.
+pub fn put<S: Sink>(
     buffer: &mut TextBuffer,
     sink: &mut S,
     text: &[u8],

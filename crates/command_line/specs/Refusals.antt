@@ -2,12 +2,13 @@
 use Rattle.std.specs.Prelude.{⊤}
 use Rattle.streams.specs.declared.faults.BatchFault.TheVariants.{TooManyFiles, BadLanes}
 use Rattle.command_line.specs.declared.faults.Fault.{Fault}
-use Rattle.command_line.specs.declared.faults.Fault.TheVariants.{Memory, NotText, BadWaiting, Run, Write}
+use Rattle.command_line.specs.declared.faults.Fault.TheVariants.{Memory, NotText, BadWaiting, Terminal, Run, Write}
 
 -- the request is refused
 abbrev pub IsMisuse : Fault → Type 0
 IsMisuse (NotText argument) = ⊤
 IsMisuse BadWaiting = ⊤
+IsMisuse Terminal = ⊤
 IsMisuse (Run TooManyFiles) = ⊤
 IsMisuse (Run BadLanes) = ⊤
 IsMisuse (Run _) = ⊥

@@ -18,6 +18,9 @@ pub enum Fault {
     /// The value of `--waiting` is out of range.
     #[error("waiting must be 1 to 65536")]
     BadWaiting,
+    /// Records would be written to a terminal.
+    #[error("pick writes bytes, not text: redirect standard output to a file or a pipe")]
+    Terminal,
     /// The run failed.
     #[error(transparent)]
     Run(BatchFault),
@@ -37,6 +40,7 @@ impl Fault {
         match self {
             Fault::NotText(_)
             | Fault::BadWaiting
+            | Fault::Terminal
             | Fault::Run(BatchFault::TooManyFiles | BatchFault::BadLanes) => 2,
             Fault::Memory | Fault::Run(_) | Fault::Write(_) => 1,
         }

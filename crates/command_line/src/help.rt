@@ -11,6 +11,8 @@ Commands:
   layout  Lay out the graphs of planar_code files, and print a line for each
   frames  Print a line for each record of a planar_code file, and how the file ends
   check   Check drawings of the graphs of a planar_code file, and print their bends and the fewest possible
+  pick    Write the graphs of planar_code files that meet conditions, as planar_code
+  count   Count the graphs of planar_code files by vertices, edges, faces, bends or broken rule
   help    Print this message or the help of the given subcommand(s)
 
 Options:
@@ -21,6 +23,8 @@ Examples:
   planarbend layout examples/two.pc
   planarbend frames examples/two.pc
   planarbend check examples/two.pc examples/two.jsonl
+  planarbend pick --bends :25 examples/cubic60.pc > few.pc
+  planarbend count --by n,bends examples/planar_d4_n5.pc
 ";
 
 /// The help for the command `layout`.
@@ -29,16 +33,16 @@ pub const LAYOUT: &str = "Lay out the graphs of planar_code files, and print a l
 Usage: planarbend layout [OPTIONS] <FILE>...
 
 Arguments:
-  <FILE>...  Planar_code files, at most 256: the 15 bytes >>planar_code<< and then records; - is standard input
+  <FILE>...  Planar_code files (at most 256), each with the header >>planar_code<<; - is standard input
 
 Options:
       --lanes <N>       Number of files to process in parallel (1 to 8) [default: 1]
       --waiting <MB>    Pause later files once this many MB of their output are buffered (1 to 65536) [default: 64]
-      --outer <CHOICE>  Outer face: longest boundary (first) or fewest bends (best) [default: first] [possible \
+      --outer <CHOICE>  Outer face: most darts (first) or fewest bends (best) [default: first] [possible \
     values: first, best]
       --drawing <KIND>  Drawing in JSON output: short edges (the default), or quick to compute [possible values: \
     short, quick]
-      --json            Write JSON Lines, with shapes, dual prices and coordinates
+      --json            Write JSON Lines, with angles and bends, coordinates, and dual prices
       --progress...     Show progress on standard error if it is a terminal; repeat to force
   -h, --help            Print help
 
@@ -49,10 +53,12 @@ prints
   graph 1 ok n=2 m=1 f=1 bends=0 drawn=yes
   graph 2 ok n=3 m=3 f=2 bends=1 drawn=yes
   end complete graphs=2
-and from a generator
+
+With a generator (Debian: nauty-geng, nauty-planarg):
   geng -c -D4 8 | planarg -p | planarbend layout -
+
 With --json, each line is a JSON object: one for each graph, and one for each file's end.
-Exit status: 0 if every file was complete and every graph answered, otherwise 3.
+Exit status: 0 if every file is complete and memory ran out for no graph, otherwise 3. A refused graph is no error.
 ";
 
 /// The help for the command `frames`.
@@ -61,7 +67,7 @@ pub const FRAMES: &str = "Print a line for each record of a planar_code file, an
 Usage: planarbend frames <FILE>
 
 Arguments:
-  <FILE>  A planar_code file: the 15 bytes >>planar_code<< and then records; - is standard input
+  <FILE>  A planar_code file, with the header >>planar_code<<; - is standard input
 
 Options:
   -h, --help  Print help
@@ -72,7 +78,7 @@ prints
   record 1 n=2 bytes=5
   record 2 n=3 bytes=10
   end complete records=2
-Exit status: 0 if the file was complete, otherwise 3.
+Exit status: 0 if the file is complete, otherwise 3.
 ";
 
 /// The help for the command `check`.
@@ -82,7 +88,7 @@ pub const CHECK: &str =
 Usage: planarbend check [OPTIONS] <GRAPHS> <LINES>
 
 Arguments:
-  <GRAPHS>  A planar_code file: the 15 bytes >>planar_code<< and then records; - is standard input
+  <GRAPHS>  A planar_code file, with the header >>planar_code<<; - is standard input
   <LINES>   JSON Lines with the points of a drawing for each graph, as layout --json writes; - is standard input
 
 Options:
@@ -96,11 +102,86 @@ prints
   graph 1 ok bends=0 fewest=0
   graph 2 ok bends=1 fewest=1
   end complete graphs=2 surplus=0
-and of planarbend's own drawings
+
+To check planarbend's own drawings:
   planarbend layout --json examples/two.pc | planarbend check examples/two.pc -
-Exit status: 3 if a file was not complete or memory ran out for a graph; otherwise 4 if a drawing is not ok or a \
-    line has
-no graph; otherwise 0.
+Exit status: 3 if a file is not complete or memory ran out for a graph; otherwise 4 if a drawing is not ok or a line \
+    has
+no matching graph; otherwise 0.
+";
+
+/// The help for the command `pick`.
+pub const PICK: &str = "Write the graphs of planar_code files that meet conditions, as planar_code
+
+Usage: planarbend pick [OPTIONS] <FILE>...
+
+Arguments:
+  <FILE>...  Planar_code files (at most 256), each with the header >>planar_code<<; - is standard input
+
+Options:
+      --bends <RANGE>     Fewest bends
+      --rule <WORD>       First broken rule, or none [possible values: none, range, loop, multi, asymmetric, edgeless, \
+    degree, disconnected, genus]
+      --vertices <RANGE>  Number of vertices
+      --edges <RANGE>     Number of edges
+      --faces <RANGE>     Number of faces
+      --not               The graphs that do not meet all conditions
+      --outer <CHOICE>    Outer face: most darts (first) or fewest bends (best) [default: first] [possible values: \
+    first, best]
+      --lanes <N>         Number of files to process in parallel (1 to 8) [default: 1]
+      --waiting <MB>      Pause later files once this many MB of their records are buffered (1 to 65536) [default: 64]
+      --progress...       Show progress on standard error if it is a terminal; repeat to force
+  -h, --help              Print help
+
+Examples:
+  planarbend pick --bends :25 examples/cubic60.pc > few.pc
+  geng -c -D4 8 | planarg -p | planarbend pick --bends 0 - | planarbend layout --json -
+
+A range is A:B, A:, :B or A alone, with numbers from 0 to 4294967295.
+A refused graph has neither bends nor faces, and no edges if its rule is range, loop, multi or asymmetric: it meets no
+condition on what it does not have.
+The output is the header and the records of the graphs that meet all conditions, in their order.
+A graph for which memory ran out is neither written nor one of the others (--not).
+A file of planar_code has at most 1000000 records: planarbend reads no more of the output.
+Exit status: 0 if every file is complete and memory ran out for no graph, otherwise 3, and a line on standard error.
+";
+
+/// The help for the command `count`.
+pub const COUNT: &str = "Count the graphs of planar_code files by vertices, edges, faces, bends or broken rule
+
+Usage: planarbend count [OPTIONS] <FILE>...
+
+Arguments:
+  <FILE>...  Planar_code files (at most 256), each with the header >>planar_code<<; - is standard input
+
+Options:
+      --bends <RANGE>     Fewest bends
+      --rule <WORD>       First broken rule, or none [possible values: none, range, loop, multi, asymmetric, edgeless, \
+    degree, disconnected, genus]
+      --vertices <RANGE>  Number of vertices
+      --edges <RANGE>     Number of edges
+      --faces <RANGE>     Number of faces
+      --not               The graphs that do not meet all conditions
+      --by <COLUMNS>      Columns of the table: some of n,m,f,bends,rule, with commas between them
+      --outer <CHOICE>    Outer face: most darts (first) or fewest bends (best) [default: first] [possible values: \
+    first, best]
+      --lanes <N>         Number of files to process in parallel (1 to 8) [default: 1]
+      --progress...       Show progress on standard error if it is a terminal; repeat to force
+  -h, --help              Print help
+
+Example:
+  planarbend count --by n,bends examples/two.pc
+prints
+  n=2 bends=0 graphs=1
+  n=3 bends=1 graphs=1
+  total graphs=2
+
+A range is A:B, A:, :B or A alone, with numbers from 0 to 4294967295.
+A refused graph has neither bends nor faces, and no edges if its rule is range, loop, multi or asymmetric: it meets no
+condition on what it does not have.
+The table has a line for each combination of values that occurs, ascending. A missing number is -.
+A graph for which memory ran out is not counted.
+Exit status: 0 if every file is complete and memory ran out for no graph, otherwise 3, and a line on standard error.
 ";
 
 /// The help that arguments ask for: that for the command that is the first argument, or, if this is `help`, the second;
@@ -129,6 +210,8 @@ fn help_of(word: &str) -> &'static str
         _ if word == "layout" => LAYOUT,
         _ if word == "frames" => FRAMES,
         _ if word == "check" => CHECK,
+        _ if word == "pick" => PICK,
+        _ if word == "count" => COUNT,
         _ => PROGRAM,
     }
 }

@@ -1,18 +1,22 @@
 //! The command line: parsing of arguments, progress output, and the message and exit status of a fault.
 #![tactic(auto)]
 
+mod descriptions;
 mod fault_line;
 mod faults;
 mod help;
 mod progress;
 mod reading;
 mod request;
+mod selecting;
 mod terminal;
 
 pub use fault_line::write_fault;
 pub use faults::Fault;
 pub use help::help_text;
 pub use progress::{Console, Meter, Progress};
-pub use reading::{Keyword, Number, asks};
-pub use request::{CheckRequest, LayoutRequest, ParseFault, Request, parse};
+pub use reading::{Keyword, asks};
+pub use request::{
+    CheckRequest, CountRequest, LayoutRequest, ParseFault, PickRequest, Request, parse,
+};
 pub use terminal::{ErrorConsole, SharedTerminal};

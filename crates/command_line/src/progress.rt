@@ -1,5 +1,5 @@
 //! Progress output of a run.
-ghost use Rattle.std.specs.Prelude.{◌≡◌};
+ghost use Rattle.std.specs.Prelude.{◌≡◌, Bool};
 
 use lanes::{Gate, Stage};
 use named_sources::ShortLine;
@@ -33,7 +33,15 @@ impl Progress {
 }
 
 /// An output for lines of progress, usable from any thread, with a clock.
+///
+/// In proofs it is known of it whether the program's output, which is another one, is a terminal.
 pub trait Console {
+    ghost has_terminal: { Self → Bool };
+
+    /// Whether the program's output is a terminal.
+    fn out_is_terminal(&self) -> bool
+        ensures { result ≡ has_terminal self.now };
+
     /// Whether its last line can be overwritten.
     fn is_terminal(&self) -> bool;
 

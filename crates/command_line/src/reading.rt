@@ -2,8 +2,8 @@
 ghost use Rattle.std.specs.Prelude.{◌≡◌, ◌<◌, ◌≤◌, ◌↔◌, IfOk, codes, map, option_map, true};
 ghost use Rattle.std.specs.List.{count_by};
 ghost use Rattle.named_sources.specs.Naming as naming;
-ghost use Rattle.command_line.specs.Requests.{role_after, asks, asks_in, files_in, given_after, has_prefix, is_file, is_help, number_text, number_text_in};
-ghost use Rattle.command_line.specs.Requests.{AreValid, fit_from, fits, is_drawing, is_layout_option, is_of, is_of_with, is_option, is_option_of, is_outer, is_use, may_end, uses_in};
+ghost use Rattle.command_line.specs.Requests.{group_of, role_after, setting_of, value_role, asks, asks_in, files_in, given_after, has_prefix, is_file, is_help, prefix_of, setting_text, setting_text_in};
+ghost use Rattle.command_line.specs.Requests.{AreValid, fit_from, fits, is_condition, is_count_option, is_drawing, is_layout_option, is_of, is_of_with, is_option, is_option_of, is_outer, is_pick_option, is_use, may_end, uses_in};
 ghost use Rattle.command_line.specs.declared.reading.Role.{Role};
 
 use named_sources::is_input;
@@ -15,17 +15,20 @@ pub enum Role {
     /// The first argument: a command, or `--version`.
     Command,
     /// An option, a file, or the `--` after which all are files.
-    Any,
-    /// The value of `--lanes`.
-    Lanes,
-    /// The value of `--waiting`.
-    Waiting,
-    /// The value of `--outer`.
-    Outer,
-    /// The value of `--drawing`.
-    Drawing,
+    Any(Group),
+    /// The value of an option.
+    Value(Group, Setting),
     /// A file.
     File,
+}
+
+/// Commands by whether they select graphs: `--faces` has a value in those that do, and none in others.
+#[derive(Clone, Copy)]
+pub enum Group {
+    /// `pick` and `count`.
+    Selecting,
+    /// All others.
+    Other,
 }
 
 /// What arguments can ask for, besides files, numbers and progress output.
@@ -36,20 +39,29 @@ pub enum Keyword {
     Frames,
     Layout,
     Check,
+    Pick,
+    Count,
     Json,
     BestOuter,
     ShortDrawing,
     QuickDrawing,
     Faces,
+    Others,
 }
 
-/// An option whose value is a number.
+/// An option that has a value.
 #[derive(Clone, Copy)]
-pub enum Number {
-    /// The value of `--lanes`.
+pub enum Setting {
     Lanes,
-    /// The value of `--waiting`.
     Waiting,
+    Outer,
+    Drawing,
+    Vertices,
+    Edges,
+    Faces,
+    Bends,
+    Rule,
+    By,
 }
 
 impl Role {
@@ -58,13 +70,11 @@ impl Role {
         ensures { result ≡ role_after self word.now }
     {
         match self {
-            Role::Any if word == "--" => Role::File,
-            Role::Any if word == "--lanes" => Role::Lanes,
-            Role::Any if word == "--waiting" => Role::Waiting,
-            Role::Any if word == "--outer" => Role::Outer,
-            Role::Any if word == "--drawing" => Role::Drawing,
+            Role::Command => Role::Any(group_of(word)),
+            Role::Any(_) if word == "--" => Role::File,
+            Role::Any(group) => value_role(group, setting_of(group, word)),
+            Role::Value(group, _) => Role::Any(group),
             Role::File => Role::File,
-            _ => Role::Any,
         }
     }
 
@@ -73,7 +83,7 @@ impl Role {
         ensures { result ≡ is_file self word.now }
     {
         match self {
-            Role::Any => !has_prefix(word, b'-', b'-'),
+            Role::Any(_) => !has_prefix(word, b'-', b'-'),
             Role::File => true,
             _ => false,
         }
@@ -85,9 +95,9 @@ impl Role {
         ensures { result ≡ fits command self word.now }
     {
         match self {
-            Role::Any => word == "--" || !is_option(word) || is_option_of(command, word),
-            Role::Outer => is_outer(word),
-            Role::Drawing => is_drawing(word),
+            Role::Any(_) => word == "--" || !is_option(word) || is_option_of(command, word),
+            Role::Value(_, Setting::Outer) => is_outer(word),
+            Role::Value(_, Setting::Drawing) => is_drawing(word),
             _ => true,
         }
     }
@@ -96,7 +106,7 @@ impl Role {
     fn may_end(self) -> bool
         ensures { result ≡ may_end self }
     {
-        matches!(self, Role::Command | Role::Any | Role::File)
+        matches!(self, Role::Command | Role::Any(_) | Role::File)
     }
 
     /// Whether an argument in this role uses the option with this name.
@@ -104,7 +114,7 @@ impl Role {
         ensures { result ≡ is_use name.now self word.now }
     {
         match self {
-            Role::Any => is_of(name, word),
+            Role::Any(_) => is_of(name, word),
             _ => false,
         }
     }
@@ -118,14 +128,17 @@ impl Role {
             (Keyword::Frames, Role::Command) => word == "frames",
             (Keyword::Layout, Role::Command) => word == "layout",
             (Keyword::Check, Role::Command) => word == "check",
-            (Keyword::Json, Role::Any) => word == "--json",
-            (Keyword::BestOuter, Role::Any) => word == "--outer=best",
-            (Keyword::BestOuter, Role::Outer) => word == "best",
-            (Keyword::ShortDrawing, Role::Any) => word == "--drawing=short",
-            (Keyword::ShortDrawing, Role::Drawing) => word == "short",
-            (Keyword::QuickDrawing, Role::Any) => word == "--drawing=quick",
-            (Keyword::QuickDrawing, Role::Drawing) => word == "quick",
-            (Keyword::Faces, Role::Any) => word == "--faces",
+            (Keyword::Pick, Role::Command) => word == "pick",
+            (Keyword::Count, Role::Command) => word == "count",
+            (Keyword::Json, Role::Any(_)) => word == "--json",
+            (Keyword::BestOuter, Role::Any(_)) => word == "--outer=best",
+            (Keyword::BestOuter, Role::Value(_, Setting::Outer)) => word == "best",
+            (Keyword::ShortDrawing, Role::Any(_)) => word == "--drawing=short",
+            (Keyword::ShortDrawing, Role::Value(_, Setting::Drawing)) => word == "short",
+            (Keyword::QuickDrawing, Role::Any(_)) => word == "--drawing=quick",
+            (Keyword::QuickDrawing, Role::Value(_, Setting::Drawing)) => word == "quick",
+            (Keyword::Faces, Role::Any(_)) => word == "--faces",
+            (Keyword::Others, Role::Any(_)) => word == "--not",
             (Keyword::Help, Role::File) => false,
             (Keyword::Help, Role::Command) => word == "help" || is_help(word),
             (Keyword::Help, _) => is_help(word),
@@ -133,17 +146,72 @@ impl Role {
         }
     }
 
-    /// The text that an argument in this role gives for this number; `None` if it gives none.
-    fn number_text<'a>(self, number: Number, word: &'a str) -> Option<&'a str>
-        ensures { option_map (λ text. text.now) result ≡ number_text number self word.now }
+    /// The text that an argument in this role gives for this option; `None` if it gives none.
+    fn setting_text<'a>(self, setting: Setting, word: &'a str) -> Option<&'a str>
+        ensures { option_map (λ text. text.now) result ≡ setting_text setting self word.now }
     {
-        match (number, self) {
-            (Number::Lanes, Role::Lanes) => Some(word),
-            (Number::Waiting, Role::Waiting) => Some(word),
-            (Number::Lanes, Role::Any) => given_after("--lanes=", word),
-            (Number::Waiting, Role::Any) => given_after("--waiting=", word),
+        match self {
+            Role::Value(_, other) if prefix_of(setting) == prefix_of(other) => Some(word),
+            Role::Any(_) => given_after(prefix_of(setting), word),
             _ => None,
         }
+    }
+}
+
+/// The group of the command with this name.
+fn group_of(word: &str) -> Group
+    ensures { result ≡ group_of word.now }
+{
+    match word {
+        "pick" | "count" => Group::Selecting,
+        _ => Group::Other,
+    }
+}
+
+/// The option of this group of commands whose value is the argument after this one, if this is its name.
+fn setting_of(group: Group, word: &str) -> Option<Setting>
+    ensures { result ≡ setting_of group word.now }
+{
+    match (group, word) {
+        (_, "--lanes") => Some(Setting::Lanes),
+        (_, "--waiting") => Some(Setting::Waiting),
+        (_, "--outer") => Some(Setting::Outer),
+        (_, "--drawing") => Some(Setting::Drawing),
+        (_, "--vertices") => Some(Setting::Vertices),
+        (_, "--edges") => Some(Setting::Edges),
+        (_, "--bends") => Some(Setting::Bends),
+        (_, "--rule") => Some(Setting::Rule),
+        (_, "--by") => Some(Setting::By),
+        (Group::Selecting, "--faces") => Some(Setting::Faces),
+        _ => None,
+    }
+}
+
+/// The role of the argument after one that is the name of this option, or of none.
+fn value_role(group: Group, setting: Option<Setting>) -> Role
+    ensures { result ≡ value_role group setting }
+{
+    match setting {
+        Some(setting) => Role::Value(group, setting),
+        None => Role::Any(group),
+    }
+}
+
+/// What an argument begins with that has this option and its value.
+fn prefix_of(setting: Setting) -> &'static str
+    ensures { result.now ≡ prefix_of setting }
+{
+    match setting {
+        Setting::Lanes => "--lanes=",
+        Setting::Waiting => "--waiting=",
+        Setting::Outer => "--outer=",
+        Setting::Drawing => "--drawing=",
+        Setting::Vertices => "--vertices=",
+        Setting::Edges => "--edges=",
+        Setting::Faces => "--faces=",
+        Setting::Bends => "--bends=",
+        Setting::Rule => "--rule=",
+        Setting::By => "--by=",
     }
 }
 
@@ -178,7 +246,47 @@ fn is_option_of(command: Keyword, word: &str) -> bool
     match command {
         Keyword::Layout => is_layout_option(word),
         Keyword::Check => word == "--json" || word == "--faces",
+        Keyword::Pick => is_pick_option(word),
+        Keyword::Count => is_count_option(word),
         _ => false,
+    }
+}
+
+/// Whether an argument is an option of `pick`.
+fn is_pick_option(word: &str) -> bool
+    ensures { result ≡ is_pick_option word.now }
+{
+    match word {
+        _ if word == "--progress" => true,
+        _ if is_of("--lanes", word) => true,
+        _ if is_of("--waiting", word) => true,
+        _ => is_outer_option(word) || is_condition(word),
+    }
+}
+
+/// Whether an argument is an option of `count`.
+fn is_count_option(word: &str) -> bool
+    ensures { result ≡ is_count_option word.now }
+{
+    match word {
+        _ if word == "--progress" => true,
+        _ if is_of("--lanes", word) => true,
+        _ if is_of("--by", word) => true,
+        _ => is_outer_option(word) || is_condition(word),
+    }
+}
+
+/// Whether an argument is an option that sets a condition, or asks for the other graphs.
+fn is_condition(word: &str) -> bool
+    ensures { result ≡ is_condition word.now }
+{
+    match word {
+        _ if word == "--not" => true,
+        _ if is_of("--vertices", word) => true,
+        _ if is_of("--edges", word) => true,
+        _ if is_of("--faces", word) => true,
+        _ if is_of("--bends", word) => true,
+        _ => is_of("--rule", word),
     }
 }
 
@@ -235,6 +343,12 @@ pub fn are_valid(command: Keyword, words: &[String]) -> bool
         && is_once("--drawing", words)
         && is_once("--json", words)
         && is_once("--faces", words)
+        && is_once("--vertices", words)
+        && is_once("--edges", words)
+        && is_once("--bends", words)
+        && is_once("--rule", words)
+        && is_once("--by", words)
+        && is_once("--not", words)
 }
 
 /// Whether each argument fits this command, and no value is missing after them.
@@ -275,14 +389,14 @@ pub fn uses(name: &str, words: &[String]) -> usize
     count
 }
 
-/// The value of the first option that sets `number`, unparsed; `None` if no option does.
-pub fn number_text<'a>(number: Number, words: &'a [String]) -> Option<&'a str>
-    ensures { option_map (λ text. text.now) result ≡ number_text_in number words.now }
+/// The value of the first of these options, unparsed; `None` if there is none.
+pub fn setting_text<'a>(setting: Setting, words: &'a [String]) -> Option<&'a str>
+    ensures { option_map (λ text. text.now) result ≡ setting_text_in setting words.now }
 {
     let mut role = Role::Command;
     for word in words {
         let text = word.as_str();
-        if let Some(given) = role.number_text(number, text) {
+        if let Some(given) = role.setting_text(setting, text) {
             return Some(given);
         }
         role = role.role_after(text);

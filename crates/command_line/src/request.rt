@@ -8,11 +8,14 @@ ghost use Rattle.command_line.specs.declared.request.ParseFault.{ParseFault};
 ghost use Rattle.named_sources.specs.Naming as naming;
 ghost use Rattle.command_line.specs.Requests.{AreLanesIn, AsksNothing, HasWaiting, IsAskedBy, IsNumberOf, IsWaiting, IsWaitingIn, asks_in, drawing_in, files_in};
 
+use crate::descriptions::describe;
 use crate::progress::Progress;
-use crate::reading::{Keyword, Number, are_valid, asks, files_of, inputs_among, number_text, uses};
+use crate::reading::{Keyword, Setting, are_valid, asks, files_of, inputs_among, setting_text, uses};
+use crate::selecting::{columns_of, selection_of, value_fault};
+use clap::Error;
 use clap::error::ErrorKind;
-use clap::{Arg, ArgAction, Command, Error};
 use common::{Choice, DrawingKind};
+use picks::{Columns, Selection};
 use reports::{Form, Style};
 use std::alloc::{AllocError, Global};
 
@@ -25,6 +28,10 @@ pub enum Request<'a> {
     Layout(LayoutRequest<'a>),
     /// Verdicts on drawings (the command `check`).
     Check(CheckRequest<'a>),
+    /// The records of the graphs that are selected (the command `pick`).
+    Pick(PickRequest<'a>),
+    /// The numbers of the graphs that are selected (the command `count`).
+    Count(CountRequest<'a>),
 }
 
 /// The options and files of the command `layout`.
@@ -57,6 +64,40 @@ pub struct CheckRequest<'a> {
     pub faces: bool,
 }
 
+/// The options and files of the command `pick`.
+#[derive(Drop)]
+pub struct PickRequest<'a> {
+    /// The files, in order.
+    pub names: Vec<&'a str>,
+    /// The number of lanes that work on them.
+    pub lanes: u32,
+    /// The limit on buffered records of later files, in megabytes, from which on their reading pauses.
+    pub waiting: u32,
+    /// The rule by which the outer face of each plane is chosen.
+    pub choice: Choice,
+    /// The graphs that are selected.
+    pub selection: Selection,
+    /// Whether and where progress is shown.
+    pub progress: Progress,
+}
+
+/// The options and files of the command `count`.
+#[derive(Drop)]
+pub struct CountRequest<'a> {
+    /// The files, in order.
+    pub names: Vec<&'a str>,
+    /// The number of lanes that work on them.
+    pub lanes: u32,
+    /// The rule by which the outer face of each plane is chosen.
+    pub choice: Choice,
+    /// The graphs that are selected.
+    pub selection: Selection,
+    /// The columns of the table.
+    pub columns: Columns,
+    /// Whether and where progress is shown.
+    pub progress: Progress,
+}
+
 /// The reason why the arguments make no request.
 #[derive(Drop)]
 pub enum ParseFault {
@@ -74,8 +115,8 @@ pub enum ParseFault {
 
 /// Parses the arguments after the program's name into a request.
 ///
-/// A `layout` has at least one file, a `check` two, and both have standard input at most once. The number of lanes is
-/// not checked: one that is not a number is 0.
+/// A `layout`, a `pick` and a `count` have at least one file, a `check` two, and they have standard input at most once.
+/// The number of lanes is not checked: one that is not a number is 0.
 ///
 /// # Errors
 ///
@@ -131,7 +172,10 @@ fn why(alloc: Global, words: &[String]) -> Result<Option<Error>, Error> {
     if lacks_json(words) {
         return Ok(Some(program.error(ErrorKind::MissingRequiredArgument, DRAWING_ALONE)?));
     }
-    if asks(Keyword::Layout, words) && !is_waiting(waiting_of(words)) {
+    if let Some(message) = value_fault(alloc, words)? {
+        return Ok(Some(program.error(ErrorKind::ValueValidation, message.as_str())?));
+    }
+    if !is_waiting(waiting_of(words)) {
         return Ok(None);
     }
     // Clap refuses all other arguments that make no request, except some that ask for help.
@@ -155,6 +199,12 @@ fn request_of<'a>(words: &[String], files: Vec<&'a str>) -> Option<Request<'a>>
     }
     if asks(Keyword::Layout, words) {
         return layout_of(words, files);
+    }
+    if asks(Keyword::Pick, words) {
+        return pick_of(words, files);
+    }
+    if asks(Keyword::Count, words) {
+        return count_of(words, files);
     }
     None
 }
@@ -235,6 +285,61 @@ fn layout_of<'a>(words: &[String], files: Vec<&'a str>) -> Option<Request<'a>>
     }))
 }
 
+/// The request of arguments for `pick` that name these files.
+fn pick_of<'a>(words: &[String], files: Vec<&'a str>) -> Option<Request<'a>>
+    requires command { asks_in Keyword.Pick words.now ≡ true }
+    requires no_help { asks_in Keyword.Help words.now ≡ false }
+    requires files { map (λ file. file.now) files.items ≡ files_in words.now }
+    ensures some { IfSome result (IsAskedBy words.now) }
+    ensures none { IfNone result (AsksNothing words.now) }
+{
+    if !are_valid(Keyword::Pick, words) {
+        return None;
+    }
+    if !has_files(files.as_slice()) {
+        return None;
+    }
+    let waiting = waiting_of(words);
+    if !is_waiting(waiting) {
+        return None;
+    }
+    let selection = selection_of(words)?;
+    Some(Request::Pick(PickRequest {
+        names: files,
+        lanes: lanes_of(words),
+        waiting,
+        choice: choice_of(words),
+        selection,
+        progress: Progress::of_count(uses("--progress", words)),
+    }))
+}
+
+/// The request of arguments for `count` that name these files.
+fn count_of<'a>(words: &[String], files: Vec<&'a str>) -> Option<Request<'a>>
+    requires command { asks_in Keyword.Count words.now ≡ true }
+    requires no_help { asks_in Keyword.Help words.now ≡ false }
+    requires files { map (λ file. file.now) files.items ≡ files_in words.now }
+    ensures some { IfSome result (IsAskedBy words.now) }
+    ensures none { IfNone result (AsksNothing words.now) }
+{
+    if !are_valid(Keyword::Count, words) {
+        return None;
+    }
+    if !has_files(files.as_slice()) {
+        return None;
+    }
+    let selection = selection_of(words)?;
+    let columns = columns_of(setting_text(Setting::By, words))?;
+    Some(Request::Count(CountRequest {
+        names: files,
+        lanes: lanes_of(words),
+        choice: choice_of(words),
+        selection,
+        columns,
+        progress: Progress::of_count(uses("--progress", words)),
+    }))
+}
+
 /// Whether there are files, of which at most one is standard input.
 fn has_files(files: &[&str]) -> bool
     ensures { (result ≡ true) ↔ ((0 < length files.now) × (count_by naming.is_input (map (λ file. file.now) files.now) ≤ 1)) }
@@ -275,14 +380,14 @@ fn two_files<'a>(files: &[&'a str]) -> Option<(&'a str, &'a str)>
 fn lanes_of(words: &[String]) -> u32
     ensures { AreLanesIn words.now result }
 {
-    number_or(1, number_text(Number::Lanes, words))
+    number_or(1, setting_text(Setting::Lanes, words))
 }
 
 /// The limit on buffered text that the arguments ask for, in megabytes; 0 if it is not a number.
 fn waiting_of(words: &[String]) -> u32
     ensures { IsWaitingIn words.now result }
 {
-    number_or(64, number_text(Number::Waiting, words))
+    number_or(64, setting_text(Setting::Waiting, words))
 }
 
 /// The number that `text` contains, 0 if it is not a number; `otherwise` if there is no text.
@@ -349,72 +454,6 @@ fn drawing_of(words: &[String]) -> DrawingKind
     }
 }
 
-/// The definition of the command line for clap, which tells why arguments are refused.
-fn describe<'a>(alloc: Global) -> Result<Command<'a>, AllocError> {
-    describe_program(alloc)?
-        .subcommand(describe_layout(alloc)?)?
-        .subcommand(describe_frames(alloc)?)?
-        .subcommand(describe_check(alloc)?)
-}
-
-/// The program's name and the options that stand before a command.
-fn describe_program<'a>(alloc: Global) -> Result<Command<'a>, AllocError> {
-    Command::new(alloc, "planarbend")
-        .bin_name("planarbend")?
-        .no_binary_name(true)
-        .subcommand_required(true)
-        .arg(flag(alloc, "version"))
-}
-
-/// The command `layout` with its options.
-fn describe_layout<'a>(alloc: Global) -> Result<Command<'a>, AllocError> {
-    Command::new(alloc, "layout")
-        .arg(valued(alloc, "lanes", "N").allow_hyphen_values(true))?
-        .arg(valued(alloc, "waiting", "MB").allow_hyphen_values(true))?
-        .arg(valued(alloc, "outer", "CHOICE").value_parser(OUTER))?
-        .arg(valued(alloc, "drawing", "KIND").value_parser(DRAWING))?
-        .arg(flag(alloc, "json"))?
-        .arg(flag(alloc, "progress").action(ArgAction::Count))?
-        .arg(layout_files(alloc))
-}
-
-/// The option with this name that has no value.
-fn flag<'a>(alloc: Global, name: &'a str) -> Arg<'a> {
-    Arg::new(alloc, name).long(name).action(ArgAction::SetTrue)
-}
-
-/// The option with this name that has a value, which messages call `value`.
-fn valued<'a>(alloc: Global, name: &'a str, value: &'a str) -> Arg<'a> {
-    Arg::new(alloc, name).long(name).value_name(value)
-}
-
-/// The files of `layout`: one or more.
-fn layout_files<'a>(alloc: Global) -> Arg<'a> {
-    Arg::new(alloc, "FILE")
-        .required(true)
-        .num_args(1..)
-        .action(ArgAction::Append)
-}
-
-/// The command `frames`, with one file.
-fn describe_frames<'a>(alloc: Global) -> Result<Command<'a>, AllocError> {
-    Command::new(alloc, "frames").arg(file_of(alloc, "FILE"))
-}
-
-/// The command `check`, with a file of graphs and one of lines.
-fn describe_check<'a>(alloc: Global) -> Result<Command<'a>, AllocError> {
-    Command::new(alloc, "check")
-        .arg(flag(alloc, "json"))?
-        .arg(flag(alloc, "faces"))?
-        .arg(file_of(alloc, "GRAPHS"))?
-        .arg(file_of(alloc, "LINES"))
-}
-
-/// The argument with this name, which is one file.
-fn file_of<'a>(alloc: Global, name: &'a str) -> Arg<'a> {
-    Arg::new(alloc, name).required(true).action(ArgAction::Set)
-}
-
 /// The maximum limit on buffered text, in megabytes.
 const GREATEST_WAITING: u32 = 65_536;
 
@@ -423,9 +462,3 @@ const DRAWING_ALONE: &str = "--drawing needs --json: the report has no drawings"
 
 /// The error message for standard input named twice.
 const INPUT_TWICE: &str = "'-' (standard input) may be given only once";
-
-/// The values of `--outer`.
-const OUTER: &[&str] = &["first", "best"];
-
-/// The values of `--drawing`.
-const DRAWING: &[&str] = &["short", "quick"];

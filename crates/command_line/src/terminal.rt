@@ -22,21 +22,30 @@ enum LastLine {
 pub struct ErrorConsole<R, E> {
     rt: R,
     err: E,
+    /// Whether the program's output is a terminal.
+    out_is_terminal: bool,
     last: Mutex<LastLine>,
 }
 
 impl<R: Clock + Wait, E: io::Write + IsTerminal + Copy> ErrorConsole<R, E> {
-    /// A console on which nothing is shown yet.
-    pub fn new(rt: R, err: E) -> ErrorConsole<R, E> {
+    /// A console on which nothing is shown yet, of a program whose output is a terminal or not.
+    pub fn new(rt: R, err: E, out_is_terminal: bool) -> ErrorConsole<R, E> {
         ErrorConsole {
             rt,
             err,
+            out_is_terminal,
             last: Mutex::new(LastLine::Empty),
         }
     }
 }
 
 impl<R: Clock + Wait, E: io::Write + IsTerminal + Copy> Console for ErrorConsole<R, E> {
+    ghost has_terminal = { λ c. c.out_is_terminal };
+
+    fn out_is_terminal(&self) -> bool {
+        self.out_is_terminal
+    }
+
     fn is_terminal(&self) -> bool {
         self.err.is_terminal()
     }
@@ -78,16 +87,12 @@ impl<'c, W: io::Write, R: Clock + Wait, E: io::Write + IsTerminal + Copy> Shared
     R,
     E,
 > {
-    /// A writer that shares the terminal of this console, if both are terminals.
-    pub fn new(
-        writer: W,
-        is_terminal: bool,
-        console: &'c ErrorConsole<R, E>,
-    ) -> SharedTerminal<'c, W, R, E> {
+    /// A writer to the program's output, which shares the terminal of this console, if both are terminals.
+    pub fn new(writer: W, console: &'c ErrorConsole<R, E>) -> SharedTerminal<'c, W, R, E> {
         SharedTerminal {
             writer,
             console,
-            is_shared: is_terminal && console.is_terminal(),
+            is_shared: console.out_is_terminal && console.is_terminal(),
         }
     }
 }

@@ -1,7 +1,7 @@
 -- Lanes that print lines take the files whose meaning they know.
 use Rattle.std.proofs.Common.{◌≡◌, ℕ, sym, subst}
 use Rattle.lanes.specs.Opening.{Meaning, IsPlacedAt, IsEndAt}
-use Rattle.lane_runs.specs.Accepting.{AcceptsFiles}
+use Rattle.lanes.specs.Accepting.{AcceptsFiles}
 
 pub accepts_known : (known meaning : ℕ → Meaning) → known ≡ meaning
     → AcceptsFiles (λ file place bytes. IsPlacedAt (known file) place bytes) (λ file count mark. IsEndAt (known file) count mark) meaning

@@ -46,6 +46,7 @@ refusable_run (Fault.Write fault) of many lanes is = absurd is
 refusable_run Fault.Memory of many lanes is = absurd is
 refusable_run (Fault.NotText argument) of many lanes is = absurd of
 refusable_run Fault.BadWaiting of many lanes is = absurd of
+refusable_run Fault.Terminal of many lanes is = absurd of
 
 -- lanes fail for nothing that was asked of the run
 pub asked_well : (fault : RunFault SinkFault) → IsMisuse (fault_of fault) → ⊥

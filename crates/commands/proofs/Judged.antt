@@ -3,7 +3,7 @@ use Rattle.std.proofs.Common.{ℕ, Bool, String, List, Option, Global}
 use Rattle.lanes.specs.Opening.{Meaning}
 use Rattle.command_line.specs.Requests.{IsAskedBy}
 use Rattle.command_line.specs.declared.request.Request.{Request}
-use Rattle.command_line.specs.declared.request.Request.TheVariants.{Frames, Layout, Check}
+use Rattle.command_line.specs.declared.request.Request.TheVariants.{Frames, Layout, Check, Pick, Count}
 use Rattle.commands.specs.Statuses.{IsJudged, IsJudgedFor}
 
 -- a request with this status is one of verdicts
@@ -12,3 +12,5 @@ pub judged_for : (files : List ℕ → Meaning) (words : List (String Global)) (
 judged_for files words (Frames name) old new failed asked is = absurd is
 judged_for files words (Layout layout) old new failed asked is = absurd is
 judged_for files words (Check check) old new failed asked is = (check, asked, is)
+judged_for files words (Pick pick) old new failed asked is = absurd is
+judged_for files words (Count count) old new failed asked is = absurd is

@@ -1,3 +1,6 @@
+pub mod PickFaults
+pub mod FlawTexts
+pub mod Picking
 pub mod Layouts
 pub mod FaultStatus
 pub mod ReportBegun

@@ -1,2 +1,3 @@
+pub mod FlawLines
 pub mod Statuses
 pub mod TextRuns

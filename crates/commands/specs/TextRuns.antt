@@ -4,13 +4,11 @@ use Rattle.common.specs.declared.choice.Choice.{Choice}
 use Rattle.ruled_lanes.specs.declared.limits.TheConstants.{LANES}
 use Rattle.streams.specs.declared.faults.BatchFault.TheVariants.{TooManyFiles, BadLanes}
 use Rattle.streams.specs.declared.faults.WriteFault.TheVariants as write
-use Rattle.streams.specs.declared.output.SinkFault.{SinkFault}
-use Rattle.lanes.specs.declared.fault.RunFault.{RunFault}
-use Rattle.lanes.specs.declared.fault.RunFault.TheVariants.{Memory, LaneLost, Thread, Refused}
 use Rattle.lanes.specs.Opening.{Meaning}
 use Rattle.reports.specs.declared.limits.TheConstants.{MAX_FILES}
 use Rattle.streams.specs.declared.form.Form.{Form}
 pub use Rattle.collector.specs.Whole.{IsBegun}
+pub use Rattle.collector.specs.Written.{HasFailedBy}
 use Rattle.collector.specs.Whole.{IsAllWritten}
 use Rattle.command_line.specs.declared.faults.Fault.{Fault}
 use Rattle.command_line.specs.declared.faults.Fault.TheVariants.{Run, Write}
@@ -21,13 +19,6 @@ abbrev pub IsOfTextRun : Fault → Type 0
 IsOfTextRun (Run fault) = ⊤
 IsOfTextRun (Write write.Write) = ⊤
 IsOfTextRun _ = ⊥
-
--- the sink has failed exactly if a run of lanes failed for that
-abbrev pub HasFailedBy : Bool → RunFault SinkFault → Type 0
-HasFailedBy failed (Refused fault) = failed ≡ true
-HasFailedBy failed Memory = failed ≡ false
-HasFailedBy failed LaneLost = failed ≡ false
-HasFailedBy failed Thread = failed ≡ false
 
 -- What a run over this many files, which mean this, leaves on this many lanes in a sink, which was `old` and is `new`,
 -- of which these bytes are taken and which may have failed.

@@ -8,8 +8,7 @@ ghost use Rattle.commands.specs.Statuses.{IsTextOfBooks, IsBegunTextOfBooks};
 
 use crate::text::TextRun;
 use command_line::{Console, Fault, LayoutRequest, Meter};
-use lane_runs::Run;
-use lanes::Pauses;
+use lanes::{Pauses, Run};
 use named_sources::{FileNotes, FileOpener, NamedFiles};
 use ruled_lanes::MAX_CAPACITY;
 use std::sync::Wait;

@@ -3,9 +3,13 @@
 #![tactic(auto)]
 
 mod check_run;
+mod count;
+mod flaw_lines;
 mod layout;
+mod pick;
 mod process;
 mod program;
+mod runs;
 mod text;
 mod version;
 

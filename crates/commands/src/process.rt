@@ -2,7 +2,7 @@
 ghost use Rattle.std.specs.Prelude.{◌≡◌, ◌≤◌, ◌⊎◌, List, String, false};
 ghost use Rattle.std.specs.Process.{exit_status};
 ghost use Rattle.std.specs.declared.alloc.Global.{Global};
-ghost use Rattle.commands.specs.Statuses.{IsOutcome};
+ghost use Rattle.commands.specs.Statuses.{IsOutcome, error_output};
 
 use crate::program::command;
 use command_line::{Console, Fault, write_fault};
@@ -34,7 +34,8 @@ pub fn run<
 
     // For some arguments all that `command` promises holds; or the arguments could not be read, and nothing is written.
     ensures outcome { ((words : List (String Global))
-        × IsOutcome (N.meaning files.now) words S.taken S.failed out.old out.new (exit_status result))
+        × IsOutcome (N.meaning files.now) words (C.has_terminal console.now)
+        (error_output (E.taken err.old) (E.taken err.new) (E.failed err.new)) S.taken S.failed out.old out.new (exit_status result))
         ⊎ (((exit_status result ≡ 1) ⊎ (exit_status result ≡ 2)) × (out.new ≡ out.old)) }
 {
     match arguments(rt) {

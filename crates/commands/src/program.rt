@@ -1,5 +1,5 @@
 //! The program as a function of its arguments.
-ghost use Rattle.std.specs.Prelude.{◌≡◌, ◌<◌, ◌≤◌, ◌⊎◌, ℕ, List, length, vec_len, true, false, IfOk, IfErr, OnErr};
+ghost use Rattle.std.specs.Prelude.{◌≡◌, ◌<◌, ◌≤◌, ◌⊎◌, ℕ, List, length, vec_len, true, false, Err, IfOk, IfErr, OnErr};
 ghost use Rattle.std.specs.Borrow.{Bor};
 ghost use Rattle.common.specs.declared.choice.Choice.{Choice};
 ghost use Rattle.streams.specs.declared.form.Form.{Form};
@@ -12,19 +12,26 @@ ghost use Rattle.clap.specs.declared.error.kind.ErrorKind.{ErrorKind};
 ghost use Rattle.command_line.specs.declared.reading.Keyword.{Keyword};
 ghost use Rattle.command_line.specs.declared.request.Request.{Request};
 ghost use Rattle.command_line.specs.declared.request.CheckRequest.{CheckRequest};
+ghost use Rattle.command_line.specs.declared.request.PickRequest.{PickRequest};
+ghost use Rattle.command_line.specs.declared.request.CountRequest.{CountRequest};
+ghost use Rattle.commands.specs.Statuses.{IsTextOfPicked, IsTextOfCounted, IsBegunTextOfPicked, IsBegunTextOfCounted, IsOfRecords, IsTooMuch, error_output};
 ghost use Rattle.commands.specs.Statuses.{IsTextOfRecords, IsTextOfBooks, IsTextOfChecked, IsDone, IsDoneFor, IsBegunTextOfBooks, IsBegunTextOfRecords, IsBegunToBeDone, IsJudged, IsJudgedFor, IsHelped, IsPrinted, IsRefusable, version_text};
 ghost use Rattle.command_line.specs.Requests.{IsAskedBy, asks_in};
 
 use crate::check_run::check;
+use crate::count::count;
+use crate::flaw_lines::write_flaws;
 use crate::layout::layout;
+use crate::pick::pick;
 use crate::version::VERSION;
 use clap::Error;
 use clap::error::ErrorKind;
 use command_line::{
-    Console, Fault, Keyword, LayoutRequest, Meter, ParseFault, Request, asks, help_text, parse,
-    write_fault,
+    Console, CountRequest, Fault, Keyword, LayoutRequest, Meter, ParseFault, PickRequest, Request,
+    asks, help_text, parse, write_fault,
 };
 use named_sources::{FileNotes, KeepsReason, NamedFiles, Reason, open_source};
+use picks::status_of_flaws;
 use reports::status_of;
 use std::alloc::{AllocError, Global};
 use std::sync::Wait;
@@ -53,9 +60,13 @@ pub fn command<
     ensures failed_write { S.failed out.new ≡ true → result ≡ 1 }
 
     // If the command line is refused, nothing is written, and each request that the arguments ask for is one of too many
-    // files, or of no lanes or too many.
+    // files, or of no lanes or too many, or of records on a terminal.
     ensures refused { result ≡ 2 → out.new ≡ out.old }
-    ensures refusable { result ≡ 2 → (request : Request) → IsAskedBy words.now request → IsRefusable request }
+    ensures refusable { result ≡ 2 → (request : Request) → IsAskedBy words.now request → IsRefusable (C.has_terminal console.now) request }
+
+    // No records are written to a terminal.
+    ensures for_terminal { C.has_terminal console.now ≡ true → asks_in Keyword.Pick words.now ≡ true
+        → asks_in Keyword.Help words.now ≡ false → (out.new ≡ out.old) × ((result ≡ 1) ⊎ (result ≡ 2)) }
 
     // With status 3 the text is whole: of a file that does not end complete, or of files of which one does not or lacks
     // an answer because memory ran out, or of verdicts that are not about all graphs and lines.
@@ -66,7 +77,13 @@ pub fn command<
         × IsTextOfBooks choice form (meanings_in (N.meaning files.now) names) (length names)
         (S.taken out.old) (S.taken out.new) (S.failed out.new) 3)
         ⊎ ((asked : CheckRequest)
-        × IsTextOfChecked (N.meaning files.now) asked (S.taken out.old) (S.taken out.new) (S.failed out.new) 3) }
+        × IsTextOfChecked (N.meaning files.now) asked (S.taken out.old) (S.taken out.new) (S.failed out.new) 3)
+        ⊎ ((asked : PickRequest)
+        × IsTextOfPicked (N.meaning files.now) asked (error_output (E.taken err.old) (E.taken err.new) (E.failed err.new))
+        (S.taken out.old) (S.taken out.new) (S.failed out.new) 3)
+        ⊎ ((asked : CountRequest)
+        × IsTextOfCounted (N.meaning files.now) asked (error_output (E.taken err.old) (E.taken err.new) (E.failed err.new))
+        (S.taken out.old) (S.taken out.new) (S.failed out.new) 3) }
 
     // If the first argument is `--version`, the version is printed.
     ensures version { asks_in Keyword.Version words.now ≡ true
@@ -81,7 +98,8 @@ pub fn command<
     // With status 0 and 3 the output is the version, or help, or the text of all files that the arguments name, as they
     // ask for it, each of what the file with its name gives. Arguments that ask for help ask for no such text.
     ensures done { (result ≡ 0) ⊎ (result ≡ 3)
-        → IsDoneFor (N.meaning files.now) words.now (S.taken out.old) (S.taken out.new) (S.failed out.new) result }
+        → IsDoneFor (N.meaning files.now) words.now (error_output (E.taken err.old) (E.taken err.new) (E.failed err.new))
+        (S.taken out.old) (S.taken out.new) (S.failed out.new) result }
 
     // Status 4 is that of `check` alone: the text of the verdicts on the two files that the arguments name is whole, and
     // some drawing is not ok, or a line has no graph.
@@ -126,9 +144,12 @@ fn perform<
     ensures in_range { result ≤ 4 }
     ensures failed_write { S.failed out.new ≡ true → result ≡ 1 }
     ensures refused { result ≡ 2 → out.new ≡ out.old }
-    ensures refusable { result ≡ 2 → IsRefusable request.entry }
+    ensures refusable { result ≡ 2 → IsRefusable (C.has_terminal console.now) request.entry }
+    ensures for_terminal { C.has_terminal console.now ≡ true → IsOfRecords request.entry
+        → (out.new ≡ out.old) × (result ≡ 2) }
     ensures done { (result ≡ 0) ⊎ (result ≡ 3)
-        → IsDone (N.meaning files.now) request.entry (S.taken out.old) (S.taken out.new) (S.failed out.new) result }
+        → IsDone (N.meaning files.now) request.entry (error_output (E.taken err.old) (E.taken err.new) (E.failed err.new))
+        (S.taken out.old) (S.taken out.new) (S.failed out.new) result }
     ensures judged { result ≡ 4
         → IsJudged (N.meaning files.now) request.entry (S.taken out.old) (S.taken out.new) (S.failed out.new) }
     ensures begun { result ≡ 1
@@ -139,6 +160,8 @@ fn perform<
         Request::Frames { name } => frames(rt, name, files, out, err),
         Request::Layout(asked) => lay_out(rt, &asked, files, console, out, err),
         Request::Check(asked) => check(rt, asked, files, out, err),
+        Request::Pick(asked) => pick_records(rt, &asked, files, console, out, err),
+        Request::Count(asked) => count_graphs(rt, &asked, files, console, out, err),
     };
     match outcome {
         Ok(status) => status,
@@ -181,6 +204,83 @@ fn lay_out<
     let status = outcome?;
     notes.write(rt.alloc(), names, err);
     Ok(status)
+}
+
+/// Writes the records that are selected, the progress, and the lines about files, unless the output is a terminal. Returns
+/// the exit status.
+fn pick_records<
+    R: AllocGlobal + Threads + Wait + Sync,
+    N: NamedFiles,
+    C: Console + Sync,
+    S: Sink,
+    E: Sink,
+>(
+    rt: &R,
+    asked: &PickRequest<'_>,
+    files: &N,
+    console: &C,
+    out: &mut S,
+    err: &mut E,
+) -> Result<u8, Fault>
+    requires out_is_intact { S.failed out.old ≡ false }
+    requires err_is_intact { E.failed err.old ≡ false }
+    ensures written { IfOk result (IsTextOfPicked (N.meaning files.now) asked.now (error_output (E.taken err.old) (E.taken err.new) (E.failed err.new))
+        (S.taken out.old) (S.taken out.new) (S.failed out.new)) }
+    ensures begun { OnErr result ((out.new ≡ out.old) ⊎ IsBegunTextOfPicked (N.meaning files.now) asked.now (S.taken out.old) (S.taken out.new)) }
+    ensures refusable { IfErr result (λ fault. IsMisuse fault
+        → (C.has_terminal console.now ≡ true) ⊎ IsTooMuch (vec_len asked.now.names) asked.now.lanes) }
+    ensures for_terminal { C.has_terminal console.now ≡ true → result ≡ Err Fault.Terminal }
+    ensures unopened { C.has_terminal console.now ≡ true → out.new ≡ out.old }
+    ensures refused { IfErr result (λ fault. IsMisuse fault → out.new ≡ out.old) }
+    ensures intact { OnErr result (E.failed err.new ≡ false) }
+{
+    if console.out_is_terminal() {
+        return Err(Fault::Terminal);
+    }
+    let names = asked.names.as_slice();
+    let notes = FileNotes::new(rt.alloc(), names.len())?;
+    let meter = Meter::new(console, asked.progress, names.len());
+    let outcome = pick(rt, asked, files, &meter, &notes, out);
+    meter.finish();
+    let flaws = outcome?;
+    let flaws = flaws.as_slice();
+    write_flaws(rt.alloc(), names, flaws, &notes, err);
+    Ok(status_of_flaws(flaws))
+}
+
+/// Writes the table of the graphs that are selected, the progress, and the lines about files. Returns the exit status.
+fn count_graphs<
+    R: AllocGlobal + Threads + Wait + Sync,
+    N: NamedFiles,
+    C: Console + Sync,
+    S: Sink,
+    E: Sink,
+>(
+    rt: &R,
+    asked: &CountRequest<'_>,
+    files: &N,
+    console: &C,
+    out: &mut S,
+    err: &mut E,
+) -> Result<u8, Fault>
+    requires out_is_intact { S.failed out.old ≡ false }
+    requires err_is_intact { E.failed err.old ≡ false }
+    ensures written { IfOk result (IsTextOfCounted (N.meaning files.now) asked.now (error_output (E.taken err.old) (E.taken err.new) (E.failed err.new))
+        (S.taken out.old) (S.taken out.new) (S.failed out.new)) }
+    ensures begun { OnErr result ((out.new ≡ out.old) ⊎ IsBegunTextOfCounted (N.meaning files.now) asked.now (S.taken out.old) (S.taken out.new)) }
+    ensures refusable { IfErr result (λ fault. IsMisuse fault → IsTooMuch (vec_len asked.now.names) asked.now.lanes) }
+    ensures refused { IfErr result (λ fault. IsMisuse fault → out.new ≡ out.old) }
+    ensures intact { OnErr result (E.failed err.new ≡ false) }
+{
+    let names = asked.names.as_slice();
+    let notes = FileNotes::new(rt.alloc(), names.len())?;
+    let meter = Meter::new(console, asked.progress, names.len());
+    let outcome = count(rt, asked, files, &meter, &notes, out);
+    meter.finish();
+    let flaws = outcome?;
+    let flaws = flaws.as_slice();
+    write_flaws(rt.alloc(), names, flaws, &notes, err);
+    Ok(status_of_flaws(flaws))
 }
 
 /// Writes the message of a fault, and returns its exit status. The reason is that of the output, if it failed.

@@ -5,15 +5,14 @@ ghost use Rattle.reports.specs.declared.limits.TheConstants.{MAX_FILES};
 ghost use Rattle.lanes.specs.Notes.{Note};
 ghost use Rattle.lanes.specs.Files.{AreToldWhole};
 ghost use Rattle.lanes.specs.Faults.{HoldsOnFault};
-ghost use Rattle.lane_runs.specs.Accepting.{AcceptsFiles};
+ghost use Rattle.lanes.specs.Accepting.{AcceptsFiles};
 ghost use Rattle.collector.specs.Whole.{IsAllWritten, IsBegun};
 ghost use Rattle.commands.specs.TextRuns.{HasFailedBy, IsStreamed};
 
 use collector::{KnownFiles, Lines, Pace, Texts, line_lanes};
 use command_line::Fault;
 use common::Choice;
-use lane_runs::{LaneKind, Run, run_lanes};
-use lanes::{Consumer, Gate, Opener, Pauses, RunFault};
+use lanes::{Consumer, Gate, LaneKind, Opener, Pauses, Run, RunFault, run_lanes};
 use reports::{MAX_FILES, Style};
 use ruled_lanes::LANES;
 use std::alloc::Global;

@@ -2,7 +2,7 @@
 
 ghost use Rattle.std.specs.Prelude.{◌≡◌, ◌≢◌, ◌+◌, ◌*◌, length, slice_index, Some, None, IsTrue, IfOk, IfErr, OnOk, ℕ, ◌<◌, ◌≤◌};
 ghost use Rattle.ortho_rep.specs.declared.points.TheConstants.{MAX_COORDINATE};
-ghost use Rattle.compact.specs.Monotone.{IsAlong, AreAlong, AreLeastOnAxis, IsAxisFault, IsCompactFault, growth, across};
+ghost use Rattle.compact.specs.Monotone.{IsAlong, AreAlong, AreLeastOnAxis, IsAxisFault, IsCompactFault, growth};
 ghost use Rattle.compact.specs.Neighbours.{neighbour, AreNeighbours, HasNeighbours, AreUnder};
 ghost use Rattle.dissect.specs.DartMaps.{IsSound};
 ghost use Rattle.geometry.specs.Directions.{quarters};
@@ -100,21 +100,6 @@ fn are_along(boxes: &Boxes, around: &[u32], x: &[u16], y: &[u16]) -> bool
     true
 }
 
-/// The neighbours of each vertex by their directions along an axis. Directions are numbered from east.
-#[inline(always)]
-fn neighbours_along(around: &[u32], axis: Axis) -> Neighbours<'_>
-    ensures around { result.around.now ≡ around.now }
-    ensures ahead { (result.ahead < 4) × (result.ahead ≡ growth axis) }
-    ensures left { (result.left < 4) × (result.left ≡ across axis) }
-    ensures right { result.right < 4 }
-    ensures back { result.back < 4 }
-{
-    match axis {
-        Axis::X => Neighbours::east(around),
-        Axis::Y => Neighbours::north(around),
-    }
-}
-
 /// Coordinates that are nowhere above any that grow along the darts of an axis: the lengths of longest
 /// paths, found segment by segment, in the buffer of a list. `around` has the neighbours of each
 /// vertex. Linear in the vertices, if all faces are boxes. It is inlined, so that the directions of an axis are
@@ -139,7 +124,7 @@ fn low_along(
     }
     raise_to_longest_paths(
         segments.as_mut_slice(),
-        neighbours_along(around, axis),
+        Neighbours::along(around, axis),
         u32::from(boxes.old_vertices()),
         &mut coordinates,
     );
@@ -160,9 +145,7 @@ fn relaxed_along(
     ensures along { IfOk result (λ coordinates. AreLeastOnAxis boxes.now (growth axis) coordinates.items) }
     ensures fault { IfErr result (IsAxisFault boxes.now (growth axis)) }
 {
-    let Ok(()) = constraints_along(boxes, axis, constraints) else {
-        return Err(CompactFault::Memory);
-    };
+    constraints_along(boxes, axis, constraints)?;
     let all_satisfied = relax_in_rounds(constraints, &mut coordinates);
     if !all_satisfied {
         return Err(CompactFault::Wide);
@@ -189,21 +172,12 @@ pub fn least_coordinates(
     ensures y { IfOk result (λ found. AreLeastOnAxis boxes.now 1 found.1.items) }
     ensures fault { IfErr result (IsCompactFault boxes.now) }
 {
-    let Ok(x) = low_along(boxes, around, Axis::X, x, segments) else {
-        return Err(CompactFault::Memory);
-    };
-    let Ok(y) = low_along(boxes, around, Axis::Y, y, segments) else {
-        return Err(CompactFault::Memory);
-    };
+    let x = low_along(boxes, around, Axis::X, x, segments)?;
+    let y = low_along(boxes, around, Axis::Y, y, segments)?;
     if are_along(boxes, around, &x, &y) {
         return Ok((x, y));
     }
-    let x = match relaxed_along(boxes, Axis::X, x, constraints) {
-        Ok(x) => x,
-        Err(fault) => return Err(fault),
-    };
-    match relaxed_along(boxes, Axis::Y, y, constraints) {
-        Ok(y) => Ok((x, y)),
-        Err(fault) => Err(fault),
-    }
+    let least_x = relaxed_along(boxes, Axis::X, x, constraints)?;
+    let least_y = relaxed_along(boxes, Axis::Y, y, constraints)?;
+    Ok((least_x, least_y))
 }

@@ -1,5 +1,9 @@
 //! Why a dissection gets no coordinates.
 
+ghost use Rattle.std.specs.Prelude.{◌≡◌};
+ghost use Rattle.compact.specs.declared.fault.CompactFault.TheVariants.{Memory};
+
+use std::alloc::AllocError;
 use thiserror::Error;
 
 /// The reason why no coordinates were returned.
@@ -11,4 +15,12 @@ pub enum CompactFault {
     /// Memory ran out, which says nothing of the boxes.
     #[error("out of memory")]
     Memory,
+}
+
+impl From<AllocError> for CompactFault {
+    ghost from_gives = { λ _ fault. fault ≡ Memory };
+
+    fn from(_refused: AllocError) -> CompactFault {
+        CompactFault::Memory
+    }
 }

@@ -8,8 +8,10 @@
 //! All is inlined into the two calls of `low_along`, so that the directions of an axis are constants.
 
 ghost use Rattle.std.specs.Prelude.{◌≡◌, ◌*◌, ◌^◌, ◌<◌, ◌≤◌, ℕ, length};
+ghost use Rattle.compact.specs.Monotone.{growth, across};
 ghost use Rattle.compact.specs.Neighbours.{neighbour, AreUnder, Grow, StayEqual, StayUnder};
 
+use crate::axis::Axis;
 use crate::neighbours::NO_VERTEX;
 use ortho_rep::MAX_COORDINATE;
 
@@ -29,37 +31,25 @@ pub struct Neighbours<'a> {
 }
 
 impl<'a> Neighbours<'a> {
-    /// The neighbours along x, which grows to the east. Directions are numbered from east.
-    pub fn east(around: &'a [u32]) -> Neighbours<'a>
+    /// The neighbours of each vertex by their directions along an axis. Directions are numbered from east.
+    #[inline(always)]
+    pub fn along(around: &'a [u32], axis: Axis) -> Neighbours<'a>
         ensures around { result.around.now ≡ around.now }
-        ensures ahead { result.ahead ≡ 0 }
-        ensures left { result.left ≡ 1 }
-        ensures back { result.back ≡ 2 }
-        ensures right { result.right ≡ 3 }
+        ensures ahead { (result.ahead < 4) × (result.ahead ≡ growth axis) }
+        ensures left { (result.left < 4) × (result.left ≡ across axis) }
+        ensures right { result.right < 4 }
+        ensures back { result.back < 4 }
     {
+        let (ahead, left, back, right) = match axis {
+            Axis::X => (0, 1, 2, 3),
+            Axis::Y => (1, 2, 3, 0),
+        };
         Neighbours {
             around,
-            ahead: 0,
-            left: 1,
-            back: 2,
-            right: 3,
-        }
-    }
-
-    /// The neighbours along y, which grows to the north.
-    pub fn north(around: &'a [u32]) -> Neighbours<'a>
-        ensures around { result.around.now ≡ around.now }
-        ensures ahead { result.ahead ≡ 1 }
-        ensures left { result.left ≡ 2 }
-        ensures back { result.back ≡ 3 }
-        ensures right { result.right ≡ 0 }
-    {
-        Neighbours {
-            around,
-            ahead: 1,
-            left: 2,
-            back: 3,
-            right: 0,
+            ahead,
+            back,
+            left,
+            right,
         }
     }
 }

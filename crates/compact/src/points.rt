@@ -106,25 +106,14 @@ pub fn compact_in(
     let points = mem::replace(&mut scratch.points, Vec::new(alloc));
     let corners = mem::replace(&mut scratch.corners, Vec::new(alloc));
     let starts = mem::replace(&mut scratch.starts, Vec::new(alloc));
-    let Ok(around) = neighbours_of(boxes, around) else {
-        return Err(CompactFault::Memory);
-    };
+    let around = neighbours_of(boxes, around)?;
     let segments = &mut scratch.segments;
     let constraints = &mut scratch.constraints;
-    let (x, y) = match least_coordinates(boxes, &around, x, y, segments, constraints) {
-        Ok(found) => found,
-        Err(fault) => return Err(fault),
-    };
-    let Ok((corners, starts)) = list_corners(corners, starts, boxes, &x, &y) else {
-        return Err(CompactFault::Memory);
-    };
+    let (x, y) = least_coordinates(boxes, &around, x, y, segments, constraints)?;
+    let (corners, starts) = list_corners(corners, starts, boxes, &x, &y)?;
     let room = usize::from(boxes.old_vertices()) + corners.len() + usize::from(boxes.edges());
-    let Ok(vertices) = vertex_points(points, room, boxes, &x, &y) else {
-        return Err(CompactFault::Memory);
-    };
-    let Ok(points) = Points::concatenated(vertices, &corners, &starts) else {
-        return Err(CompactFault::Memory);
-    };
+    let vertices = vertex_points(points, room, boxes, &x, &y)?;
+    let points = Points::concatenated(vertices, &corners, &starts)?;
     scratch.around = around;
     scratch.x = x;
     scratch.y = y;

@@ -70,9 +70,7 @@ pub(crate) fn angles_of(
     ensures fault { IfErr result (λ fault. (fault ≡ KeepFault.Memory) ⊎ ((fault ≡ KeepFault.Conflict) × AnglesDiffer plane.now list.now)) }
 {
     let darts = plane.graph().darts();
-    let Ok(mut found) = filled(Vec::new(alloc), usize::from(darts), None) else {
-        return Err(KeepFault::Memory);
-    };
+    let mut found = filled(Vec::new(alloc), usize::from(darts), None)?;
     for asked in list {
         let dart = dart_of(plane, asked.from, asked.to);
         if !put_angle(&mut found, dart, asked.angle as u8) {
@@ -111,9 +109,7 @@ pub(crate) fn turns_of(
     ensures fault { IfErr result (λ fault. (fault ≡ KeepFault.Memory) ⊎ ((fault ≡ KeepFault.Conflict) × TurnsDiffer plane.now list.now)) }
 {
     let darts = plane.graph().darts();
-    let Ok(mut found) = filled(Vec::new(alloc), usize::from(darts), None) else {
-        return Err(KeepFault::Memory);
-    };
+    let mut found = filled(Vec::new(alloc), usize::from(darts), None)?;
     for asked in list {
         let dart = dart_of(plane, asked.from, asked.to);
         if !put_along(plane, &mut found, dart, asked.turns) {

@@ -46,10 +46,7 @@ pub fn shape_keeping_in(
     ensures kept { IfOk result (λ found. IsKept conditions.now choice plane.new found.0 found.1) }
     ensures fault { IfErr result (IsKeepFault conditions.now choice plane.old) }
 {
-    let by_darts = match conditions_by_darts(alloc, plane, conditions) {
-        Ok(by_darts) => by_darts,
-        Err(fault) => return Err(fault),
-    };
+    let by_darts = conditions_by_darts(alloc, plane, conditions)?;
     match chosen_shape(alloc, scratch, plane, choice, &by_darts) {
         Ok(solution) => Ok(solution),
         Err(SolveFault::Infeasible) => Err(no_shape_fault(alloc, plane, &by_darts)),
@@ -127,9 +124,7 @@ fn conditions_by_darts(
     if !Given::can_be(&angles, &turns) {
         return Err(KeepFault::TooManyTurns);
     }
-    let Ok(barred) = barred_of(alloc, plane, conditions.inner) else {
-        return Err(KeepFault::Memory);
-    };
+    let barred = barred_of(alloc, plane, conditions.inner)?;
     match greatest_open(plane, &barred) {
         Some(greatest) => Ok(DartConditions {
             angles,
@@ -161,28 +156,12 @@ fn chosen_shape(
         → HasNoneKeeping (with_outer plane.old by_darts.now.greatest) by_darts.now.given) }
 {
     match choice {
-        Choice::First => first_shape(alloc, scratch, plane, &by_darts.given(), by_darts.greatest),
+        Choice::First => {
+            plane.set_outer(by_darts.greatest);
+            least_shape_keeping_in(alloc, scratch, plane, &by_darts.given())
+        }
         Choice::Best => best_shape_keeping(alloc, plane, &by_darts.given(), &by_darts.barred),
     }
-}
-
-/// The least shape that keeps what is given with a face as the outer one.
-fn first_shape(
-    alloc: Global,
-    scratch: &mut Scratch,
-    plane: &mut Plane,
-    given: &Given<'_>,
-    face: u16,
-) -> Result<(Shape, Prices), SolveFault>
-    requires { face < plane.old.faces }
-    ensures outer_moved { plane.new ≡ with_outer plane.old face }
-    ensures shape { IfOk result (λ found. IsShape plane.new found.0) }
-    ensures least { IfOk result (λ found. IsLeastKeeping plane.new given.now found.0) }
-    ensures proof { IfOk result (λ found. IsProofKeeping plane.new given.now found.0 found.1) }
-    ensures none { IfErr result (λ fault. fault ≡ SolveFault.Infeasible → HasNoneKeeping (with_outer plane.old face) given.now) }
-{
-    plane.set_outer(face);
-    least_shape_keeping_in(alloc, scratch, plane, given)
 }
 
 /// The face with the most darts of those that are not barred, among equals the first one; `None` if all are barred.

@@ -1,6 +1,7 @@
 //! Why no shape that keeps the conditions was returned.
 
 use crate::cuts::Cut;
+use std::alloc::AllocError;
 use thiserror::Error;
 
 /// The reason why no shape that keeps the conditions was returned.
@@ -27,6 +28,17 @@ pub enum KeepFault {
     /// An allocation was refused.
     #[error("out of memory")]
     Memory,
+}
+
+impl From<AllocError> for KeepFault {
+    ghost use Rattle.std.specs.Prelude.{◌≡◌};
+    ghost use Rattle.conditions.specs.declared.fault.KeepFault.TheVariants.{Memory};
+
+    ghost from_gives = { λ _ fault. fault ≡ Memory };
+
+    fn from(_refused: AllocError) -> KeepFault {
+        KeepFault::Memory
+    }
 }
 
 /// A proof that no shape with a certain outer face keeps what is given: a cut that turns more than can leave it.

@@ -13,9 +13,10 @@ use drawing_check::{CheckFault, Drawing, check};
 use embedding::{Graph, ReadFault};
 use faces::{Plane, TraceFault};
 use ortho_rep::{Points, Prices, Shape, best_shape, least_shape};
-use planar_code::{Ending, Record, split};
+use planar_code::{Ending, Record};
 use std::alloc::{AllocError, Global};
 use std::rt::Files;
+use test_tools::split;
 
 /// Takes each graph of these files through the calls of each layer, with either choice of the outer face, and prints
 /// what they answer. A line on standard error names each call that is made again.

@@ -11,7 +11,7 @@ use collector::{
     run_plain,
 };
 use commands::write_batch;
-use planar_code::{Ending, HEADER, Record, split};
+use planar_code::{Ending, HEADER, Record};
 use std::alloc::Global;
 use std::rt::{Clock, Files};
 use std::sync::Wait;
@@ -19,6 +19,7 @@ use std::sync::atomic::{AtomicU64, Ordering};
 use std::thread;
 use std::thread::Threads;
 use std::time::Duration;
+use test_tools::split;
 
 /// What is added to the state of a generator at each step, an odd number near 2^64 over the golden ratio.
 const STEP: u64 = 0x9E37_79B9_7F4A_7C15;

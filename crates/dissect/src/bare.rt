@@ -1,6 +1,6 @@
 //! The table of a plane's darts before the edges have bends.
 
-ghost use Rattle.std.specs.Prelude.{◌≡◌, ◌-◌, ◌^◌, ◌<◌, ◌≤◌, ℕ, IfOk, OnErr, length, slice_index, slice_set, vec_len};
+ghost use Rattle.std.specs.Prelude.{◌≡◌, ◌-◌, ◌^◌, ◌<◌, ◌≤◌, ℕ, IfOk, OnErr, length, slice_index, slice_set};
 ghost use Rattle.faces.specs.Planes.{darts, head, reverse_dart, next};
 ghost use Rattle.ortho_rep.specs.Shapes.{angle_at};
 ghost use Rattle.ortho_rep.specs.Representation.{HasDarts};
@@ -77,15 +77,6 @@ fn blank_table(
     })
 }
 
-/// Writes the items over the first ones of the list.
-fn put_first(list: &mut Vec<u8>, items: &[u8])
-    requires inside { length items.now ≤ vec_len list.old }
-    ensures here { (k : ℕ) → k < length items.now → slice_index list.new.items k ≡ slice_index items.now k }
-    ensures room { vec_len list.new ≡ vec_len list.old }
-{
-    list[0..items.len()].copy_from_slice(items);
-}
-
 /// Writes the directions of the first darts.
 fn put_directions(table: &mut DartTable, directions: &[u8])
     requires inside { length directions.now ≤ room table.old }
@@ -95,7 +86,7 @@ fn put_directions(table: &mut DartTable, directions: &[u8])
     ensures vertices { table.new.vertices ≡ table.old.vertices }
     ensures room { room table.new ≡ room table.old }
 {
-    put_first(&mut table.direction, directions);
+    table.direction[0..directions.len()].copy_from_slice(directions);
 }
 
 /// Writes what the table holds of a dart beside its direction: its next, its reverse, its head and its angle, and

@@ -194,15 +194,6 @@ impl Boxes {
         self.edges.len() as u16
     }
 
-    /// The lesser dart of an edge of the plane.
-    pub fn lesser_dart(&self, edge: u16) -> u16
-        requires { edge < length self.now.edges }
-        ensures value { result ≡ slice_index self.now.edges edge }
-        ensures boxes { AreBoxes self.now }
-    {
-        self.edges[usize::from(edge)]
-    }
-
     /// The darts that make up an edge of the plane, in order along its lesser dart.
     pub fn path(&self, edge: u16) -> &[u32]
         requires { edge < length self.now.edges }

@@ -44,13 +44,9 @@ impl DirectionSearch {
         ensures unset { IfOk result (λ s. s.directions.items ≡ replicate darts NO_DIRECTION) }
         ensures waiting { IfOk result (λ s. s.waiting.items ≡ []) }
     {
-        let DirectionSearch {
-            directions,
-            waiting,
-        } = self;
         Ok(DirectionSearch {
-            directions: filled(directions, darts, NO_DIRECTION)?,
-            waiting: emptied(waiting, darts)?,
+            directions: filled(self.directions, darts, NO_DIRECTION)?,
+            waiting: emptied(self.waiting, darts)?,
         })
     }
 

@@ -38,7 +38,7 @@ fn have_same_plane(one: &Boxes, other: &Boxes) -> bool {
         }
     }
     for edge in 0..one.edges() {
-        if one.lesser_dart(edge) != other.lesser_dart(edge) || one.path(edge) != other.path(edge) {
+        if one.path(edge) != other.path(edge) {
             return false;
         }
     }

@@ -15,14 +15,15 @@ ghost use Rattle.planar_code.specs.Stream.{lists_of};
 use crate::breaks::first_broken;
 use crate::faults::ReadFault;
 use crate::lists::Lists;
+use crate::numbering::add_faces;
 use crate::scratch::Scratch;
-use crate::tables::darts_in;
+use crate::tables::{add_heads, add_starts, make_rotation};
 use crate::wide::WideRecord;
 use crate::writing::{
     FEW_ENTRIES, FEW_STARTS, RECORD_ENTRIES, RECORD_STARTS, SHORT_ENTRIES, SHORT_STARTS,
     SOME_ENTRIES, WIDE_STARTS, entry_count, find_starts, write_lists,
 };
-use common::MAX_VERTICES;
+use common::{MAX_VERTICES, emptied};
 use planar_code::Record;
 use std::alloc::{AllocError, Global};
 use std::marker::Model;
@@ -200,25 +201,31 @@ impl Graph {
         if let Some(rule) = first_broken(&lists) {
             return Err(ReadFault::Rule(rule));
         }
-        match Graph::of(alloc, scratch, &lists) {
-            Ok(graph) => Ok(graph),
-            Err(_) => Err(ReadFault::Memory),
-        }
+        Ok(Graph::of(alloc, scratch, &lists)?)
     }
 
-    /// The graph of lists that keep rules 1 to 7.
+    /// The graph of lists that keep rules 1 to 7, in the buffers of the scratch if these are large enough. The room is
+    /// just what a plane needs.
     fn of(alloc: Global, scratch: &mut Scratch, lists: &Lists<'_>) -> Result<Graph, AllocError>
         requires rules { KeepsBefore lists.now 8 }
         requires few { length lists.now ≤ MAX_VERTICES }
         ensures { IfOk result (λ graph. graph ≡ lists.now) }
     {
-        let heads = mem::replace(&mut scratch.heads, Vec::new(alloc));
-        let table = mem::replace(&mut scratch.table, Vec::new(alloc));
-        let tables = darts_in(heads, table, lists)?;
+        let darts = lists.darts();
+        let old_heads = mem::replace(&mut scratch.heads, Vec::new(alloc));
+        let old_table = mem::replace(&mut scratch.table, Vec::new(alloc));
+        let mut heads = emptied(old_heads, darts)?;
+        for place in 0..lists.count() {
+            add_heads(&mut heads, lists, place);
+        }
+        let mut table = emptied(old_table, 3 * darts + darts / 2 + 3)?;
+        make_rotation(&mut table, lists)?;
+        let faces = add_faces(&mut table, darts)?;
+        add_starts(&mut table, lists)?;
         Ok(Graph {
-            heads: tables.heads,
-            table: tables.table,
-            faces: tables.faces,
+            heads,
+            table,
+            faces,
         })
     }
 

@@ -1,15 +1,12 @@
-//! The fields of a graph, made from lists that keep rules 1 to 7. Each reuses an old buffer if it is large enough.
+//! The parts of a graph's lists, made from lists that keep rules 1 to 7.
 
-ghost use Rattle.std.specs.Prelude.{◌≡◌, ℕ, ◌+◌, ◌*◌, ◌<◌, ◌≤◌, ◌++◌, List, drop, take, length, vec_capacity, IfOk, OnOk, Contains};
-ghost use Rattle.common.specs.declared.limits.TheConstants.{MAX_VERTICES};
+ghost use Rattle.std.specs.Prelude.{◌≡◌, ℕ, ◌+◌, ◌*◌, ◌<◌, ◌≤◌, ◌++◌, List, take, length, vec_capacity, OnOk, Contains};
 ghost use Rattle.embedding.specs.Lists.{list_of};
 ghost use Rattle.embedding.specs.Darts.{dart_count, first_dart, head_of, tail_of, reverse_of, after_of};
 ghost use Rattle.embedding.specs.Rules.{KeepsBefore};
-ghost use Rattle.embedding.specs.Tables.{slices_at, IsTable, IsRotation, AreTables};
+ghost use Rattle.embedding.specs.Tables.{IsTable, IsRotation};
 
 use crate::lists::Lists;
-use crate::numbering::add_faces;
-use common::emptied;
 use std::alloc::AllocError;
 
 /// The reverse of the dart from `tail` to `head`, which is in the list of `tail`.
@@ -33,7 +30,7 @@ fn after_in(next: u16, first: u16, end: u16) -> u16
 }
 
 /// Adds the heads of the darts of the list at a place.
-fn add_heads(heads: &mut Vec<u16>, lists: &Lists<'_>, place: u16)
+pub(crate) fn add_heads(heads: &mut Vec<u16>, lists: &Lists<'_>, place: u16)
     requires within { place < length lists.now }
     requires heads { IsTable (first_dart lists.now place) (head_of lists.now) heads.old.items }
     requires room { dart_count lists.now ≤ vec_capacity heads.old }
@@ -82,7 +79,7 @@ pub(crate) fn write_rotation(rotation: &mut [u16], lists: &Lists<'_>)
 }
 
 /// Makes a table the rotation of all darts.
-fn make_rotation(table: &mut Vec<u16>, lists: &Lists<'_>) -> Result<(), AllocError>
+pub(crate) fn make_rotation(table: &mut Vec<u16>, lists: &Lists<'_>) -> Result<(), AllocError>
     requires rules { KeepsBefore lists.now 8 }
     ensures { OnOk result (IsRotation lists.now (dart_count lists.now) table.new.items) }
 {
@@ -92,7 +89,7 @@ fn make_rotation(table: &mut Vec<u16>, lists: &Lists<'_>) -> Result<(), AllocErr
 }
 
 /// Adds where each vertex's list begins among the heads of all darts, and at the end how many darts there are.
-fn add_starts(table: &mut Vec<u16>, lists: &Lists<'_>) -> Result<(), AllocError>
+pub(crate) fn add_starts(table: &mut Vec<u16>, lists: &Lists<'_>) -> Result<(), AllocError>
     ensures { OnOk result ((starts : List ℕ) × IsTable (length lists.now + 1) (first_dart lists.now) starts
         × (table.new.items ≡ table.old.items ++ starts)) }
 {
@@ -101,42 +98,4 @@ fn add_starts(table: &mut Vec<u16>, lists: &Lists<'_>) -> Result<(), AllocError>
     }
     table.push(lists.darts() as u16)?;
     Ok(())
-}
-
-/// The fields of a graph: the heads of all darts, a table, and the number of faces. The table contains the rotation of
-/// all darts, their faces, the degrees of the faces, and where each list begins.
-#[derive(Drop)]
-pub(crate) struct DartTables {
-    pub(crate) heads: Vec<u16>,
-    pub(crate) table: Vec<u16>,
-    pub(crate) faces: u16,
-}
-
-/// The fields of the graph of these lists, in old buffers if these are large enough. The room is just what a plane
-/// needs.
-pub(crate) fn darts_in(
-    old_heads: Vec<u16>,
-    old_table: Vec<u16>,
-    lists: &Lists<'_>,
-) -> Result<DartTables, AllocError>
-    requires rules { KeepsBefore lists.now 8 }
-    requires few { length lists.now ≤ MAX_VERTICES }
-    ensures kept { IfOk result (λ t. AreTables lists.now t.heads.items t.faces t.table.items) }
-    ensures lists { IfOk result (λ t.
-        slices_at (drop (3 * length t.heads.items + t.faces) t.table.items) t.heads.items ≡ lists.now) }
-{
-    let darts = lists.darts();
-    let mut heads = emptied(old_heads, darts)?;
-    for place in 0..lists.count() {
-        add_heads(&mut heads, lists, place);
-    }
-    let mut table = emptied(old_table, 3 * darts + darts / 2 + 3)?;
-    make_rotation(&mut table, lists)?;
-    let faces = add_faces(&mut table, darts)?;
-    add_starts(&mut table, lists)?;
-    Ok(DartTables {
-        heads,
-        table,
-        faces,
-    })
 }

@@ -135,10 +135,7 @@ fn back(turns: Option<i32>) -> Option<i32>
 fn is_angle(angle: Option<u8>) -> bool
     ensures { IsTrue result ↔ IsAngle angle }
 {
-    match angle {
-        Some(angle) => 1 <= angle && angle <= 4,
-        None => true,
-    }
+    matches!(angle, None | Some(1..=4))
 }
 
 /// Whether all turns together are at most `MAX_GIVEN_TURNS`. Linear in the list.

@@ -10,3 +10,6 @@ pub mod MemReads
 pub mod Stages
 pub mod Drafts
 pub mod Stops
+pub mod Lanes
+pub mod Running
+pub mod Accepting

@@ -7,17 +7,17 @@ ghost use Rattle.least_length.specs.Lengths.{wire_at};
 ghost use Rattle.least_length.specs.Weights.{down_at, sight_at, up_at};
 
 use crate::segments::{Sight, Wire};
-use crate::sweep::Sweep;
 use std::alloc::{AllocError, Global};
 
-/// Buffers for a test: the pulls on each segment up and down, and a sweep.
+/// Buffers for a test: the pulls on each segment up and down, and the frontier of a sweep.
 #[derive(Drop)]
 pub(crate) struct Balance {
     /// For each segment, the sum of the pulls up.
     up: Vec<u64>,
     /// For each segment, the sum of the pulls down.
     down: Vec<u64>,
-    pub(crate) sweep: Sweep,
+    /// The buffer of `is_order_kept`.
+    pub(crate) frontier: Vec<u32>,
 }
 
 impl Balance {
@@ -28,7 +28,7 @@ impl Balance {
         Balance {
             up: Vec::new(alloc),
             down: Vec::new(alloc),
-            sweep: Sweep::empty(alloc),
+            frontier: Vec::new(alloc),
         }
     }
 
@@ -49,13 +49,8 @@ impl Balance {
         self.up.resize(segments, 0)?;
         self.down.clear();
         self.down.resize(segments, 0)?;
-        let even = is_balanced_in(
-            wires,
-            sights,
-            self.up.as_mut_slice(),
-            self.down.as_mut_slice(),
-        );
-        Ok(even)
+        let up = self.up.as_mut_slice();
+        Ok(is_balanced_in(wires, sights, up, self.down.as_mut_slice()))
     }
 }
 

@@ -9,6 +9,7 @@ ghost use Rattle.least_length.specs.Weights.{sight_at, total_weight, HasEnds, Is
 use crate::balance::Balance;
 use crate::scratch::Scratch;
 use crate::segments::{Segment, Sight, Wire};
+use crate::sweep;
 use std::alloc::AllocError;
 
 /// Whether the weighted pairs `sights` certify that the total length of the wires is least with these coordinates.
@@ -54,7 +55,7 @@ pub(crate) fn certify(
     if !have_ends(segments, wires) || !are_sights(segments, sights) {
         return Ok(false);
     }
-    let kept = balance.sweep.is_order_kept(segments, coordinates)?;
+    let kept = sweep::is_order_kept(&mut balance.frontier, segments, coordinates)?;
     if !kept {
         return Ok(false);
     }

@@ -9,7 +9,7 @@ ghost use Rattle.least_length.specs.Lengths.{coordinates_in, segment_at, total_l
 use crate::certificate::{certify, have_ends, have_levels, measure};
 use crate::scratch::Scratch;
 use crate::segments::{MAX_SEGMENTS, MAX_SIGHTS, MAX_WIRES, Segment, Wire};
-use crate::sweep::highest;
+use crate::sweep::{highest, is_order_kept};
 use std::alloc::AllocError;
 
 /// Looks for coordinates that shorten the wires; if it finds any, writes those of least total length into `coordinates` and
@@ -44,13 +44,10 @@ pub fn find_shorter(
     ensures shorter { IfOk result (λ found. found ≡ true → total_length wires.now (coordinates_in coordinates.new.items) < total_length wires.now (λ r. (segment_at segments.now r).coordinate)) }
     ensures looks { looks.new ≤ looks.old }
 {
-    if wires.len() > MAX_WIRES {
+    if wires.len() > MAX_WIRES || !balance(scratch, segments, wires, looks)? {
         return Ok(false);
     }
-    if !balance(scratch, segments, wires, looks)? {
-        return Ok(false);
-    }
-    if !scratch.pulling.has_moved() || !write_certified(scratch, segments, wires, coordinates)? {
+    if !scratch.pulling.moved || !write_certified(scratch, segments, wires, coordinates)? {
         return Ok(false);
     }
     Ok(is_shorter(segments, wires, coordinates.as_slice()))
@@ -78,14 +75,11 @@ pub fn take_shorter(
     if wires.len() > MAX_WIRES || !have_ends(segments, wires) {
         return Ok(false);
     }
-    if !scratch.pulling.write(coordinates)? {
+    if !scratch.pulling.write(coordinates)? || coordinates.len() != segments.len() {
         return Ok(false);
     }
-    if coordinates.len() != segments.len() {
-        return Ok(false);
-    }
-    let sweep = &mut scratch.balance.sweep;
-    if !sweep.is_order_kept(segments, coordinates.as_slice())? {
+    let frontier = &mut scratch.balance.frontier;
+    if !is_order_kept(frontier, segments, coordinates.as_slice())? {
         return Ok(false);
     }
     Ok(is_shorter(segments, wires, coordinates.as_slice()))

@@ -41,7 +41,7 @@ pub(crate) struct Pulling {
     /// The segments reached that the search has still to look at, since pairs may lead on from them.
     unlooked: Vec<u16>,
     /// Whether some segments have moved and others have not.
-    moved: bool,
+    pub(crate) moved: bool,
 }
 
 impl Pulling {
@@ -59,11 +59,6 @@ impl Pulling {
             unlooked: Vec::new(alloc),
             moved: false,
         }
-    }
-
-    /// Whether the coordinates found differ from those of the segments by more than a common amount.
-    pub(crate) fn has_moved(&self) -> bool {
-        self.moved
     }
 
     /// Searches for weights in balance at each segment, and coordinates with which weighted pairs are adjacent; returns
@@ -131,12 +126,9 @@ impl Pulling {
         let up = self.up.as_mut_slice();
         let down = self.down.as_mut_slice();
         add_wires(wires, up, down);
-        add_adjacent(
-            self.sight_lists.sights.as_mut_slice(),
-            self.coordinates.as_slice(),
-            up,
-            down,
-        );
+        let sights = self.sight_lists.sights.as_mut_slice();
+        drop_distant(sights, self.coordinates.as_slice());
+        add_sights(sights, up, down);
         Ok(())
     }
 
@@ -154,10 +146,7 @@ impl Pulling {
             if self.up[usize::from(root)] <= self.down[usize::from(root)] {
                 return Ok(true);
             }
-            if !self.send(root, looks)? {
-                return Ok(false);
-            }
-            if !spend(looks, self.reached.len()) {
+            if !self.send(root, looks)? || !spend(looks, self.reached.len()) {
                 return Ok(false);
             }
         }
@@ -256,21 +245,12 @@ impl Pulling {
         ensures { IfSome result (λ next. next < vec_len self.now.coordinates) }
     {
         let sight = self.sight_lists.sights[pair];
-        let next = if sight.before == segment {
-            if self.slack(sight) != 0 {
-                return None;
-            }
-            sight.behind
+        let (leads, next) = if sight.before == segment {
+            (self.slack(sight) == 0, sight.behind)
         } else {
-            if sight.weight == 0 {
-                return None;
-            }
-            sight.before
+            (sight.weight != 0, sight.before)
         };
-        if self.marks[usize::from(next)] != UNREACHED {
-            return None;
-        }
-        Some(next)
+        (leads && self.marks[usize::from(next)] == UNREACHED).then_some(next)
     }
 
     /// Moves all segments reached up until one of them is adjacent to one that is not reached; returns whether there is
@@ -288,12 +268,8 @@ impl Pulling {
             return Ok(false);
         }
         self.moved = true;
-        let is_room = raise(
-            self.coordinates.as_mut_slice(),
-            self.reached.as_slice(),
-            slack,
-        );
-        Ok(is_room)
+        let coordinates = self.coordinates.as_mut_slice();
+        Ok(raise(coordinates, self.reached.as_slice(), slack))
     }
 
     /// How far all segments reached can move up together; `u32::MAX` if none is in their way. Those that can move no
@@ -347,12 +323,8 @@ impl Pulling {
         let wanted = self.down[usize::from(target)] - self.up[usize::from(target)];
         let most = spare.min(wanted).min(u64::from(u32::MAX)) as u32;
         let units = self.measure(target, most);
-        if !shift(
-            self.sight_lists.sights.as_mut_slice(),
-            self.marks.as_slice(),
-            target,
-            units,
-        ) {
+        let sights = self.sight_lists.sights.as_mut_slice();
+        if !shift(sights, self.marks.as_slice(), target, units) {
             return false;
         }
         self.down[usize::from(root)] += u64::from(units);
@@ -415,16 +387,13 @@ fn note_least(
 ) -> Result<u32, AllocError>
     ensures { OnOk result ((count : ℕ) → segment < count → AreSegments count listed.old.items → AreSegments count listed.new.items) }
 {
-    if slack > least {
-        return Ok(least);
-    }
     if slack < least {
         listed.clear();
-        listed.push(segment)?;
-        return Ok(slack);
     }
-    listed.push(segment)?;
-    Ok(least)
+    if slack <= least {
+        listed.push(segment)?;
+    }
+    Ok(slack.min(least))
 }
 
 /// Takes this many looks from those that are left; false if there are fewer, and then none is left.
@@ -450,21 +419,6 @@ fn least_of(coordinates: &[u32]) -> u32
         least = least.min(*coordinate);
     }
     least
-}
-
-/// Adds the weight of each adjacent pair to `up` at its second segment and to `down` at its first; other pairs have no
-/// weight then.
-fn add_adjacent(sights: &mut [Sight], coordinates: &[u32], up: &mut [u64], down: &mut [u64])
-    requires few { length sights.old ≤ MAX_SIGHTS }
-    requires pairs { ArePairs (length coordinates.now) sights.old }
-    requires up { length up.old ≡ length coordinates.now }
-    requires down { length down.old ≡ length coordinates.now }
-    requires light { (r : ℕ) → slice_index up.old r ≤ MAX_WIRES }
-    requires slight { (r : ℕ) → slice_index down.old r ≤ MAX_WIRES }
-    ensures { ArePairs (length coordinates.now) sights.new }
-{
-    drop_distant(sights, coordinates);
-    add_sights(sights, up, down);
 }
 
 /// Takes the weights of pairs that are not adjacent away.

@@ -76,7 +76,7 @@ impl SightLists {
         )
     }
 
-    /// Lists the ends of all pairs by their segments.
+    /// Lists the ends of all pairs by their segments, from the last pair to the first.
     pub(crate) fn list_ends(&mut self, segments: usize) -> Result<(), AllocError>
         requires few { vec_len self.old.sights ≤ MAX_SIGHTS }
         requires pairs { ArePairs segments self.old.sights.items }
@@ -84,7 +84,14 @@ impl SightLists {
         ensures lists { OnOk result (vec_len self.new.ends.firsts ≡ segments) }
         ensures ends { OnOk result (vec_len self.new.ends.nexts ≡ 2 * vec_len self.new.sights) }
     {
-        list_ends(&mut self.ends, segments, self.sights.as_slice())
+        self.ends.begin(segments)?;
+        let count = self.sights.len();
+        for done in 0..count {
+            let sight = self.sights[count - 1 - done];
+            self.ends.add(sight.behind)?;
+            self.ends.add(sight.before)?;
+        }
+        Ok(())
     }
 
     /// The pair to which this end belongs.
@@ -133,23 +140,6 @@ fn list_pairs(
         let behind = place as u16;
         list_before(sights, frontier, segments[place], behind)?;
         note_ends(frontier, begun, wires, behind);
-    }
-    Ok(())
-}
-
-/// Lists the ends of pairs by their segments, from the last pair to the first.
-fn list_ends(chains: &mut Chains, segments: usize, sights: &[Sight]) -> Result<(), AllocError>
-    requires few { length sights.now ≤ MAX_SIGHTS }
-    requires pairs { ArePairs segments sights.now }
-    ensures lists { OnOk result (vec_len chains.new.firsts ≡ segments) }
-    ensures ends { OnOk result (vec_len chains.new.nexts ≡ 2 * length sights.now) }
-{
-    chains.begin(segments)?;
-    let count = sights.len();
-    for done in 0..count {
-        let sight = sights[count - 1 - done];
-        chains.add(sight.behind)?;
-        chains.add(sight.before)?;
     }
     Ok(())
 }

@@ -3,52 +3,27 @@
 ghost use Rattle.std.specs.Prelude.{◌≡◌, ◌<◌, ◌≤◌, ◌+◌, ◌^◌, ◌↔◌, ℕ, [], length, true, IfOk, slice_index};
 ghost use Rattle.least_length.specs.Lengths.{coordinates_in, segment_at, HasLevel, KeepsOrder};
 
-use crate::certificate::is_order_kept;
+use crate::certificate;
 use crate::segments::Segment;
-use std::alloc::{AllocError, Global};
+use std::alloc::AllocError;
 
-/// Buffers for the sweep.
-#[derive(Drop)]
-pub(crate) struct Sweep {
-    /// For each level, the greatest coordinate met there, plus 1.
-    frontier: Vec<u32>,
-}
-
-impl Sweep {
-    /// Empty buffers; nothing is allocated.
-    pub(crate) fn empty(alloc: Global) -> Sweep
-        ensures { result.frontier.items ≡ [] }
-    {
-        Sweep {
-            frontier: Vec::new(alloc),
-        }
-    }
-
-    /// Whether segments keep their order with these coordinates. The time is linear in their levels if they are listed
-    /// in the order of their own coordinates, and otherwise quadratic in the segments.
-    pub(crate) fn is_order_kept(
-        &mut self,
-        segments: &[Segment],
-        coordinates: &[u16],
-    ) -> Result<bool, AllocError>
-        requires { length coordinates.now ≡ length segments.now }
-        ensures { IfOk result (λ kept. (kept ≡ true) ↔ KeepsOrder segments.now (coordinates_in coordinates.now)) }
-    {
-        self.frontier.clear();
-        self.frontier.resize(usize::from(highest(segments)) + 1, 0)?;
-        Ok(is_order_kept_in(self.frontier.as_mut_slice(), segments, coordinates))
-    }
-}
-
-/// Whether segments keep their order, by a sweep or segment by segment.
-fn is_order_kept_in(frontier: &mut [u32], segments: &[Segment], coordinates: &[u16]) -> bool
+/// Whether segments keep their order with these coordinates, by a sweep or segment by segment; reuses a buffer. The time is
+/// linear in their levels if they are listed in the order of their own coordinates, and otherwise quadratic in the
+/// segments.
+pub(crate) fn is_order_kept(
+    frontier: &mut Vec<u32>,
+    segments: &[Segment],
+    coordinates: &[u16],
+) -> Result<bool, AllocError>
     requires { length coordinates.now ≡ length segments.now }
-    ensures { (result ≡ true) ↔ KeepsOrder segments.now (coordinates_in coordinates.now) }
+    ensures { IfOk result (λ kept. (kept ≡ true) ↔ KeepsOrder segments.now (coordinates_in coordinates.now)) }
 {
+    frontier.clear();
+    frontier.resize(usize::from(highest(segments)) + 1, 0)?;
     if is_swept(frontier, segments, coordinates) {
-        return true;
+        return Ok(true);
     }
-    is_order_kept(segments, coordinates)
+    Ok(certificate::is_order_kept(segments, coordinates))
 }
 
 /// Whether each segment, in the order in which they are listed, has a coordinate above those of all segments before it

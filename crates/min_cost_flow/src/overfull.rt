@@ -43,17 +43,9 @@ fn reached(alloc: Global, visits: &[Visit]) -> Result<Vec<bool>, AllocError>
 {
     let mut marks = emptied(Vec::new(alloc), visits.len())?;
     for node in 0..visits.len() {
-        marks.push(has_label(visits, node))?;
+        marks.push(visits[node].label < FAR)?;
     }
     Ok(marks)
-}
-
-/// Whether the last search reached a node.
-fn has_label(visits: &[Visit], node: usize) -> bool
-    requires { node < length visits.now }
-    ensures { result ≡ was_reached visits.now node }
-{
-    visits[node].label < FAR
 }
 
 /// A set that supplies more than the arcs out of it can carry shows that there is no flow.

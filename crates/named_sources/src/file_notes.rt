@@ -81,6 +81,17 @@ impl FileNote {
         let front = self.front(alloc).ok()?;
         hint_of(ending, front.as_slice())
     }
+
+    /// Why the file failed, or what format it has, after `: `; empty if nothing is known of that.
+    fn why(&self, alloc: Global) -> ShortLine {
+        let mut why = ShortLine::new();
+        if let Some(reason) = reason_of(self.failure.load(Ordering::SeqCst)) {
+            let _ = write!(why, ": {reason}");
+        } else if let Some(hint) = self.hint(alloc) {
+            let _ = write!(why, ": {hint}");
+        }
+        why
+    }
 }
 
 /// The number that encodes a reason, from 1.
@@ -129,6 +140,14 @@ impl FileNotes {
         }
     }
 
+    /// Why the file with this number, from 0, failed, or what format it has, after `: `; empty if that is not known.
+    pub fn why(&self, alloc: Global, file: usize) -> ShortLine {
+        match self.notes.get(file) {
+            Some(note) => note.why(alloc),
+            None => ShortLine::new(),
+        }
+    }
+
     /// Writes to `err` a line for each file that failed, or that is not planar_code and has a recognised format.
     ///
     /// The line of a file that was not opened or not read to its end says why, with the system's reason; that of one
@@ -158,16 +177,12 @@ fn write_note<E: Sink>(
     requires { E.failed err.old ≡ false }
     ensures { OnOk result (E.failed err.new ≡ false) }
 {
-    let mut line = ShortLine::new();
-    if let Some(reason) = reason_of(note.failure.load(Ordering::SeqCst)) {
-        let _ = writeln!(line, ": {reason}");
-    } else if let Some(hint) = note.hint(alloc) {
-        let _ = writeln!(line, ": {hint}");
-    }
-    if line.as_str().is_empty() {
+    let why = note.why(alloc);
+    if why.as_str().is_empty() {
         return Ok(());
     }
     put_all(err, b"planarbend: ")?;
     put_all(err, name.as_bytes())?;
-    put_all(err, line.as_str().as_bytes())
+    put_all(err, why.as_str().as_bytes())?;
+    put_all(err, b"\n")
 }

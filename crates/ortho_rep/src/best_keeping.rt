@@ -1,6 +1,6 @@
 //! The best outer face among those that are not barred, with what is given kept: each is tried.
 
-ghost use Rattle.std.specs.Prelude.{◌≡◌, ◌<◌, if◌then◌else◌, nat_lt, OnOk, IfOk, IfErr, OnErr};
+ghost use Rattle.std.specs.Prelude.{◌≡◌, ◌<◌, OnOk, IfOk, IfErr, OnErr};
 ghost use Rattle.faces.specs.Planes.{with_outer};
 ghost use Rattle.ortho_rep.specs.Representation.{IsShape};
 ghost use Rattle.ortho_rep.specs.Keeping.{IsLeastKeeping};
@@ -128,22 +128,11 @@ fn bends_with(
 fn better(best: Option<Incumbent>, face: u16, bends: Option<u64>) -> Option<Incumbent>
     ensures { result ≡ better_of best face bends }
 {
-    match bends {
-        None => best,
-        Some(bends) => match best {
-            None => Some(Incumbent { face, bends }),
-            Some(incumbent) => Some(with_fewer_bends(incumbent, face, bends)),
-        },
-    }
-}
-
-/// The face if it has fewer bends than the incumbent, otherwise the incumbent.
-fn with_fewer_bends(incumbent: Incumbent, face: u16, bends: u64) -> Incumbent
-    ensures { result ≡ (if nat_lt bends incumbent.bends then record { face = face; bends = bends } else incumbent) }
-{
-    if bends < incumbent.bends {
-        Incumbent { face, bends }
-    } else {
-        incumbent
+    let Some(bends) = bends else {
+        return best;
+    };
+    match best {
+        Some(incumbent) if incumbent.bends <= bends => best,
+        _ => Some(Incumbent { face, bends }),
     }
 }

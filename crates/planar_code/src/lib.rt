@@ -12,7 +12,6 @@ mod framer;
 pub mod laws;
 mod parse;
 mod partial_record;
-mod pieces;
 mod plain;
 mod record;
 mod scan;
@@ -21,8 +20,7 @@ pub use ending::Ending;
 pub use fault::FeedFault;
 pub use framer::Framer;
 pub use parse::ParseFault;
-pub use pieces::frame;
-pub use plain::split;
+pub use plain::{End, record_end};
 pub use record::Record;
 
 /// The 15 bytes with which every stream begins.

@@ -1,14 +1,10 @@
-//! A parser of planar_code (plantri, Brinkmann and McKay) record by record, against which tests compare the framer.
+//! Where records of planar_code (plantri, Brinkmann and McKay) end, found list by list.
 
-ghost use Rattle.std.specs.Prelude.{◌≡◌, ◌≢◌, ℕ, ◌<◌, List, length, slice_index, IfOk};
-ghost use Rattle.planar_code.specs.Split.{IsSplit};
+ghost use Rattle.std.specs.Prelude.{◌≡◌, ◌≢◌, ℕ, ◌<◌, List, length, slice_index};
 ghost use Rattle.planar_code.specs.Started.{IsStarted};
-ghost use Rattle.planar_code.specs.Plain.{EndsList, EndsRecord, SplitsBody};
+ghost use Rattle.planar_code.specs.Plain.{EndsList, EndsRecord};
 
-use crate::ending::Ending;
-use crate::record::Record;
-use crate::{HEADER, MAX_LIST, MAX_RECORDS};
-use std::alloc::{AllocError, Global};
+use crate::MAX_LIST;
 
 /// Where the first list or record in some bytes ends, or why it does not.
 pub enum End {
@@ -51,45 +47,4 @@ pub fn record_end(bytes: &[u8]) -> End
         }
     }
     End::After(at)
-}
-
-/// Splits the bytes after the header into records.
-fn split_body(alloc: Global, body: &[u8]) -> Result<(Vec<Record>, Ending), AllocError>
-    ensures { IfOk result (λ s. SplitsBody body.now s.0.items s.1) }
-{
-    let mut records = Vec::new(alloc);
-    let mut rest = body;
-    while !rest.is_empty() {
-        if records.len() == MAX_RECORDS as usize {
-            return Ok((records, Ending::Many));
-        }
-        if rest[0] == 0 {
-            return Ok((records, Ending::Large));
-        }
-        match record_end(rest) {
-            End::After(end) => {
-                records.push(Record::from_slice(alloc, &rest[..end])?)?;
-                rest = &rest[end..];
-            }
-            End::Truncated => return Ok((records, Ending::Truncated)),
-            End::Oversize => return Ok((records, Ending::Oversize)),
-        }
-    }
-    Ok((records, Ending::Complete))
-}
-
-/// The records and the ending of a whole stream, by a plain reference parser.
-///
-/// It reads record by record, as the format is described, and shares no step with the framer; tests compare the two.
-///
-/// # Errors
-///
-/// `AllocError` if there is no memory for the records.
-pub fn split(alloc: Global, stream: &[u8]) -> Result<(Vec<Record>, Ending), AllocError>
-    ensures split { IfOk result (λ s. IsSplit stream.now s.0.items s.1) }
-{
-    match stream.strip_prefix(&HEADER) {
-        Some(body) => split_body(alloc, body),
-        None => Ok((Vec::new(alloc), Ending::Header)),
-    }
 }

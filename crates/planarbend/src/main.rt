@@ -18,9 +18,8 @@ fn main(rt: HostRuntime) -> ExitCode {
         place_holder(&rt, rt.stdout()),
         place_holder(&rt, rt.stderr()),
     );
-    let console = ErrorConsole::new(&rt, rt.stderr());
-    let is_terminal = rt.stdout().is_terminal();
-    let mut out = OutputSink::new(SharedTerminal::new(io::writer(&rt), is_terminal, &console));
+    let console = ErrorConsole::new(&rt, rt.stderr(), rt.stdout().is_terminal());
+    let mut out = OutputSink::new(SharedTerminal::new(io::writer(&rt), &console));
     let mut err = OutputSink::new(rt.stderr());
     run(&rt, &files, &console, &mut out, &mut err)
 }

@@ -8,7 +8,7 @@ ghost use Rattle.planarbend_c.specs.Cuts.{cut_contents};
 ghost use Rattle.planarbend_c.specs.Found.{AreCounts, HaveRoom, HoldFinding, IsDrawnIfAsked, finding_of};
 ghost use Rattle.planarbend_c.specs.Requests.{drawing_in};
 ghost use Rattle.planarbend_c.specs.Left.{AreAsLong, AreSameAfter, HaveSamePoints};
-ghost use Rattle.planarbend_c.specs.Outcomes.{IsOutcome, IsOutcomeKeeping, IsOutcomePlain, IsTold};
+ghost use Rattle.planarbend_c.specs.Outcomes.{IsOutcome, IsTold};
 
 use crate::counts::{Counts, counts_of};
 use crate::cut::CutLists;
@@ -47,7 +47,7 @@ pub extern "C" fn planarbend_c_layout(
     answer(alloc, request, counts, lists, cut).code()
 }
 
-/// Lays out the record as requested; returns the outcome.
+/// Lays out the record as requested, under its conditions if it has any; returns the outcome.
 fn answer(
     alloc: Global,
     request: &Request<'_>,
@@ -63,76 +63,29 @@ fn answer(
     ensures uncut { ¬ (result ≡ Outcome.NoShape) → cut_contents cut.new ≡ cut_contents cut.old }
     ensures cut_room { AreAsLong (cut_contents cut.old) (cut_contents cut.new) }
 {
-    if asks_nothing(&request.conditions) {
-        answer_plain(alloc, request, counts, lists)
+    let Some(choice) = choice_of(request.outer) else {
+        return Outcome::Argument;
+    };
+    let Some(kind) = drawing_of(request.drawing) else {
+        return Outcome::Argument;
+    };
+    let conditions = &request.conditions;
+    if asks_nothing(conditions) {
+        match lay_out(alloc, &request.source, choice, kind) {
+            Ok(layout) => tell(&layout, counts, lists),
+            Err(outcome) => outcome,
+        }
     } else {
-        answer_keeping(alloc, request, counts, lists, cut)
-    }
-}
-
-/// Lays out the record under the conditions of the request; returns the outcome.
-fn answer_keeping(
-    alloc: Global,
-    request: &Request<'_>,
-    counts: &mut Counts,
-    lists: &mut Lists<'_>,
-    cut: &mut CutLists<'_>,
-) -> Outcome
-    ensures outcome { IsOutcomeKeeping request.now counts.new (contents lists.new) (cut_contents cut.new) result }
-    ensures refused { ¬ (result ≡ Outcome.Laid) → contents lists.new ≡ contents lists.old }
-    ensures rest { AreSameAfter counts.new (contents lists.old) (contents lists.new) }
-    ensures undrawn { drawing_in request.now.drawing ≡ Some None → HaveSamePoints (contents lists.old) (contents lists.new) }
-    ensures uncounted { ¬ (result ≡ Outcome.Laid) → ¬ (result ≡ Outcome.Room) → counts.new ≡ counts.old }
-    ensures uncut { ¬ (result ≡ Outcome.NoShape) → cut_contents cut.new ≡ cut_contents cut.old }
-    ensures cut_room { AreAsLong (cut_contents cut.old) (cut_contents cut.new) }
-{
-    let Some(choice) = choice_of(request.outer) else {
-        return Outcome::Argument;
-    };
-    let Some(kind) = drawing_of(request.drawing) else {
-        return Outcome::Argument;
-    };
-    match lay_out_keeping(
-        alloc,
-        &request.source,
-        choice,
-        kind,
-        &request.conditions,
-        cut,
-    ) {
-        Ok(layout) => tell(&layout, counts, lists),
-        Err(outcome) => outcome,
-    }
-}
-
-/// Lays out the record without conditions; returns the outcome.
-fn answer_plain(
-    alloc: Global,
-    request: &Request<'_>,
-    counts: &mut Counts,
-    lists: &mut Lists<'_>,
-) -> Outcome
-    ensures outcome { IsOutcomePlain request.now counts.new (contents lists.new) result }
-    ensures refused { ¬ (result ≡ Outcome.Laid) → contents lists.new ≡ contents lists.old }
-    ensures rest { AreSameAfter counts.new (contents lists.old) (contents lists.new) }
-    ensures undrawn { drawing_in request.now.drawing ≡ Some None → HaveSamePoints (contents lists.old) (contents lists.new) }
-    ensures uncounted { ¬ (result ≡ Outcome.Laid) → ¬ (result ≡ Outcome.Room) → counts.new ≡ counts.old }
-{
-    let Some(choice) = choice_of(request.outer) else {
-        return Outcome::Argument;
-    };
-    let Some(kind) = drawing_of(request.drawing) else {
-        return Outcome::Argument;
-    };
-    match lay_out(alloc, &request.source, choice, kind) {
-        Ok(layout) => tell(&layout, counts, lists),
-        Err(outcome) => outcome,
+        match lay_out_keeping(alloc, &request.source, choice, kind, conditions, cut) {
+            Ok(layout) => tell(&layout, counts, lists),
+            Err(outcome) => outcome,
+        }
     }
 }
 
 /// Writes the counts of a layout, and the lists if each has room.
 fn tell(layout: &Layout, counts: &mut Counts, lists: &mut Lists<'_>) -> Outcome
-    requires { IsDrawnIfAsked layout.now.plane layout.now.shape layout.now.drawing }
+    requires { IsDrawnIfAsked layout.now.kept.plane layout.now.kept.shape layout.now.drawing }
     ensures told { IsTold (finding_of layout.now) counts.new (contents lists.new) result }
     ensures refused { ¬ (result ≡ Outcome.Laid) → contents lists.new ≡ contents lists.old }
     ensures rest { AreSameAfter counts.new (contents lists.old) (contents lists.new) }
@@ -152,18 +105,18 @@ fn tell(layout: &Layout, counts: &mut Counts, lists: &mut Lists<'_>) -> Outcome
 
 /// Writes the lists of a layout with these counts, except those that are left out.
 fn write(layout: &Layout, counts: Counts, lists: &mut Lists<'_>)
-    requires drawn { IsDrawnIfAsked layout.now.plane layout.now.shape layout.now.drawing }
+    requires drawn { IsDrawnIfAsked layout.now.kept.plane layout.now.kept.shape layout.now.drawing }
     requires counted { AreCounts (finding_of layout.now) counts }
     requires room { HaveRoom (is_some layout.now.drawing) counts (contents lists.old) }
     ensures held { HoldFinding (finding_of layout.now) (contents lists.new) }
     ensures rest { AreSameAfter counts (contents lists.old) (contents lists.new) }
     ensures undrawn { is_some layout.now.drawing ≡ false → HaveSamePoints (contents lists.old) (contents lists.new) }
 {
-    let plane = &layout.plane;
-    put_angles(lists.angles, plane, &layout.shape);
-    put_turns(lists.turns, plane, &layout.shape);
-    put_vertex_prices(lists.vertex_prices, plane, &layout.prices);
-    put_face_prices(lists.face_prices, plane, &layout.prices);
+    let plane = &layout.kept.plane;
+    put_angles(lists.angles, plane, &layout.kept.shape);
+    put_turns(lists.turns, plane, &layout.kept.shape);
+    put_vertex_prices(lists.vertex_prices, plane, &layout.kept.prices);
+    put_face_prices(lists.face_prices, plane, &layout.kept.prices);
     if let Some(points) = &layout.drawing {
         let edges = plane.graph().edges();
         put_points(lists.points, points.vertices());

@@ -1,22 +1,16 @@
-//! Layouts.
+//! What is found of a record.
 
-ghost use Rattle.ortho_rep.specs.Representation.{IsShape};
 ghost use Rattle.ortho_rep.specs.Prices.{HasPrices};
 ghost use Rattle.std.proofs.Props.{props};
 
-use common::DrawingKind;
-use faces::Plane;
-use ortho_rep::{Points, Prices, Shape};
+use answers::KeptPlane;
+use ortho_rep::Points;
 
 /// The plane of a record with a shape and prices, and a drawing where one was asked for.
 #[derive(Drop)]
 pub(crate) struct Layout {
-    pub plane: Plane,
-    pub shape: Shape,
-    pub prices: Prices,
-    /// The kind of drawing that the shape is for.
-    pub drawing_kind: DrawingKind,
+    /// The plane with its shape, which keeps the conditions if there are some.
+    pub kept: KeptPlane,
     pub drawing: Option<Points>,
-    pub ghost shape_is: { IsShape plane shape } by { Prim.hlevel props },
-    pub ghost priced: { HasPrices plane prices } by { Prim.hlevel props },
+    pub ghost priced: { HasPrices kept.plane kept.prices } by { Prim.hlevel props },
 }

@@ -12,7 +12,7 @@ use crate::outcome::Outcome;
 use crate::parsed::{Parsed, parse};
 use crate::request::shape_kind;
 use crate::source::Source;
-use answers::{RecordScratch, ShapedPlane};
+use answers::{KeptPlane, RecordScratch, ShapedPlane};
 use common::{Choice, DrawingKind};
 use embedding::ReadFault;
 use ortho_rep::Points;
@@ -60,16 +60,17 @@ fn laid_shape(shaped_plane: ShapedPlane, drawing: Option<Points>) -> Layout
         plane,
         shape,
         prices,
-        directions: _,
+        directions,
         drawing_kind,
     } = shaped_plane;
-    Layout {
+    let kept = KeptPlane {
         plane,
         shape,
         prices,
+        directions,
         drawing_kind,
-        drawing,
-    }
+    };
+    Layout { kept, drawing }
 }
 
 /// The plane of the record with prices and a least shape for this drawing, or for a quick one.

@@ -51,8 +51,5 @@ pub(crate) fn drawing_of(drawing: u32) -> Option<Option<DrawingKind>>
 pub(crate) fn shape_kind(kind: Option<DrawingKind>) -> DrawingKind
     ensures { result ≡ shape_kind kind }
 {
-    match kind {
-        Some(kind) => kind,
-        None => DrawingKind::Quick,
-    }
+    kind.unwrap_or(DrawingKind::Quick)
 }

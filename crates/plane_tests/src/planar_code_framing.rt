@@ -1,10 +1,10 @@
 //! Streams whose records and endings are known, the limit of a million records, and refused allocations.
 
-use planar_code::{Ending, FeedFault, Framer, HEADER, frame, split};
+use planar_code::{Ending, FeedFault, Framer, HEADER};
 use std::alloc::Global;
 use std::process::Abort;
 use test_tools::records::TRIANGLE;
-use test_tools::same;
+use test_tools::{frame, same, split};
 
 /// The number of records that the framer finds in a text, and how the text ends.
 fn framed(rt: &impl Abort, alloc: Global, text: &[u8]) -> (usize, Ending) {

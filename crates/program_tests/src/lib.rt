@@ -17,6 +17,8 @@ mod lines;
 #[cfg(test)]
 mod long_checks;
 #[cfg(test)]
+mod selected;
+#[cfg(test)]
 mod shared;
 #[cfg(test)]
 mod side_by_side;

@@ -1,4 +1,5 @@
 //! Runs of the whole command, which the tests share.
+ghost use Rattle.std.specs.Prelude.{false};
 
 use commands::{Console, SystemFiles, command};
 use std::alloc::{AllocError, Global};
@@ -39,6 +40,12 @@ impl Read for Input<'_> {
 pub struct NoConsole;
 
 impl Console for NoConsole {
+    ghost has_terminal = { λ _. false };
+
+    fn out_is_terminal(&self) -> bool {
+        false
+    }
+
     fn is_terminal(&self) -> bool {
         false
     }

@@ -1,5 +1,6 @@
 //! Standard input as a file, and lines of progress. The bytes and the texts come from the description of the format,
 //! of the report and of the lines.
+ghost use Rattle.std.specs.Prelude.{false};
 
 use crate::layouts::{EDGELESS, UNREAD};
 use crate::shared::{
@@ -154,6 +155,12 @@ impl<'a> Ticking<'a> {
 }
 
 impl Console for Ticking<'_> {
+    ghost has_terminal = { λ _. false };
+
+    fn out_is_terminal(&self) -> bool {
+        false
+    }
+
     fn is_terminal(&self) -> bool {
         self.terminal
     }

@@ -31,28 +31,10 @@ pub(crate) fn shape_of(
     ensures first { IfErr result (λ fault. fault ≢ Fault.Memory
         → AreOnGridLines plane.now points.now → IsFirstFailure plane.now points.now fault) }
 {
-    let darts = usize::from(plane.graph().darts());
+    let graph = plane.graph();
     directions.clear();
-    directions.resize(darts, Direction::East)?;
-    shape_in(alloc, directions.as_mut_slice(), plane, points)
-}
-
-/// The shape of these points, if each path turns at each of its corners, found with a list for the directions of darts.
-fn shape_in(
-    alloc: Global,
-    directions: &mut [Direction],
-    plane: &Plane,
-    points: &Points,
-) -> Result<Shape, Fault>
-    requires whole { HasBoundedPoints plane.now points.now }
-    requires room { darts plane.now ≤ length directions.old }
-    ensures taken { IfOk result (IsTaken plane.now points.now) }
-    ensures refused { IfErr result (λ fault. fault ≢ Fault.Memory → (shape : ShapeModel) → ¬ TurnAsSaid plane.now shape points.now) }
-    ensures first { IfErr result (λ fault. fault ≢ Fault.Memory
-        → AreOnGridLines plane.now points.now → IsFirstFailure plane.now points.now fault) }
-{
-    // Only the proof needs this: `graph` says how many darts there are at most.
-    let _graph = plane.graph();
+    directions.resize(usize::from(graph.darts()), Direction::East)?;
+    let directions = directions.as_mut_slice();
     let strings = list_turns(alloc, plane, points)?;
     list_directions(plane, points, directions);
     let angles = list_angles(alloc, plane, directions)?;

@@ -153,20 +153,14 @@ pub fn laid_line(
     ensures { IfOk result (λ line.
         line.items ≡ line_of (laid_data file graph laid.entry.plane.now laid.entry.shape.now laid.entry.prices.now (points_in laid.entry.drawing))) }
 {
-    let LaidGraph {
-        plane,
-        shape,
-        prices,
-        drawing,
-    } = laid;
-    let room = LAID_ROOM + DART_ROOM * usize::from(plane.graph().darts());
+    let room = LAID_ROOM + DART_ROOM * usize::from(laid.plane.graph().darts());
     let mut out = Vec::with_capacity(alloc, room)?;
-    put_shape(&mut out, plane, shape, drawing)?;
+    put_shape(&mut out, laid.plane, laid.shape, laid.drawing)?;
     put_place(&mut out, file, graph)?;
-    put_sizes(&mut out, plane)?;
-    put_drawing(&mut out, plane.graph().edges(), drawing)?;
-    put_prices(&mut out, plane, prices)?;
-    put_end(&mut out, shape)?;
+    put_sizes(&mut out, laid.plane)?;
+    put_drawing(&mut out, laid.plane.graph().edges(), laid.drawing)?;
+    put_prices(&mut out, laid.plane, laid.prices)?;
+    put_end(&mut out, laid.shape)?;
     out.push(b'\n')?;
     Ok(out)
 }

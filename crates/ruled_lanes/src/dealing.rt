@@ -67,10 +67,7 @@ impl Tickets {
         ensures seats { IfOk result (λ seats. All (SitsAt table.now.shared.table_id table.now.shared.key.0) seats.items) }
         ensures unused { IfOk result (λ seats. All IsUnused seats.items) }
     {
-        let mut seats = match Vec::with_capacity(alloc, lanes as usize) {
-            Ok(seats) => seats,
-            Err(_) => return Err(Memory),
-        };
+        let mut seats = Vec::with_capacity(alloc, lanes as usize)?;
         for _lane in 1..lanes {
             seats.push_reserved(Seat::of(table.shared.split_seat::<Shares>(&mut pass)));
         }
@@ -109,10 +106,7 @@ impl Tickets {
         ensures word { IfOk result (λ r. MustBeWord r.0 r.1.items 0) }
     {
         let key = (limit as u64, lanes as u64);
-        let (table, pass) = match Word::of_words(alloc, &[0], &key) {
-            Ok(made) => made,
-            Err(_) => return Err(Memory),
-        };
+        let (table, pass) = Word::of_words(alloc, &[0], &key)?;
         let seats = Tickets::divide(alloc, &table, pass, lanes)?;
         let tickets = Tickets {
             table,

@@ -1,4 +1,5 @@
 //! The reasons why a call on a link, a fan or tickets is refused.
+use std::alloc::AllocError;
 use std::fmt;
 use thiserror::Error;
 
@@ -32,3 +33,9 @@ impl<T> fmt::Debug for Closed<T> {
 #[derive(Clone, Copy, Debug, PartialEq, Eq, Error)]
 #[error("out of memory")]
 pub struct Memory;
+
+impl From<AllocError> for Memory {
+    fn from(_refused: AllocError) -> Memory {
+        Memory
+    }
+}

@@ -162,10 +162,9 @@ impl<T: Drop> Gatherer<T> {
         ensures ok { IfOk result (λ item. gathered self.new ≡ gathered self.old ++ item ∷ []) }
         ensures refused { OnErr result (gathered self.new ≡ gathered self.old) }
     {
-        match self.receiver.recv_as::<Takes, R>(rt, &mut self.pass) {
-            Ok(item) => Ok(item),
-            Err(_) => Err(Closed(())),
-        }
+        self.receiver
+            .recv_as::<Takes, R>(rt, &mut self.pass)
+            .map_err(|_| Closed(()))
     }
 
     /// The next item of the fan and the number of its lane; waits while the fan is empty.

@@ -126,10 +126,9 @@ impl<T: Drop> Taker<T> {
         ensures ok { IfOk result (λ item. taken self.new ≡ taken self.old ++ item ∷ []) }
         ensures refused { OnErr result (taken self.new ≡ taken self.old) }
     {
-        match self.receiver.recv_as::<Takes, R>(rt, &mut self.pass) {
-            Ok(item) => Ok(item),
-            Err(_) => Err(Closed(())),
-        }
+        self.receiver
+            .recv_as::<Takes, R>(rt, &mut self.pass)
+            .map_err(|_| Closed(()))
     }
 
     /// The next item of the link; waits while the link is empty.

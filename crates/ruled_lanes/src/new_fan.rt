@@ -22,21 +22,13 @@ pub fn fan_in<T: Send + Drop>(
     ensures lanes { IfOk result (λ r. (vec_len r.0 ≡ LANES) × StandInOrder r.0.items) }
     ensures unused { IfOk result (λ r. All (λ g. given_at g ≡ []) r.0.items × (gathered r.1 ≡ [])) }
 {
-    let (sender, receiver, mut pass) = match bounded_with::<(u32, T), FanLog<T>, Fanned, Global>(
+    let (sender, receiver, mut pass) = bounded_with::<(u32, T), FanLog<T>, Fanned, Global>(
         alloc,
         capacity as usize,
-    ) {
-        Ok(made) => made,
-        Err(_) => return Err(Memory),
-    };
-    let mut givers = match Vec::with_capacity(alloc, LANES as usize) {
-        Ok(givers) => givers,
-        Err(_) => return Err(Memory),
-    };
+    )?;
+    let mut givers = Vec::with_capacity(alloc, LANES as usize)?;
     for lane in 0..LANES {
-        let Ok(own) = sender.try_clone() else {
-            return Err(Memory);
-        };
+        let own = sender.try_clone()?;
         let gives = sender.another::<NewLane>(&mut pass);
         givers.push_reserved(LaneGiver::of(own, gives, lane));
     }

@@ -18,13 +18,10 @@ pub fn link<T: Send + Drop>(alloc: Global, capacity: u32) -> Result<(Giver<T>, T
     ensures ends { IfOk result (λ r. AreEnds r.0 r.1) }
     ensures unused { IfOk result (λ r. (given r.0 ≡ []) × (taken r.1 ≡ [])) }
 {
-    let (sender, receiver, mut pass) = match bounded_with::<T, Log<T>, Linked, Global>(
+    let (sender, receiver, mut pass) = bounded_with::<T, Log<T>, Linked, Global>(
         alloc,
         capacity as usize,
-    ) {
-        Ok(made) => made,
-        Err(_) => return Err(Memory),
-    };
+    )?;
     let takes = sender.another::<Roles>(&mut pass);
     Ok((Giver::of(sender, pass), Taker::of(receiver, takes)))
 }

@@ -37,7 +37,7 @@ same_marked bytes fails records others (Ended end) (Ended end') is is' has has' 
     (same.0, ap Ended same.1)
 
 -- what is found in a file with these known bytes is marked by them
-marked_as_known : (known : Option (List ℕ)) (known_fails : Bool) (all : List ℕ) (records : List (List ℕ)) (mark : Mark) (bytes : List ℕ) (fails : Bool)
+pub marked_as_known : (known : Option (List ℕ)) (known_fails : Bool) (all : List ℕ) (records : List (List ℕ)) (mark : Mark) (bytes : List ℕ) (fails : Bool)
     → known ≡ Some all → IsKnownOf known known_fails bytes fails → IsMarked bytes fails records mark → IsMarked all known_fails records mark
 marked_as_known None known_fails all records mark bytes fails e gave marked = absurd (let never : ⊥ = cc e in never)
 marked_as_known (Some known) known_fails all records mark bytes fails e gave marked =

@@ -21,3 +21,4 @@ pub mod CellSides
 pub mod Along
 pub mod Joining
 pub mod OneRegion
+pub mod OnePick

@@ -3,3 +3,4 @@ pub mod Outside
 pub mod Supplies
 pub mod Reports
 pub mod Cells
+pub mod Picks

@@ -25,4 +25,8 @@ mod lanes_lost;
 #[cfg(test)]
 mod lanes_slow;
 #[cfg(test)]
+mod picks_rows;
+#[cfg(test)]
+mod picks_runs;
+#[cfg(test)]
 mod reported;

@@ -12,12 +12,12 @@ use faces::Plane;
 use flow_network::FaceNet;
 use min_cost_flow::{Arc, Cap, Network, SolveFault, WarmStart, solve};
 use ortho_rep::{Prices, Shape, Turn, best_shape, least_shape};
-use planar_code::{Ending, Record, frame, split};
+use planar_code::{Ending, Record};
 use std::alloc::{AllocError, Global};
 use std::process::Abort;
 use straightening::{Scratch, straighten_in};
 use test_tools::records::{CAPPED_CUBE, PATH, TRIANGLE};
-use test_tools::{plane_in, same, strings_in};
+use test_tools::{frame, plane_in, same, split, strings_in};
 
 /// A stream of two records.
 const STREAM: &[u8] = b">>planar_code<<\x01\x00\x02\x00\x00";

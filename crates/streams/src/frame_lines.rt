@@ -34,10 +34,8 @@ pub fn write_frames<S: Sink>(frames: &Frames, sink: &mut S) -> Result<(), WriteF
 {
     let mut lines = TextBuffer::new();
     let records = frames.records();
-    match write_records(&mut lines, sink, 0, records) {
-        Ok(()) => write_mark(&mut lines, sink, frames.mark(), records.len() as u64),
-        Err(fault) => Err(fault),
-    }
+    write_records(&mut lines, sink, 0, records)?;
+    write_mark(&mut lines, sink, frames.mark(), records.len() as u64)
 }
 
 /// Reads a source and writes the text of its records and its mark, which is returned.
@@ -62,14 +60,9 @@ pub fn write_frames_of<T: Tap, S: Sink>(
     ensures failed { IfErr result (λ fault. (fault ≡ WriteFault.Write) × (S.failed sink.new ≡ true)) }
 {
     let mut lines = TextBuffer::new();
-    let end = match write_records_of(source, alloc, buffer, &mut lines, sink) {
-        Ok(end) => end,
-        Err(fault) => return Err(fault),
-    };
-    match write_mark(&mut lines, sink, end.mark, u64::from(end.count)) {
-        Ok(()) => Ok(end.mark),
-        Err(fault) => Err(fault),
-    }
+    let end = write_records_of(source, alloc, buffer, &mut lines, sink)?;
+    write_mark(&mut lines, sink, end.mark, u64::from(end.count))?;
+    Ok(end.mark)
 }
 
 /// Reads a source and writes the lines of its records; returns their number and the mark of the source.
@@ -124,13 +117,9 @@ impl<S: Sink> Receiver for RecordLines<'_, S> {
         first: u32,
         records: &mut Vec<Record>,
     ) -> Result<(), WriteFault> {
-        match write_records(self.lines, self.sink, u64::from(first), records.as_slice()) {
-            Ok(()) => {
-                records.clear();
-                Ok(())
-            }
-            Err(fault) => Err(fault),
-        }
+        write_records(self.lines, self.sink, u64::from(first), records.as_slice())?;
+        records.clear();
+        Ok(())
     }
 
     ghost received_none = { λ x. lines_none (S.taken x.sink.now) };

@@ -38,14 +38,7 @@ pub enum PieceOutcome {
 pub fn piece_buffer(alloc: Global) -> Result<Vec<u8>, AllocError>
     ensures { IfOk result (λ v. vec_len v ≡ PIECE) }
 {
-    zeros(alloc, PIECE)
-}
-
-/// A list of this many zeros.
-fn zeros(alloc: Global, count: usize) -> Result<Vec<u8>, AllocError>
-    ensures { IfOk result (λ v. vec_len v ≡ count) }
-{
-    vec![in alloc; 0; count]
+    vec![in alloc; 0; PIECE]
 }
 
 /// Reads one piece of the source, appends the records that it completes to `records`, and returns the outcome.
@@ -110,45 +103,32 @@ pub fn read_source<T: Tap, V: Receiver>(
         × IsFoundIn (T.to_come source) (T.fails source) records (Mark.Ended Ending.Memory)) }
     ensures stays { V.stays receiver.old receiver.new }
 {
-    let mut framer = match Framer::new(alloc) {
-        Ok(framer) => framer,
-        Err(_) => {
-            return Ok(SourceEnd {
-                count: 0,
-                mark: Mark::Ended(Ending::Memory),
-            });
-        }
+    let Ok(mut framer) = Framer::new(alloc) else {
+        let mark = Mark::Ended(Ending::Memory);
+        return Ok(SourceEnd { count: 0, mark });
     };
     let mut records = Vec::new(alloc);
-    let mut ordinal = 0;
+    let mut count = 0;
     // Counted, so that the call is proved to end. The last round is never reached: a framer that still reads has had no
     // more bytes than the header and a million records.
     for _ in 0..u64::MAX {
         let step = read_piece(&mut source, &mut framer, alloc, buffer, &mut records);
-        let next = ordinal + records.len() as u32;
-        match receiver.receive(alloc, ordinal, &mut records) {
-            Ok(()) => ordinal = next,
-            Err(refusal) => return Err(refusal),
-        }
+        let next = count + records.len() as u32;
+        receiver.receive(alloc, count, &mut records)?;
+        count = next;
         match step {
             PieceOutcome::More => {}
             PieceOutcome::Ended => {
-                return Ok(SourceEnd {
-                    count: ordinal,
-                    mark: Mark::Ended(framer.finish()),
-                });
+                let mark = Mark::Ended(framer.finish());
+                return Ok(SourceEnd { count, mark });
             }
             PieceOutcome::Failed => {
-                return Ok(SourceEnd {
-                    count: ordinal,
-                    mark: Mark::Io,
-                });
+                let mark = Mark::Io;
+                return Ok(SourceEnd { count, mark });
             }
             PieceOutcome::Faulted(fault) => {
-                return Ok(SourceEnd {
-                    count: ordinal,
-                    mark: Mark::Ended(Ending::from(fault)),
-                });
+                let mark = Mark::Ended(Ending::from(fault));
+                return Ok(SourceEnd { count, mark });
             }
         }
     }

@@ -96,7 +96,7 @@ class Conditions:
 
 @dataclass(frozen=True, slots=True)
 class Cut:
-    """Why no shape has the angles and turns: a set of vertices and faces that turn more than can leave it."""
+    """Why no shape has the angles and turns: a set of vertices and faces that need more turns than these allow."""
 
     vertices: tuple[int, ...]  # numbered from 1
     faces: tuple[int, ...]  # numbered from 0, in the order of their lowest darts
@@ -106,7 +106,7 @@ class Cut:
         """Return the cut in words."""
         named = [f"{what} {', '.join(map(str, numbers))}"
                  for what, numbers in (("vertices", self.vertices), ("faces", self.faces)) if numbers]
-        return f"{' and '.join(named)} turn more than can leave them"
+        return f"{' and '.join(named)} need more turns than the conditions allow"
 
 
 class NotKept(PlanarbendError):
@@ -180,13 +180,13 @@ class ProcessEngine:
 
     def lay_keeping(self, lists: Lists, outer: str, conditions: Conditions) -> Answer:
         """Return no layout: raise a `PlanarbendError`, since the program takes no conditions."""
-        raise PlanarbendError("the program planarbend keeps no conditions: they need the library")
+        raise PlanarbendError("given angles, turns and inner faces need libplanarbend, which was not found")
 
 
 def answer_of(line: dict[str, Any]) -> Answer:
     """Return the answer in a JSON line, without its representation, or raise `PlanarbendError` if the graph is not drawn."""
     if line["status"] != "ok" or line["points"] is None:
-        raise PlanarbendError(f"planarbend does not draw a graph: {line}")
+        raise PlanarbendError(f"planarbend could not lay out the graph: {line}")
     return Answer(line["bends"], *points_of(line["points"]))
 
 

@@ -58,7 +58,7 @@ class GraphUnkept(GraphError):
 
     `word`: "noshape" (no shape has these angles and turns), "noedge" (two vertices are not neighbours), "noouter" (all faces
     must be inner) or "wide" (the drawing does not fit the grid).
-    `vertices`, `faces`: with "noshape", vertices and faces that turn more than can leave them, if the outer face is
+    `vertices`, `faces`: with "noshape", vertices and faces that need more turns than the conditions allow, if the outer face is
     `outer_face`. A face has its vertices in walking order, with the face on the left. With "noedge", `vertices` are the two.
     """
 
@@ -79,7 +79,7 @@ class GraphUnkept(GraphError):
         faces = tuple(walks[face] for face in fault.cut.faces)
         said = [f"vertices {', '.join(map(repr, vertices))}"] if vertices else []
         said += [f"faces {', '.join(map(repr, faces))}"] if faces else []
-        return GraphUnkept(number, fault.word, f"{' and '.join(said)} turn more than can leave them", vertices, faces,
+        return GraphUnkept(number, fault.word, f"{' and '.join(said)} need more turns than the conditions allow", vertices, faces,
                            walks[fault.cut.outer])
 
 

@@ -294,7 +294,7 @@ class Library:
         result = self._called(record, outer, "short", conditions)
         self._look_whether_kept(result)
         if result != OK:
-            raise PlanarbendError(f"planarbend does not draw a graph: {self.word(result)}")
+            raise PlanarbendError(f"planarbend could not lay out the graph: {self.word(result)}")
         return Answer(self._counts.bends, *self._points())
 
     def _look_whether_kept(self, result: int) -> None:

@@ -25,9 +25,9 @@ FOREIGN: list[tuple[bytes, str] | tuple[bytes, str, bytes]] = [
     (b"\x28\xb5\x2f\xfd", "a zstd file, not a graph: unpack it first"), (b"7z\xbc\xaf", "a 7z archive"),
     (b"\x7fELF", "a program"), (b"SQLite format 3", "an SQLite database"),
     (b"EESchema Schematic", "a schematic of KiCad 5 or older: open it in KiCad, and export a netlist (File, Export, Netlist)"),
-    (b"PCBNEW-BOARD", "a board of a KiCad before release 4: open it in a newer KiCad and save it"),
-    (b"# EESchema Netlist", "a netlist in an old form of KiCad; export it in KiCad's own format"),
-    (b"( { ", "a netlist in the form of OrcadPCB2; export it in KiCad's own format"),
+    (b"PCBNEW-BOARD", "a board from KiCad before version 4: open it in a newer KiCad and save it"),
+    (b"# EESchema Netlist", "an old KiCad netlist format; export it in KiCad's own format"),
+    (b"( { ", "an OrcadPCB2 netlist; export it in KiCad's own format"),
 ]
 SCHEMATIC = ("a KiCad schematic, which has symbols and wires but no list of connections: export a netlist, in KiCad by"
              " File, Export, Netlist, or by `kicad-cli sch export netlist FILE`, and draw that")
@@ -35,7 +35,7 @@ EXPRESSIONS = {"export": "netlist", "kicad_pcb": "board"}
 FOREIGN_EXPRESSIONS = {"kicad_sch": SCHEMATIC, "kicad_symbol_lib": "a library of KiCad's symbols",
                        "kicad_wks": "a drawing sheet of KiCad", "footprint": "a footprint of KiCad",
                        "module": "a footprint of KiCad", "edif": "an EDIF netlist; export it in KiCad's own format",
-                       "pcb": "a board in the form of Specctra"}
+                       "pcb": "a Specctra board"}
 FOREIGN_XML = {"svg": "an SVG image", "html": "an HTML page", "gexf": "a GEXF graph; Gephi and networkx make GraphML of it",
                "gxl": "a GXL graph; Graphviz's `gxl2gv` makes DOT of it", "mxfile": "a diagram of draw.io",
                "export": "a netlist of KiCad in XML; export it in KiCad's own format"}

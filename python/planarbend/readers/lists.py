@@ -60,5 +60,5 @@ def unquoted(name: str, number: int) -> str:
     if re.fullmatch(QUOTED, name):
         return re.sub(r"\\(.)", r"\1", name[1:-1])
     if name[0] == '"':
-        raise Fault(f"a quote without an end, or letters after it: {shown(name)}", number)
+        raise Fault(f"unterminated quote, or letters after it: {shown(name)}", number)
     return name

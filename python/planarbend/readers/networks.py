@@ -128,11 +128,16 @@ def scanned(data: bytes) -> list[tuple[str, str, bool | None]]:
         raise Fault(f"not XML: {expat.errors.messages[error.code]}", error.lineno) from None
     if not graphs:
         raise Fault("not GraphML: it has no graph")
+    look_at_ends(nodes, edges)
+    return [(tail, head, directed) for _, tail, head, directed in edges]
+
+
+def look_at_ends(nodes: set[str], edges: Iterable[tuple[int, str, str, bool | None]]) -> None:
+    """Raise a `Fault` with the line of the first edge of which an end is not a node."""
     for line, *ends, _ in edges:
         for end in ends:
             if end not in nodes:
                 raise Fault(f"the edge's end {shown(str(end))} is not a node", line)
-    return [(tail, head, directed) for _, tail, head, directed in edges]
 
 
 def read_gml(data: bytes) -> Graph:
@@ -207,7 +212,7 @@ def read_json(data: bytes) -> Graph:
     except json.JSONDecodeError as error:
         raise Fault(f"not JSON: {error.msg}", error.lineno) from None
     except RecursionError:
-        raise Fault("not node-link JSON: lists within lists without end") from None
+        raise Fault("not node-link JSON: nested too deeply") from None
     edges = found.get("links", found.get("edges")) if isinstance(found, dict) else None
     if edges is None or not isinstance(edges, list) or not isinstance(found.get("nodes"), list):
         raise Fault("not node-link JSON: it needs the lists nodes and links (or edges)")

@@ -42,26 +42,26 @@ def parsed(text: str) -> Expression:
     while place < len(text):
         match = TOKEN.match(text, place)
         if match is None:
-            raise Fault("a quote without an end", line)
+            raise Fault("unterminated quote", line)
         if match[1] == "(":
             if whole is not None and not open_lists:
-                raise Fault("something after the end of the list", line)
+                raise Fault("text after the closing parenthesis", line)
             open_lists.append(Expression(line))
             whole = whole or open_lists[0]
         elif match[1] == ")":
             if not open_lists:
-                raise Fault("a closing parenthesis too many", line)
+                raise Fault("unmatched ')'", line)
             closed = open_lists.pop()
             if open_lists:
                 open_lists[-1].inner.append(closed)
         elif not match[0].isspace():
             if not open_lists:
-                raise Fault("a word outside the list", line)
+                raise Fault("text outside the list", line)
             open_lists[-1].words.append(match[3] if match[3] is not None else unescaped(match[2]))
         line += match[0].count("\n")
         place = match.end()
     if open_lists:
-        raise Fault(f"the list {open_lists[-1].head} has no end; the file is cut off", open_lists[-1].line)
+        raise Fault(f"unclosed '({open_lists[-1].head}': the file is cut off", open_lists[-1].line)
     if whole is None:
         raise Fault("no list in parentheses")
     return whole

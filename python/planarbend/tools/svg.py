@@ -30,7 +30,7 @@ exit status: 0; 1 if a requested graph cannot be drawn (standard error says why,
 command line is wrong; 3 if a page was written, but its file does not end complete
 """
 STEP = 40  # pixels between neighbouring whole numbers
-RADIUS = 11  # of a vertex
+RADIUS, DOT = 11, 6  # of a vertex with a number and without
 LINE = 2  # how wide an edge is
 LABEL = 11  # pixels, font size in a vertex
 CAPTION = 24  # pixels below a picture of a grid
@@ -120,8 +120,8 @@ def paths_of(embedding: Embedding, points: dict[str, Any]) -> list[list[Point]]:
     return paths
 
 
-def draw(embedding: Embedding, line: dict[str, Any], shaded: bool) -> Picture:
-    """Return the picture of one graph: y grows to the north, and in SVG downwards."""
+def draw(embedding: Embedding, line: dict[str, Any], shaded: bool, numbered: bool = True) -> Picture:
+    """Return the picture of one graph, with vertices as numbers or as dots: y grows to the north, and in SVG downwards."""
     vertices, paths = line["points"]["vertices"], paths_of(embedding, line["points"])
     drawn = vertices + [point for path in paths for point in path]
     left, top = min(x for x, _ in drawn), max(y for _, y in drawn)
@@ -144,11 +144,12 @@ def draw(embedding: Embedding, line: dict[str, Any], shaded: bool) -> Picture:
                      for face, walk in enumerate(embedding.walks) if face != outer]
     elements.append(f'<g fill="none" stroke="black" stroke-width="{LINE}">')
     elements += [f'<polyline points="{along(path)}"/>' for path in paths[::2]]
-    elements.append(f'</g><g fill="white" stroke="black" stroke-width="{LINE}">')
-    elements += ['<circle cx="{}" cy="{}" r="{}"/>'.format(*place(point), RADIUS) for point in vertices]
-    elements.append(f'</g><g font-family="sans-serif" font-size="{LABEL}" text-anchor="middle">')
-    elements += ['<text x="{}" y="{}" dy=".35em">{}</text>'.format(*place(point), number)
-                 for number, point in enumerate(vertices, 1)]
+    elements.append(f'</g><g fill="{"white" if numbered else "black"}" stroke="black" stroke-width="{LINE}">')
+    elements += ['<circle cx="{}" cy="{}" r="{}"/>'.format(*place(point), RADIUS if numbered else DOT) for point in vertices]
+    if numbered:
+        elements.append(f'</g><g font-family="sans-serif" font-size="{LABEL}" text-anchor="middle">')
+        elements += ['<text x="{}" y="{}" dy=".35em">{}</text>'.format(*place(point), number)
+                     for number, point in enumerate(vertices, 1)]
     elements.append("</g>")
     bends = "1 bend" if line["bends"] == 1 else f"{line['bends']} bends"
     return Picture(f"graph {line['graph']}: {bends}", width, height, elements)
@@ -162,7 +163,7 @@ def reason_picture(number: int, reason: str) -> Picture:
     return Picture(f"graph {number}", width, height, [text])
 
 
-def pictures(path: str, lines: Lines, shaded: bool, alone: bool) -> Iterator[Picture]:
+def pictures(path: str, lines: Lines, shaded: bool, numbered: bool, alone: bool) -> Iterator[Picture]:
     """Yield the pictures of all graphs of these lines, in order."""
     drawn = {number for number, line in lines.graphs.items() if reason_of(line) is None}
     lists = read_lists(path, drawn)
@@ -178,7 +179,7 @@ def pictures(path: str, lines: Lines, shaded: bool, alone: bool) -> Iterator[Pic
             sizes = len(embedding.rotation), len(embedding.tail) // 2, len(embedding.walks)
             if sizes != (line["n"], line["m"], line["f"]):
                 raise ValueError
-            yield draw(embedding, line, shaded)
+            yield draw(embedding, line, shaded, numbered)
         except (KeyError, ValueError, IndexError, TypeError):
             raise Refused(f"graph {number} of {path} is not graph {number} of the lines") from None
 
@@ -235,6 +236,7 @@ def command_line() -> argparse.Namespace:
     parser.add_argument("--graphs", metavar="LIST", type=numbers_of, help="draw several graphs in a grid, such as 1-12")
     parser.add_argument("--columns", metavar="N", type=int, default=4, help="pictures in a row of the grid (default 4)")
     parser.add_argument("--outer", action="store_true", help="shade the outer face")
+    parser.add_argument("--dots", action="store_true", help="draw vertices as dots, without numbers")
     parser.add_argument("--html", action="store_true",
                         help=f"write an HTML page of all graphs (at most {MOST_ON_PAGE}), or of those of --graphs")
     words = parser.parse_args()
@@ -266,7 +268,7 @@ def main() -> int:
     try:
         lines = read_lines(sys.stdin, numbers)
         check_numbers(lines, numbers)
-        shown = list(pictures(words.file, lines, words.outer, alone))
+        shown = list(pictures(words.file, lines, words.outer, not words.dots, alone))
     except (Refused, UnicodeDecodeError) as refused:
         print(f"svg.py: {refused}", file=sys.stderr)
         return 1

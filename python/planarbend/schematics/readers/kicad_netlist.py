@@ -38,7 +38,7 @@ def read_netlist(data: bytes, file: str, inner: str | None = None) -> Sheet:
     if whole.head != "export":
         raise Fault(f"not a KiCad netlist: it begins with ({shown(whole.head)}", whole.line)
     if inner is not None:
-        raise Fault(f"a netlist has no sheets, and so none of the name {shown(inner)}")
+        raise Fault(f"a netlist has no sheets, so none is named {shown(inner)}")
     components = components_of(whole)
     found = Sheet(os.path.splitext(os.path.basename(file))[0])
     for nets in whole.all("nets"):

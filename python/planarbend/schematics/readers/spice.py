@@ -114,7 +114,7 @@ class Builder:
         if letter in SKIPPED:
             self.found.notes.append(f"{name}: {SKIPPED[letter]} are not drawn")
             return None
-        raise Fault(f"an element of no known kind: {shown(name)}", line.number)
+        raise Fault(f"unknown kind of element: {shown(name)}", line.number)
 
     def controlled(self, line: Line, letter: str) -> Part:
         """Return a source or switch that is controlled: a box, or a source with two pins if nodes do not control it."""

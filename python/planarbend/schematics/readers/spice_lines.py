@@ -71,7 +71,7 @@ def lines_of(text: str) -> list[Line]:
         line = "" if line[:1] == "*" else COMMENT.sub("", line).strip()
         if line[:1] == "+":
             if not found:
-                raise Fault("a line that continues none", number)
+                raise Fault("a continuation line with no line before it", number)
             found[-1].words += words_of(line[1:])
         elif line and line[0] != "*" and words_of(line):
             found.append(Line(number, words_of(line)))
@@ -91,7 +91,7 @@ def circuit_of(text: str) -> Circuit:
             opened.append(line.number)
         elif word in (".ends", ".eom"):
             if here.outer is None:
-                raise Fault("the end of a subcircuit that has no beginning", line.number)
+                raise Fault(".ends without .subckt", line.number)
             here = here.outer
             opened.pop()
         elif word == ".model":
@@ -105,7 +105,7 @@ def circuit_of(text: str) -> Circuit:
         elif word[0] != ".":
             here.elements.append(line)
     if opened:
-        raise Fault(f"the subcircuit {shown(here.name)} has no end; the file is cut off", opened[-1])
+        raise Fault(f".subckt {shown(here.name)} without .ends: the file is cut off", opened[-1])
     return whole
 
 

@@ -27,7 +27,7 @@ def read_yosys(data: bytes, file: str, inner: str | None = None) -> Sheet:
     except json.JSONDecodeError as error:
         raise Fault(f"not JSON: {error.msg}", error.lineno) from None
     except (RecursionError, ValueError):
-        raise Fault("not JSON of yosys: lists within lists without end, or a number that is too long") from None
+        raise Fault("not JSON of yosys: nested too deeply, or a number that is too long") from None
     return Reader(text, whole).sheet(inner)
 
 

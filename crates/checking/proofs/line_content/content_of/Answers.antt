@@ -1,14 +1,24 @@
 use Rattle.serde_json.specs.View.{view}
-use Rattle.std.proofs.Common.{inl, inr}
+use Rattle.std.proofs.Common.{inl, inr, sym, subst, ◌∙◌}
+use Rattle.std.proofs.lemmas.Result.{err_from_is_err_and}
+use Rattle.checking.specs.LineContents.{IsWrongLine}
 use Rattle.checking.proofs.Fields.{nothing_said}
 use Rattle.checking.proofs.line_content.content_of.Goals as goal
 
-pub returns-clause-none : goal.returns-clause-none
-returns-clause-none c = λ real.
-    nothing_said c.args.line.now (view c.in-Ok.value) c.in-Ok.ensures.ok (c.is_end.ensures.goes_on c.if-is_end.false) (c.in-Err-drawing_in.ensures.none real)
+pub returns-in_err-drawing_in-clause-none : goal.returns-in_err-drawing_in-clause-none
+returns-in_err-drawing_in-clause-none c =
+    let q = err_from_is_err_and c.from_residual-in_err-drawing_in.result c.from_residual-in_err-drawing_in.ensures.1 in
+    rw q.1 (λ real.
+    nothing_said c.args.line.now (view c.in_ok-value.value) c.in_ok-value.ensures.ok (c.is_end.ensures.goes_on c.if-is_end.false) (c.in_err-drawing_in.ensures.none (λ m. real (q.2 ∙ m))))
 
-pub returns-in-Err-clause-fault : goal.returns-in-Err-clause-fault
-returns-in-Err-clause-fault c = λ real. inl (c.in-Err.ensures.fault real, c.in-Err.ensures.none real)
+pub returns-in_err-value-clause-fault : goal.returns-in_err-value-clause-fault
+returns-in_err-value-clause-fault c =
+    let q = err_from_is_err_and c.from_residual.result c.from_residual.ensures.1 in
+    rw q.1 (λ memory.
+    subst (IsWrongLine c.args.line.now) (sym q.2) (inl (c.in_err-value.ensures.fault (λ m. memory (q.2 ∙ m)), c.in_err-value.ensures.none (λ m. memory (q.2 ∙ m)))))
 
-pub returns-clause-fault : goal.returns-clause-fault
-returns-clause-fault c = λ real. inr (view c.in-Ok.value, c.in-Ok.ensures.ok, c.in-Err-drawing_in.ensures.fault real)
+pub returns-in_err-drawing_in-clause-fault : goal.returns-in_err-drawing_in-clause-fault
+returns-in_err-drawing_in-clause-fault c =
+    let q = err_from_is_err_and c.from_residual-in_err-drawing_in.result c.from_residual-in_err-drawing_in.ensures.1 in
+    rw q.1 (λ memory. subst (IsWrongLine c.args.line.now) (sym q.2)
+    (inr (view c.in_ok-value.value, c.in_ok-value.ensures.ok, c.in_err-drawing_in.ensures.fault (λ m. memory (q.2 ∙ m)))))

@@ -15,7 +15,7 @@ pub loop-asked-init : goal.loop-asked-init
 loop-asked-init c =
     let p = c.args.plane.now in
     let many : c.from.result ≡ darts p = c.from.ensures ∙ (c.darts-darts.ensures.count ∙ ap dart_count c.graph.ensures.value) in
-    no_angles p c.args.list.now c.in-Ok.found.items (c.in-Ok.ensures.items ∙ ap (λ (n : ℕ). replicate n None) many)
+    no_angles p c.args.list.now c.in_ok-found.found.items (c.in_ok-found.ensures.items ∙ ap (λ (n : ℕ). replicate n None) many)
 
 pub loop-asked-preserved : goal.loop-asked-preserved
 loop-asked-preserved c =

@@ -20,9 +20,9 @@ pub loop-asked-init : goal.loop-asked-init
 loop-asked-init c =
     let p = c.args.plane.now in
     let many : c.from.result ≡ darts p = c.from.ensures ∙ (c.darts-darts.ensures.count ∙ ap dart_count c.graph.ensures.value) in
-    let empty : c.in-Ok.found.items ≡ replicate (darts p) None = c.in-Ok.ensures.items ∙ ap (λ (n : ℕ). replicate n None) many in
+    let empty : c.in_ok-found.found.items ≡ replicate (darts p) None = c.in_ok-found.ensures.items ∙ ap (λ (n : ℕ). replicate n None) many in
     record {
-      are = no_turns p c.args.list.now c.in-Ok.found.items empty;
+      are = no_turns p c.args.list.now c.in_ok-found.found.items empty;
       few = subst (All AreFew) (sym empty) (All-replicate AreFew (darts p) None (omega arith));
     }
 

@@ -10,8 +10,8 @@ use Rattle.conditions.proofs.chosen.chosen_shape.Goals as goal
 pub returns-in-First-clause-chosen : goal.returns-in-First-clause-chosen
 returns-in-First-clause-chosen c =
     let p = c.args.plane.now in
-    let q = c.first_shape.new.plane in
+    let q = c.set_outer.new.self in
     let given = c.args.by_darts.now.given in
     let barred = c.args.by_darts.now.barred in
-    whenever c.first_shape.result _
-    (subst (λ (choice : Choice). IsChosenKeeping choice q given barred) (sym c.in-First.is) (greatest_moved p q barred c.args.by_darts.now.greatest (c.first_shape.ensures.outer_moved ∙ ap (λ (m : DartConditionsModel). with_outer c.args.plane.now m.greatest) c.by_darts.view_is) c.requires))
+    whenever c.least_shape_keeping_in.result _
+    (subst (λ (choice : Choice). IsChosenKeeping choice q given barred) (sym c.in-First.is) (greatest_moved p q barred c.args.by_darts.now.greatest (c.set_outer.ensures ∙ ap (λ (m : DartConditionsModel). with_outer c.args.plane.now m.greatest) c.by_darts.view_is) c.requires))

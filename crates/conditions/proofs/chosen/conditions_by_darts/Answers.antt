@@ -49,7 +49,7 @@ returns-in-Some-clause-asked c =
       darts = named;
       given_for = for_these;
       few = few_together p conditions.turns.now angles turns alongs can;
-      inner = c.in-Ok.ensures;
+      inner = c.in_ok-barred.ensures;
     }
 
 pub returns-in-None-clause-fault : goal.returns-in-None-clause-fault
@@ -70,5 +70,5 @@ returns-in-None-clause-fault c = λ _.
       given = listed angles turns;
       given_for = for_these;
       few = few_together p conditions.turns.now angles turns alongs can;
-      inside = λ f lt. (c.in-Ok.ensures f lt).0 (subst (λ (b : List Bool). is_marked b f ≡ true) c.deref-3.ensures.value (c.in-None.ensures f lt));
+      inside = λ f lt. (c.in_ok-barred.ensures f lt).0 (subst (λ (b : List Bool). is_marked b f ≡ true) c.deref-3.ensures.value (c.in-None.ensures f lt));
     }

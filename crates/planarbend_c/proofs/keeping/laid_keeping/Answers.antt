@@ -1,9 +1,10 @@
-use Rattle.std.proofs.Common.{◌≡◌, ◌∙◌, IfOk, IfErr, subst, sym}
+use Rattle.std.proofs.Common.{◌≡◌, ◌∙◌, IfOk, IfErr, rules, subst, sym}
 use Rattle.planarbend_c.specs.Sources.{parsed_lists}
 use Rattle.answers.specs.declared.kept_plane.KeptPlane.{KeptPlane}
-use Rattle.answers.specs.Kept.{IsKeptPlane, IsUnkept}
+use Rattle.reports.specs.Lengths.{IsQuick}
+use Rattle.answers.specs.Drawings.{IsDrawing}
+use Rattle.answers.specs.Kept.{AreDrawnStraight, IsKeptPlane, IsUnkept, KeepsAsked}
 use Rattle.planarbend_c.specs.Requests.{shape_kind}
-use Rattle.planarbend_c.specs.Found.{IsAsAsked, IsFoundKeeping}
 use Rattle.planarbend_c.proofs.keeping.laid_keeping.Goals as goal
 
 pub returns-in-Ok-Err-clause-fault : goal.returns-in-Ok-Err-clause-fault
@@ -23,26 +24,51 @@ returns-in-Err-Wide-clause-fault c =
       shown = c.in-Err-Wide.ensures.wide c.in-Err-Wide.field-0-is;
     }
 
-pub laid_kept-requires : goal.laid_kept-requires
-laid_kept-requires c =
+pub invariant_of-result : goal.invariant_of-result
+invariant_of-result c =
     let known : IsKeptPlane c.args.conditions.now c.args.choice (parsed_lists c.args.rec.now) c.in-Ok-Ok.kept = subst (λ made. IfOk made (IsKeptPlane c.args.conditions.now c.args.choice (parsed_lists c.args.rec.now))) c.in-Ok-Ok.field-0-is c.in-Ok-Ok.ensures.kept in
-    known.kept.proof.prices
+    record { priced = known.kept.proof.prices }
+
+pub returns-then-is_none-clause-found : goal.returns-then-is_none-clause-found
+returns-then-is_none-clause-found c =
+    let known : IsKeptPlane c.args.conditions.now c.args.choice (parsed_lists c.args.rec.now) c.in-Ok-Ok.kept = subst (λ made. IfOk made (IsKeptPlane c.args.conditions.now c.args.choice (parsed_lists c.args.rec.now))) c.in-Ok-Ok.field-0-is c.in-Ok-Ok.ensures.kept in
+    record {
+      lists = known.lists;
+      rules = known.rules;
+      kept = known.kept;
+      drawn = tt;
+      quick = λ _. tt;
+      straight = tt;
+      keeps = tt;
+    }
+
+pub returns-then-is_none-clause-asked : goal.returns-then-is_none-clause-asked
+returns-then-is_none-clause-asked c =
+    let kind : c.in-Ok-Ok.kept.drawing_kind ≡ shape_kind c.args.kind =
+    subst (λ made. IfOk made (λ (kept : KeptPlane). kept.drawing_kind ≡ c.shape_kind.result)) c.in-Ok-Ok.field-0-is c.in-Ok-Ok.ensures.kind ∙ c.shape_kind.ensures in
+    record { points = search rules; shape = kind }
+
+pub invariant_of-result-in-Ok : goal.invariant_of-result-in-Ok
+invariant_of-result-in-Ok c =
+    let known : IsKeptPlane c.args.conditions.now c.args.choice (parsed_lists c.args.rec.now) c.in-Ok-Ok.kept = subst (λ made. IfOk made (IsKeptPlane c.args.conditions.now c.args.choice (parsed_lists c.args.rec.now))) c.in-Ok-Ok.field-0-is c.in-Ok-Ok.ensures.kept in
+    record { priced = known.kept.proof.prices }
 
 pub returns-in-Ok-clause-found : goal.returns-in-Ok-clause-found
 returns-in-Ok-clause-found c =
     let known : IsKeptPlane c.args.conditions.now c.args.choice (parsed_lists c.args.rec.now) c.in-Ok-Ok.kept = subst (λ made. IfOk made (IsKeptPlane c.args.conditions.now c.args.choice (parsed_lists c.args.rec.now))) c.in-Ok-Ok.field-0-is c.in-Ok-Ok.ensures.kept in
-    subst (IsFoundKeeping c.args.conditions.now c.args.choice (parsed_lists c.args.rec.now)) (sym c.laid_kept.ensures) (record {
+    let kept = c.in-Ok-Ok.kept in
+    record {
       lists = known.lists;
       rules = known.rules;
       kept = known.kept;
-      drawn = c.in-Ok.ensures.drawn;
-      quick = c.in-Ok.ensures.quick;
-      straight = c.in-Ok.ensures.straight;
-      keeps = c.in-Ok.ensures.kept c.args.conditions.now c.args.choice known.kept;
-    })
+      drawn = subst (IsDrawing kept.plane kept.shape) (sym c.into_points.ensures) c.in-Ok.ensures.drawn;
+      quick = λ is. subst (IsQuick kept.plane kept.shape) (sym c.into_points.ensures) (c.in-Ok.ensures.quick is);
+      straight = subst (AreDrawnStraight kept.plane kept.shape) (sym c.into_points.ensures) c.in-Ok.ensures.straight;
+      keeps = subst (KeepsAsked c.args.conditions.now kept.plane) (sym c.into_points.ensures) (c.in-Ok.ensures.kept c.args.conditions.now c.args.choice known.kept);
+    }
 
 pub returns-in-Ok-clause-asked : goal.returns-in-Ok-clause-asked
 returns-in-Ok-clause-asked c =
     let kind : c.in-Ok-Ok.kept.drawing_kind ≡ shape_kind c.args.kind =
     subst (λ made. IfOk made (λ (kept : KeptPlane). kept.drawing_kind ≡ c.shape_kind.result)) c.in-Ok-Ok.field-0-is c.in-Ok-Ok.ensures.kind ∙ c.shape_kind.ensures in
-    subst (IsAsAsked c.args.kind) (sym c.laid_kept.ensures) (record { points = c.in-Ok.ensures.asked; shape = kind })
+    record { points = search rules; shape = kind }

@@ -32,14 +32,14 @@ loop-lane-preserved g c =
     let was = c.loop-lane.invariant in
     let left = c.another-gives.ensures.rule.0 in
     let right = c.another-gives.ensures.rule.1 in
-    let Same : LaneGiver g.row.T.Denot → Type 0 = λ h. sends_on h.sender ≡ sends_on c.in-Ok.made.0 in
+    let Same : LaneGiver g.row.T.Denot → Type 0 = λ h. sends_on h.sender ≡ sends_on c.in_ok-sender.sender in
     let Unused : LaneGiver g.row.T.Denot → Type 0 = λ h. given_at h ≡ [] in
     let items : c.push_reserved.new.self.items ≡ c.loop-lane.givers.items ++ c.of.result ∷ [] = c.push_reserved.ensures.items in record {
       room = omega arith;
       many = ap length items ∙ length-append c.loop-lane.givers.items (c.of.result ∷ []) ∙ ap (λ n. n + 1) was.many;
       seated = search rules;
       role = left ∙ ap (λ v. fan_log v.takes (v.made + 1) v.taken v.lanes) was.role;
-      fan = subst (All Same) (sym items) (All-push Same c.loop-lane.givers.items c.of.result was.fan (ap sends_on c.of.ensures.0 ∙ c.in-Ok-try_clone.ensures));
+      fan = subst (All Same) (sym items) (All-push Same c.loop-lane.givers.items c.of.result was.fan (ap sends_on c.of.ensures.0 ∙ c.in_ok-own.ensures));
       order = subst StandInOrder (sym items) (stand_more c.loop-lane.givers.items c.of.result (omega (arith, c.of.ensures)) was.order);
       unused = subst (All Unused) (sym items) (All-push Unused c.loop-lane.givers.items c.of.result was.unused (ap (λ p. given_in (view p)) c.of.ensures.1 ∙ ap given_in right));
     }

@@ -7,7 +7,7 @@ invariant-loop g l = record {
   room : 0 < length l.buffer;
   none : l.records.items ≡ [];
   found : List (List ℕ);
-  next : l.ordinal ≡ length found;
+  next : l.count ≡ length found;
   received : g.V.Receiver.received 0 found l.initial.receiver l.receiver;
   ready : g.V.Receiver.ready l.receiver;
   stays : g.V.Receiver.stays l.initial.receiver l.receiver;

@@ -1,0 +1,102 @@
+//! The graphs that a command line selects, and the columns of their table.
+ghost use Rattle.std.specs.Prelude.{◌≡◌, Option, IfNone, IfSome, option_map};
+ghost use Rattle.picks.specs.declared.range.Range.{Range};
+ghost use Rattle.picks.specs.declared.selecting.RuleCondition.{RuleCondition};
+ghost use Rattle.picks.specs.declared.selecting.Selection.{Selection};
+ghost use Rattle.command_line.specs.Requests as requests;
+ghost use Rattle.command_line.specs.Requests.{IsRangeOf, IsRuleOf, IsSelectedBy};
+
+use crate::reading::{Keyword, Setting, asks, setting_text};
+use picks::{Columns, Conditions, Range, RuleCondition, Selection};
+use std::alloc::{AllocError, Global};
+
+/// The graphs that the arguments select; `None` if a value of a condition is not valid.
+pub(crate) fn selection_of(words: &[String]) -> Option<Selection>
+    ensures some { IfSome result (IsSelectedBy words.now) }
+    ensures none { IfNone result ((selection : Selection) → ¬ IsSelectedBy words.now selection) }
+{
+    let vertices = range_of(setting_text(Setting::Vertices, words))?;
+    let edges = range_of(setting_text(Setting::Edges, words))?;
+    let faces = range_of(setting_text(Setting::Faces, words))?;
+    let bends = range_of(setting_text(Setting::Bends, words))?;
+    let rule = rule_of(setting_text(Setting::Rule, words))?;
+    Some(Selection {
+        conditions: Conditions {
+            vertices,
+            edges,
+            faces,
+            bends,
+            rule,
+        },
+        others: asks(Keyword::Others, words),
+    })
+}
+
+/// The range that a text names, if there is a text; `None` if the text names none.
+fn range_of(text: Option<&str>) -> Option<Option<Range>>
+    ensures some { IfSome result (IsRangeOf (option_map (λ t. t.now) text.entry)) }
+    ensures none { IfNone result ((range : Option Range) → ¬ IsRangeOf (option_map (λ t. t.now) text.entry) range) }
+{
+    match text {
+        None => Some(None),
+        Some(text) => match Range::parse(text) {
+            Ok(range) => Some(Some(range)),
+            Err(_) => None,
+        },
+    }
+}
+
+/// The condition on the first broken rule that a text names, if there is a text; `None` if the text names none.
+fn rule_of(text: Option<&str>) -> Option<Option<RuleCondition>>
+    ensures some { IfSome result (IsRuleOf (option_map (λ t. t.now) text.entry)) }
+    ensures none { IfNone result ((rule : Option RuleCondition) → ¬ IsRuleOf (option_map (λ t. t.now) text.entry) rule) }
+{
+    match text {
+        None => Some(None),
+        Some(text) => match RuleCondition::parse(text) {
+            Some(rule) => Some(Some(rule)),
+            None => None,
+        },
+    }
+}
+
+/// The columns that a text lists, and none if there is no text; `None` if the text is no list of columns.
+pub(crate) fn columns_of(text: Option<&str>) -> Option<Columns>
+    ensures { result ≡ requests.columns_of (option_map (λ t. t.now) text.entry) }
+{
+    match text {
+        None => Some(Columns::NONE),
+        Some(text) => Columns::parse(text),
+    }
+}
+
+/// The message for the first value of a range or of columns that is not valid; `None` if each is.
+pub(crate) fn value_fault(alloc: Global, words: &[String]) -> Result<Option<String>, AllocError> {
+    for (setting, name) in RANGES {
+        let Some(text) = setting_text(setting, words) else {
+            continue;
+        };
+        if let Err(fault) = Range::parse(text) {
+            return Ok(Some(
+                format!(in alloc; "invalid value '{text}' for '{name} <RANGE>': {fault}")?,
+            ));
+        }
+    }
+    match setting_text(Setting::By, words) {
+        Some(text) if Columns::parse(text).is_none() => Ok(Some(
+            format!(in alloc; "invalid value '{text}' for '--by <COLUMNS>': {COLUMNS}")?,
+        )),
+        _ => Ok(None),
+    }
+}
+
+/// The options whose value is a range, with their names.
+const RANGES: [(Setting, &str); 4] = [
+    (Setting::Bends, "--bends"),
+    (Setting::Vertices, "--vertices"),
+    (Setting::Edges, "--edges"),
+    (Setting::Faces, "--faces"),
+];
+
+/// What the value of `--by` is.
+const COLUMNS: &str = "the columns are some of n,m,f,bends,rule, each at most once";

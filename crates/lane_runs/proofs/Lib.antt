@@ -1,5 +1,0 @@
-pub mod Ending
-pub mod Telling
-pub mod Seats
-pub mod Merging
-pub mod RunningLanes

@@ -1,0 +1,186 @@
+//! One lane: a pipeline of four stages. The last one runs on the lane's own thread, which starts a thread for each
+//! other one.
+ghost use Rattle.std.specs.Prelude.{◌≡◌, ◌∷◌, ◌++◌, [], List, IfOk, IfSome, Some, vec_len};
+ghost use Rattle.ruled_lanes.specs.LinkEnds.{given, taken, AreEnds};
+ghost use Rattle.ruled_lanes.specs.FanEnds.{given_at, GivesToSameLane};
+ghost use Rattle.lanes.specs.declared.message.Message.{Message as AnyMessage};
+ghost use Rattle.lanes.specs.declared.message.Message.TheVariants.{Stop};
+ghost use Rattle.lanes.specs.Notes.{notes, GoOn};
+ghost use Rattle.lanes.specs.Stages.{IsHandedOn};
+ghost use Rattle.lanes.specs.Lanes.{TellsSeat, StartsToRead, StartsLane, LeavesLane};
+ghost use Rattle.lanes.specs.Accepting.{AcceptsAll};
+
+use crate::lane_kind::LaneKind;
+use crate::read_stage::FirstStage;
+use crate::running::{LaneFault, LaneReturn};
+use crate::settling::settle_links;
+use crate::shared::Shared;
+use crate::stages::{LastStage, MiddleStage, Stages, new_stages};
+use crate::starting::{Started, StartedRead, start_stage};
+use crate::{Gate, Message, Numbered, Opener, StageWork, run_until_stop};
+use ruled_lanes::{LaneGiver, Seat, Taker};
+use std::sync::Wait;
+use std::thread::{Scope, Threads};
+
+/// A lane that does not run: the seat by which it draws files, and its end of the fan.
+#[derive(Drop)]
+pub struct Lane<E: Numbered, M: Drop + Send> {
+    pub seat: Seat,
+    pub giver: LaneGiver<Message<E, M>>,
+}
+
+impl<'s, R: Threads + Wait + Sync, O: Opener, G: Gate, L: LaneKind + 's> Shared<'s, R, O, G, L> {
+    /// Runs a lane, its last stage on this thread and the others on a thread each; returns its seat and its giver.
+    ///
+    /// The result of the last stage for each record, and the end of each file, go to the giver, and after them one
+    /// stop, whatever happened in the lane; the result of that last give is returned with the giver.
+    pub fn run_lane<'e>(
+        &'s self,
+        scope: &'s Scope<'s, &'e ()>,
+        lane: Lane<L::Entry, L::End>,
+    ) -> LaneReturn<L::Entry, L::End>
+        requires { StartsLane self.now.tickets.now lane.seat lane.giver
+            × AcceptsAll L.accepts L.ends (O.meaning self.now.run.now.opener.now) }
+        ensures { LeavesLane L.Entry.about self.now.run.now.choice (O.meaning self.now.run.now.opener.now) self.now.tickets.now
+            lane.giver result.giver result.stop result.seat }
+    {
+        let Lane { seat, mut giver } = lane;
+        let seat = self.work_through_files(scope, seat, &mut giver);
+        let stop = giver.give(self.run.rt, Message::Stop);
+        LaneReturn { giver, stop, seat }
+    }
+
+    /// Makes the stages of a lane, starts the first three and runs the last one; returns the lane's seat. It does not
+    /// give the stop: that is left to the caller.
+    fn work_through_files<'e>(
+        &'s self,
+        scope: &'s Scope<'s, &'e ()>,
+        seat: Seat,
+        giver: &mut LaneGiver<Message<L::Entry, L::End>>,
+    ) -> Result<Seat, LaneFault>
+        requires { StartsLane self.now.tickets.now seat giver.old
+            × AcceptsAll L.accepts L.ends (O.meaning self.now.run.now.opener.now) }
+        ensures same { GivesToSameLane giver.old giver.new }
+        ensures goes_on { GoOn (notes L.Entry.about (given_at giver.new)) }
+        ensures told { IfOk result (λ after. TellsSeat L.Entry.about self.now.run.now.choice (O.meaning self.now.run.now.opener.now) self.now.tickets.now after
+            (given_at giver.new ++ Stop ∷ [])) }
+    {
+        let run = self.run;
+        let lane = giver.lane();
+        let Ok(stages) = new_stages(self.kind, run.alloc, run.capacity, lane, seat) else {
+            return Err(LaneFault::Memory);
+        };
+        let Stages {
+            read,
+            embed,
+            shape,
+            draw: LastStage { scratch, taker },
+        } = stages;
+        let Some(started) = self.start_stages(scope, read, embed, shape) else {
+            return Err(LaneFault::Thread);
+        };
+        let work = StageWork { lane, scratch };
+        let drew = run_until_stop(run.rt, run.alloc, run.gate, work, taker, giver);
+        match started.join(run.rt, drew) {
+            Some(seat) => Ok(seat),
+            None => Err(LaneFault::LaneLost),
+        }
+    }
+
+    /// Starts the first three stages of a lane, each in a thread of its own; `None` if one could not be started.
+    fn start_stages<'e>(
+        &'s self,
+        scope: &'s Scope<'s, &'e ()>,
+        read: FirstStage<L::Framed, L::End>,
+        embed: MiddleStage<L::Framed, L::End>,
+        shape: MiddleStage<L::Embedded, L::End>,
+    ) -> Option<StartedStages<L, O>>
+        requires read { StartsToRead self.now.tickets.now read.seat (vec_len read.buffer) read.giver
+            × AcceptsAll L.accepts L.ends (O.meaning self.now.run.now.opener.now) }
+        requires embed { (taken embed.taker ≡ []) × (given embed.giver ≡ []) }
+        requires shape { (taken shape.taker ≡ []) × (given shape.giver ≡ []) }
+        ensures choice { IfSome result (λ started. started.read.promise.choice ≡ self.now.run.now.choice) }
+        ensures opener { IfSome result (λ started. started.read.promise.opener.value ≡ self.now.run.now.opener.now) }
+        ensures tickets { IfSome result (λ started. started.read.promise.tickets.value ≡ self.now.tickets.now) }
+        ensures giver { IfSome result (λ started. started.read.promise.giver.value ≡ read.giver) }
+        ensures embed_taker { IfSome result (λ started. started.embed.promise.taker.value ≡ embed.taker) }
+        ensures embed_giver { IfSome result (λ started. started.embed.promise.giver.value ≡ embed.giver) }
+        ensures shape_taker { IfSome result (λ started. started.shape.promise.taker.value ≡ shape.taker) }
+        ensures shape_giver { IfSome result (λ started. started.shape.promise.giver.value ≡ shape.giver) }
+    {
+        let run = self.run;
+        let lane = read.lane;
+        // The first stage comes last: a lane that could not be started has drawn no file.
+        let Some(embed) = start_stage(scope, run.rt, run.alloc, run.gate, lane, embed) else {
+            return None;
+        };
+        let Some(shape) = start_stage(scope, run.rt, run.alloc, run.gate, lane, shape) else {
+            // Without the end of its link the started stage does not wait.
+            drop(read);
+            let _embedded = embed.join(run.rt);
+            return None;
+        };
+        let Some(read) = self.start_read(scope, read) else {
+            let _embedded = embed.join(run.rt);
+            let _shaped = shape.join(run.rt);
+            return None;
+        };
+        Some(StartedStages { read, embed, shape })
+    }
+}
+
+/// The first three stages of a lane, each in a thread of its own.
+#[derive(Drop)]
+struct StartedStages<L: LaneKind, O: Opener> {
+    read: StartedRead<L::Framed, L::End, O>,
+    embed: Started<L::Framed, L::End>,
+    shape: Started<L::Embedded, L::End>,
+}
+
+impl<L: LaneKind, O: Opener> StartedStages<L, O> {
+    /// Joins the threads, and settles the links of the lane by the ends that all its stages returned. Returns the
+    /// lane's seat, or `None` if an end of a link was gone.
+    fn join<R: Threads + Wait>(
+        self,
+        rt: &R,
+        drew: Option<Taker<Message<L::Shaped, L::End>>>,
+    ) -> Option<Seat>
+        requires framed { AreEnds self.read.promise.giver.value self.embed.promise.taker.value }
+        requires embedded { AreEnds self.embed.promise.giver.value self.shape.promise.taker.value }
+        requires shaped { IfSome drew (AreEnds self.shape.promise.giver.value) }
+        ensures { IfSome result (λ seat. (gave : List (AnyMessage L.Entry L.End))
+            → IfSome drew (λ took. IsHandedOn L.Shaped.about L.Entry.about (taken took) gave)
+            → TellsSeat L.Entry.about self.read.promise.choice (O.meaning self.read.promise.opener.value)
+            self.read.promise.tickets.value seat gave) }
+    {
+        let StartedStages { read, embed, shape } = self;
+        let read = read.join(rt);
+        let embed = embed.join(rt);
+        let shape = shape.join(rt);
+        let Some((ends, embed, shape, draw)) = all_of(read, embed, shape, drew) else {
+            return None;
+        };
+        let (read, seat) = ends;
+        settle_links::<L, _>(rt, read, embed, shape, draw);
+        Some(seat)
+    }
+}
+
+/// All four values, or `None` if one is missing.
+fn all_of<A: Drop, B: Drop, C: Drop, D: Drop>(
+    first: Option<A>,
+    second: Option<B>,
+    third: Option<C>,
+    fourth: Option<D>,
+) -> Option<(A, B, C, D)>
+    ensures first { IfSome result (λ all. first ≡ Some all.0) }
+    ensures second { IfSome result (λ all. second ≡ Some all.1) }
+    ensures third { IfSome result (λ all. third ≡ Some all.2) }
+    ensures fourth { IfSome result (λ all. fourth ≡ Some all.3) }
+{
+    let Some(first) = first else { return None };
+    let Some(second) = second else { return None };
+    let Some(third) = third else { return None };
+    let Some(fourth) = fourth else { return None };
+    Some((first, second, third, fourth))
+}

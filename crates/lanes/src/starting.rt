@@ -1,0 +1,126 @@
+//! Starting stages in threads of their own.
+ghost use Rattle.std.specs.Prelude.{◌≡◌, [], IfSome, vec_len};
+ghost use Rattle.ruled_lanes.specs.LinkEnds.{given, taken};
+ghost use Rattle.lanes.specs.Stages.{HandedOnAll};
+ghost use Rattle.lanes.specs.Lanes.{ReadsSeat, StartsToRead};
+ghost use Rattle.lanes.specs.Accepting.{AcceptsAll};
+
+use crate::lane_kind::LaneKind;
+use crate::read_stage::FirstStage;
+use crate::shared::Shared;
+use crate::stages::MiddleStage;
+use crate::{Gate, Message, Numbered, Opener, StageWork, Staged, run_stage};
+use common::Choice;
+use ruled_lanes::{Giver, Seat, Taker, Tickets};
+use std::alloc::Global;
+use std::snapshot::Snapshot;
+use std::sync::Wait;
+use std::thread::{Promise, PromisedHandle, Scope, Threads};
+
+/// What the thread of a lane's first stage promises of the end and the seat that it returns.
+#[derive(Drop)]
+pub struct ReadPromise<A: Numbered, M: Drop + Send, O: Opener> {
+    pub choice: Choice,
+    pub opener: Snapshot<O>,
+    pub tickets: Snapshot<Tickets>,
+    pub giver: Snapshot<Giver<Message<A, M>>>,
+}
+
+impl<A: Numbered, M: Drop + Send, O: Opener> Promise<Option<(Giver<Message<A, M>>, Seat)>>
+    for ReadPromise<A, M, O> {
+    ghost kept_by = { λ p result. IfSome result (λ ends.
+        ReadsSeat A.about p.choice (O.meaning p.opener.value) p.tickets.value p.giver.value ends.0 ends.1) };
+}
+
+/// The handle of a first stage that runs in a thread of its own.
+pub type StartedRead<A, M, O> = PromisedHandle<
+    Option<(Giver<Message<A, M>>, Seat)>,
+    ReadPromise<A, M, O>,
+>;
+
+/// What the thread of a stage promises of the ends that it returns.
+#[derive(Drop)]
+pub struct StagePromise<A: Staged, M: Drop + Send> {
+    pub taker: Snapshot<Taker<Message<A, M>>>,
+    pub giver: Snapshot<Giver<Message<A::Next, M>>>,
+}
+
+impl<A: Staged, M: Drop + Send> Promise<Option<(Taker<Message<A, M>>, Giver<Message<A::Next, M>>)>>
+    for StagePromise<A, M> {
+    ghost kept_by = { λ p result. IfSome result (λ ends.
+        HandedOnAll A.about A.Next.about p.taker.value p.giver.value ends.0 ends.1) };
+}
+
+/// The handle of a stage that runs in a thread of its own.
+pub type Started<A, M> = PromisedHandle<
+    Option<(Taker<Message<A, M>>, Giver<Message<<A as Staged>::Next, M>>)>,
+    StagePromise<A, M>,
+>;
+
+impl<'s, R: Threads + Wait + Sync, O: Opener, G: Gate, L: LaneKind + 's> Shared<'s, R, O, G, L> {
+    /// Starts the first stage of a lane in a thread of its own; `None` if the thread could not be started.
+    pub fn start_read<'e>(
+        &'s self,
+        scope: &'s Scope<'s, &'e ()>,
+        reading: FirstStage<L::Framed, L::End>,
+    ) -> Option<StartedRead<L::Framed, L::End, O>>
+        requires { StartsToRead self.now.tickets.now reading.seat (vec_len reading.buffer) reading.giver
+            × AcceptsAll L.accepts L.ends (O.meaning self.now.run.now.opener.now) }
+        ensures choice { IfSome result (λ started. started.promise.choice ≡ self.now.run.now.choice) }
+        ensures opener { IfSome result (λ started. started.promise.opener.value ≡ self.now.run.now.opener.now) }
+        ensures tickets { IfSome result (λ started. started.promise.tickets.value ≡ self.now.tickets.now) }
+        ensures giver { IfSome result (λ started. started.promise.giver.value ≡ reading.giver) }
+    {
+        let promise = ReadPromise {
+            choice: self.run.choice,
+            opener: Snapshot::of(self.run.opener),
+            tickets: Snapshot::of(self.tickets),
+            giver: Snapshot::of(&reading.giver),
+        };
+        match scope.spawn_with(
+            promise,
+            move || -> Option<(Giver<Message<L::Framed, L::End>>, Seat)>
+                requires { StartsToRead self.now.tickets.now reading.seat (vec_len reading.buffer) reading.giver
+                    × AcceptsAll L.accepts L.ends (O.meaning self.now.run.now.opener.now) }
+            { self.read_stage(reading) },
+        ) {
+            Ok(started) => Some(started),
+            Err(_) => None,
+        }
+    }
+}
+
+/// Starts a stage of this lane in a thread of its own; `None` if the thread could not be started.
+pub fn start_stage<'s, 'e, R: Wait + Sync, G: Gate, A: Staged + 's, M: Drop + Send + 's>(
+    scope: &'s Scope<'s, &'e ()>,
+    rt: &'s R,
+    alloc: Global,
+    gate: &'s G,
+    lane: u32,
+    stage: MiddleStage<A, M>,
+) -> Option<Started<A, M>>
+    requires none_taken { taken stage.taker ≡ [] }
+    requires none_given { given stage.giver ≡ [] }
+    ensures taker { IfSome result (λ started. started.promise.taker.value ≡ stage.taker) }
+    ensures giver { IfSome result (λ started. started.promise.giver.value ≡ stage.giver) }
+{
+    let MiddleStage {
+        scratch,
+        taker,
+        giver,
+    } = stage;
+    let promise = StagePromise {
+        taker: Snapshot::of(&taker),
+        giver: Snapshot::of(&giver),
+    };
+    let work = StageWork { lane, scratch };
+    match scope.spawn_with(
+        promise,
+        move || -> Option<(Taker<Message<A, M>>, Giver<Message<A::Next, M>>)>
+            requires { (taken taker ≡ []) × (given giver ≡ []) }
+        { run_stage(rt, alloc, gate, work, taker, giver) },
+    ) {
+        Ok(started) => Some(started),
+        Err(_) => None,
+    }
+}

@@ -1,0 +1,11 @@
+pub mod Adding
+pub mod TableParts
+pub mod OneTable
+pub mod RecordEntries
+pub mod PickedFiles
+pub mod Arriving
+pub mod PickedText
+pub mod Finishing
+pub mod Held
+pub mod CountedGraphs
+pub mod Runs

@@ -1,0 +1,13 @@
+pub mod Ranges
+pub mod Words
+pub mod Facts
+pub mod Books
+pub mod Conditions
+pub mod Picked
+pub mod Combinations
+pub mod Tables
+pub mod Counted
+pub mod Arrived
+pub mod Holding
+pub mod Stops
+pub mod CountsHeld
