@@ -147,7 +147,8 @@ Exit status: 0 if every file is complete and memory ran out for no graph, otherw
 ";
 
 /// The help for the command `count`.
-pub const COUNT: &str = "Count the graphs of planar_code files by vertices, edges, faces, bends or broken rule
+pub const COUNT: &str =
+    "Count the graphs of planar_code files by vertices, edges, faces, bends or broken rule
 
 Usage: planarbend count [OPTIONS] <FILE>...
 

@@ -10,7 +10,9 @@ ghost use Rattle.command_line.specs.Requests.{AreLanesIn, AsksNothing, HasWaitin
 
 use crate::descriptions::describe;
 use crate::progress::Progress;
-use crate::reading::{Keyword, Setting, are_valid, asks, files_of, inputs_among, setting_text, uses};
+use crate::reading::{
+    Keyword, Setting, are_valid, asks, files_of, inputs_among, setting_text, uses,
+};
 use crate::selecting::{columns_of, selection_of, value_fault};
 use clap::Error;
 use clap::error::ErrorKind;

@@ -77,15 +77,15 @@ pub(crate) fn value_fault(alloc: Global, words: &[String]) -> Result<Option<Stri
             continue;
         };
         if let Err(fault) = Range::parse(text) {
-            return Ok(Some(
-                format!(in alloc; "invalid value '{text}' for '{name} <RANGE>': {fault}")?,
-            ));
+            return Ok(Some(format!(in alloc;
+                "invalid value '{text}' for '{name} <RANGE>': {fault}"
+            )?));
         }
     }
     match setting_text(Setting::By, words) {
-        Some(text) if Columns::parse(text).is_none() => Ok(Some(
-            format!(in alloc; "invalid value '{text}' for '--by <COLUMNS>': {COLUMNS}")?,
-        )),
+        Some(text) if Columns::parse(text).is_none() => Ok(Some(format!(in alloc;
+            "invalid value '{text}' for '--by <COLUMNS>': {COLUMNS}"
+        )?)),
         _ => Ok(None),
     }
 }

@@ -41,12 +41,7 @@ pub(crate) fn write_flaws<E: Sink>(
 /// # Errors
 ///
 /// `Write` exactly if the sink has then failed. There is no other error, here and below.
-fn write_file<E: Sink>(
-    name: &str,
-    flaws: &Flaws,
-    why: &str,
-    err: &mut E,
-) -> Result<(), WriteFault>
+fn write_file<E: Sink>(name: &str, flaws: &Flaws, why: &str, err: &mut E) -> Result<(), WriteFault>
     requires { E.failed err.old ≡ false }
     ensures added { OnOk result (Appends (E.taken err.old) (E.taken err.new) (lines_of_file name.now flaws.now why.now)) }
     ensures stands { OnOk result (E.failed err.new ≡ false) }

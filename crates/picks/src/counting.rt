@@ -11,13 +11,13 @@ ghost use Rattle.picks.specs.CountsHeld.{CountsHold, counted_stop};
 ghost use Rattle.picks.specs.Tables.{IsTable};
 
 use crate::combination::Columns;
-use crate::selecting::Selection;
 use crate::counts::Counts;
 use crate::facts::Facts;
 use crate::find_facts::fact_lanes;
 use crate::flaws::{Flaws, add_flaw, no_flaws, set_mark};
 use crate::found_facts::FoundFacts;
 use crate::picking::gather_into;
+use crate::selecting::Selection;
 use collector::{KnownEnd, KnownFiles};
 use lanes::{Consumer, Gate, Opener, Run, RunFault};
 use std::marker::Brand;

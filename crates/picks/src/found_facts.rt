@@ -7,8 +7,8 @@ ghost use Rattle.answers.specs.Spelt.{IsSpelt};
 ghost use Rattle.picks.specs.Conditions.{is_chosen};
 ghost use Rattle.picks.specs.Facts.{AreFacts};
 
-use crate::selecting::Selection;
 use crate::facts::Facts;
+use crate::selecting::Selection;
 use collector::KnownFiles;
 use common::Choice;
 use lanes::Numbered;

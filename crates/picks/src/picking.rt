@@ -14,11 +14,11 @@ ghost use Rattle.picks.specs.Picked.{IsAllPicked, IsPickBegun};
 ghost use Rattle.picks.specs.Holding.{ArePicksOf, IsFlushed, PicksHold, PicksPartly, files_of};
 ghost use Rattle.picks.specs.Stops.{held_stop};
 
-use crate::selecting::Selection;
 use crate::find_facts::fact_lanes;
 use crate::flaws::Flaws;
 use crate::found_facts::FoundFacts;
 use crate::picks::Picks;
+use crate::selecting::Selection;
 use collector::{KnownEnd, KnownFiles, Pace};
 use lanes::{Consumer, Gate, LaneKind, Opener, Run, RunFault, run_lanes};
 use std::alloc::Global;

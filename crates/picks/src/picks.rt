@@ -12,9 +12,9 @@ ghost use Rattle.picks.specs.Books.{FactEntry};
 ghost use Rattle.picks.specs.Picked.{IsAllPicked, picked_of};
 ghost use Rattle.picks.specs.Holding.{ArePicksOf, IsFlushed, IsPartOfPicked, PicksHold, PicksPartly, PicksWrite, files_of, flaws_in};
 
-use crate::selecting::Selection;
 use crate::flaws::{Flaws, add_flaw, no_flaws, set_mark};
 use crate::found_facts::FoundFacts;
+use crate::selecting::Selection;
 use collector::{
     KnownEnd, KnownFiles, Waiting, count_one, keep_line, keep_mark, none_come, put, take_lines,
 };

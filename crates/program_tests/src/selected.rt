@@ -31,7 +31,10 @@ const PICKED: [(&str, &[&[u8]]); 22] = [
     ("--vertices 3", &[TRIANGLE]),
     ("--vertices 2:3", &[EDGE, TRIANGLE]),
     ("--vertices :1", &[LOOP]),
-    ("--edges 0:", &[EDGE, TRIANGLE, SQUARE, TETRAHEDRON_ON_A_TORUS]),
+    (
+        "--edges 0:",
+        &[EDGE, TRIANGLE, SQUARE, TETRAHEDRON_ON_A_TORUS],
+    ),
     ("--edges=3:4", &[TRIANGLE, SQUARE]),
     ("--edges 6", &[TETRAHEDRON_ON_A_TORUS]),
     ("--faces 2", &[TRIANGLE, SQUARE]),
@@ -42,7 +45,10 @@ const PICKED: [(&str, &[&[u8]]); 22] = [
     ("--rule=loop", &[LOOP]),
     ("--rule genus --vertices 4", &[TETRAHEDRON_ON_A_TORUS]),
     ("--rule range", &[]),
-    ("--bends 0 --vertices 3: --lanes 8 --waiting 1 --outer best", &[SQUARE]),
+    (
+        "--bends 0 --vertices 3: --lanes 8 --waiting 1 --outer best",
+        &[SQUARE],
+    ),
 ];
 
 /// The header and these records.
@@ -137,13 +143,16 @@ fn counts_the_selected_graphs(rt: HostRuntime) {
     check_rows(&rt, &COUNTED);
 }
 
-const EMPTY: &str = "error: invalid value '5:3' for '--bends <RANGE>': the range is empty: its first number is above \
+const EMPTY: &str =
+    "error: invalid value '5:3' for '--bends <RANGE>': the range is empty: its first number is above \
     its last one\n";
 
-const NO_RANGE: &str = "error: invalid value ':' for '--faces <RANGE>': a range is A:B, A:, :B or A, with numbers from \
+const NO_RANGE: &str =
+    "error: invalid value ':' for '--faces <RANGE>': a range is A:B, A:, :B or A, with numbers from \
     0 to 4294967295\n";
 
-const NO_COLUMNS: &str = "error: invalid value 'n,n' for '--by <COLUMNS>': the columns are some of n,m,f,bends,rule, \
+const NO_COLUMNS: &str =
+    "error: invalid value 'n,n' for '--by <COLUMNS>': the columns are some of n,m,f,bends,rule, \
     each at most once\n";
 
 const REFUSED_LINES: [(&str, &str); 14] = [
@@ -151,15 +160,30 @@ const REFUSED_LINES: [(&str, &str); 14] = [
     ("count all.pc --faces :", NO_RANGE),
     ("count --by n,n all.pc", NO_COLUMNS),
     ("count --by= all.pc", "for '--by <COLUMNS>'"),
-    ("pick --vertices 4294967296 all.pc", "for '--vertices <RANGE>'"),
+    (
+        "pick --vertices 4294967296 all.pc",
+        "for '--vertices <RANGE>'",
+    ),
     ("pick --edges x all.pc", "for '--edges <RANGE>'"),
-    ("pick --rule round all.pc", "[possible values: none, range, loop"),
-    ("pick --bends 1 --bends=1 all.pc", "cannot be used multiple times"),
+    (
+        "pick --rule round all.pc",
+        "[possible values: none, range, loop",
+    ),
+    (
+        "pick --bends 1 --bends=1 all.pc",
+        "cannot be used multiple times",
+    ),
     ("pick --not all.pc --not", "cannot be used multiple times"),
     ("pick --by n all.pc", "unexpected argument '--by' found"),
-    ("count --waiting 1 all.pc", "unexpected argument '--waiting' found"),
+    (
+        "count --waiting 1 all.pc",
+        "unexpected argument '--waiting' found",
+    ),
     ("pick --json all.pc", "unexpected argument '--json' found"),
-    ("pick --lanes 0 all.pc", "planarbend: lanes must be 1 to 8\n"),
+    (
+        "pick --lanes 0 all.pc",
+        "planarbend: lanes must be 1 to 8\n",
+    ),
     ("pick --bends 1", "were not provided:\n  <FILE>...\n"),
 ];
 
@@ -168,7 +192,11 @@ const REFUSED_LINES: [(&str, &str); 14] = [
 fn refuses_other_values(rt: HostRuntime) {
     make_all(&rt);
     check_said(&rt, &REFUSED_LINES, 2);
-    check_said(&rt, &[("pick --waiting 0 all.pc", "waiting must be 1 to 65536\n")], 2);
+    check_said(
+        &rt,
+        &[("pick --waiting 0 all.pc", "waiting must be 1 to 65536\n")],
+        2,
+    );
 }
 
 /// A file that does not end complete is told on standard error, and its records take part.
@@ -215,7 +243,8 @@ fn writes_no_records_to_a_terminal(rt: HostRuntime) {
     make_all(&rt);
     let ran = run_on(&rt, "pick all.pc", None, &OnTerminal);
     expect_report(&rt, &ran, b"", 2);
-    let told = "planarbend: pick writes bytes, not text: redirect standard output to a file or a pipe\n";
+    let told =
+        "planarbend: pick writes bytes, not text: redirect standard output to a file or a pipe\n";
     same!(&rt, ran.err.as_slice(), told.as_bytes());
     let ran = run_on(&rt, "count --by n --vertices 2 all.pc", None, &OnTerminal);
     expect_report(&rt, &ran, b"n=2 graphs=1\ntotal graphs=1\n", 0);

@@ -9,11 +9,10 @@ use Rattle.commands.proofs.count.count.Goals as goal
 
 pub returns-clause-written : goal.returns-clause-written
 returns-clause-written g c =
-    let asked = c.args.asked.now in
-    (
+    let asked = c.args.asked.now in (
       c.in_ok-counted.counted.counts,
       counted_as (meanings_in (g.N.NamedFiles.meaning c.args.files.now)) asked.selection asked.choice asked.names.items c.as_slice-names.result.now c.in_ok-files_count.files_count (vec_len asked.names)
-      c.as_slice-names.ensures.value (search rules) _ _ _ c.in_ok-counted.ensures.counted,
+          c.as_slice-names.ensures.value (search rules) _ _ _ c.in_ok-counted.ensures.counted,
       c.in_ok-write_counts.ensures.1,
     )
 
@@ -37,7 +36,7 @@ returns-in_err-write_counts-clause-begun g c =
       c.in_ok-counted.counted.flaws.items,
       c.in_ok-counted.counted.counts,
       counted_as (meanings_in (g.N.NamedFiles.meaning c.args.files.now)) asked.selection asked.choice asked.names.items c.as_slice-names.result.now c.in_ok-files_count.files_count (vec_len asked.names)
-      c.as_slice-names.ensures.value (search rules) _ _ _ c.in_ok-counted.ensures.counted,
+          c.as_slice-names.ensures.value (search rules) _ _ _ c.in_ok-counted.ensures.counted,
       prefix_of_written _ _ _ _ _ c.in_err-write_counts.ensures,
     ))
 
