@@ -31,7 +31,7 @@ NUMBER = re.compile(r"([\d,]*\d) (crates|proofs|edits|attacks|tests)\b")
 OUTSIDE = set("""rt ci check fmt tidy lemma test doc version must-fail verdict Ok Err printf png svg planarg geng -p -c
     -D4 plantri parallel slurm-wlm munge nauty chromium futex clap MOD RES kill cred_expire slurm.conf sshlogin workdir
     env passed failed format-patch smallvec --only requires docs/REFUSED.md python3-networkx python3-scipy graphviz pip -e
-    -d librsvg2-bin -Gsplines ortho dot kicad_sch""".split())
+    -d librsvg2-bin -Gsplines ortho dot kicad_sch --sheet""".split())
 MEN, TEXTS = ("docs/planarbend.1", "docs/planarbend-draw.1"), "checks/start/texts"
 ENTRY = re.compile(r"^ {2,6}(-\S.*?|<.*?>\S*)  +(\S.*)$")  # an argument or option of --help, and what it says
 DRAW_ENTRY = re.compile(r"^ {2}(-\S.*?|[A-Z]+)(?: {2,}|\n {10,})(\S.*)$", re.M)  # the same of planarbend-draw
