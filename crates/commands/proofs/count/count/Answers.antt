@@ -37,7 +37,7 @@ returns-in_err-write_counts-clause-begun g c =
       flaws = c.in_ok-counted.counted.flaws.items;
       table = c.in_ok-counted.counted.counts;
       counted = counted_as (meanings_in (g.N.NamedFiles.meaning c.args.files.now)) asked.selection asked.choice asked.names.items c.as_slice-names.result.now c.in_ok-files_count.files_count (vec_len asked.names)
-      c.as_slice-names.ensures.value (search rules) _ _ _ c.in_ok-counted.ensures.counted;
+          c.as_slice-names.ensures.value (search rules) _ _ _ c.in_ok-counted.ensures.counted;
       text = prefix_of_written _ _ _ _ _ c.in_err-write_counts.ensures;
     }))
 
