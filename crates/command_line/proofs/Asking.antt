@@ -42,6 +42,12 @@ later File word is = cc
 abbrev IsOfCommand : Keyword → Type 0
 IsOfCommand w = (role : Role) (word : List ℕ) → role ≢ Command → asks w role word ≡ false
 
+version_only : IsOfCommand keyword.Version
+version_only Command word not = absurd (not refl)
+version_only (Any group) word not = refl
+version_only (Value group setting) word not = refl
+version_only File word not = refl
+
 frames_only : IsOfCommand keyword.Frames
 frames_only Command word not = absurd (not refl)
 frames_only (Any group) word not = refl
@@ -104,6 +110,9 @@ begins : (w : Keyword) (name : List ℕ) → IsOfCommand w → ((word : List ℕ
 begins w name only named [] is = absurd (true≢false (sym is))
 begins w name only named (word ∷ words) is =
     (bytes_eq-Decides (string_bytes word) name).0 (sym (named (string_bytes word)) ∙ first_asks w only word words is)
+
+pub version_begins : (words : List (String Global)) → asks_in keyword.Version words ≡ true → BeginsWith (codes "--version") words
+version_begins = begins keyword.Version (codes "--version") version_only (λ word. refl)
 
 pub frames_begins : (words : List (String Global)) → asks_in keyword.Frames words ≡ true → BeginsWith (codes "frames") words
 frames_begins = begins keyword.Frames (codes "frames") frames_only (λ word. refl)

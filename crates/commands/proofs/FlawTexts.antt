@@ -1,16 +1,18 @@
 -- Lines about what is lacking in files, one after another.
-use Rattle.std.proofs.Common.{◌≡◌, ◌≢◌, ◌++◌, ◌+◌, ◌<◌, ◌≤◌, ◌∙◌, ℕ, Bool, true, false, List, [], ◌∷◌, Option, Result, Ok, Err, OnOk, OnErr, Bor, Unit, get_or, length, drop, map, refl, ap, sym, subst, append_assoc, append-nil}
-use Rattle.std.proofs.lemmas.List.{at_drop_more, at_drop_all}
+use Rattle.std.proofs.Common.{◌≡◌, ◌≢◌, ◌++◌, ◌+◌, ◌<◌, ◌≤◌, ◌∙◌, if◌then◌else◌, ℕ, nat_eq, decimal, codes, Bool, true, false, List, [], ◌∷◌, Option, Result, Ok, Err, OnOk, OnErr, Bor, get_or, length, drop, map, refl, ap, sym, subst, append_assoc, append-nil}
+use Rattle.std.proofs.lemmas.List.{at_drop_more, at_drop_all, drop_all, drop_more}
 use Rattle.std.specs.Io.KnownBytes.{Appends}
+use Rattle.std.specs.List.{concat}
 use Rattle.planar_code.specs.declared.ending.Ending.TheVariants as ending
 use Rattle.streams.specs.declared.frames.Mark.{Mark}
 use Rattle.streams.specs.declared.frames.Mark.TheVariants.{Ended, Io}
 use Rattle.streams.specs.declared.faults.WriteFault.{WriteFault}
 use Rattle.streams.specs.declared.faults.WriteFault.TheVariants.{Memory, Write}
 use Rattle.streams.specs.Sink.{Writes}
+use Rattle.streams.specs.Text.{word_of}
 use Rattle.streams.proofs.Sinks.{added_both}
 use Rattle.picks.specs.declared.flaws.Flaws.{Flaws}
-use Rattle.commands.specs.FlawLines.{AreFlawLines, incomplete_line, lines_of_file, mark_line, pieces_text}
+use Rattle.commands.specs.FlawLines.{AreFlawLines, incomplete_line, lines_of_file, mark_line, memory_line, pieces_text}
 
 -- a sink that refused a text has failed
 pub has_failed : (old new : Option (List ℕ)) (failed : Bool) (text : List ℕ) (fault : WriteFault) → Writes {A = Unit {0}} old new failed text (Err fault) → failed ≡ true
@@ -18,27 +20,26 @@ has_failed old new failed text Write writes = writes.0
 has_failed old new failed text Memory writes = absurd writes
 
 -- one more piece
-pub piece_next : (pieces : List (Bor (List ℕ))) (i : ℕ) (piece : Bor (List ℕ)) (front : List ℕ) → i < length pieces → piece ≡ get_or pieces i piece
-    → pieces_text pieces ≡ front ++ pieces_text (drop i pieces) → pieces_text pieces ≡ (front ++ piece.now) ++ pieces_text (drop (i + 1) pieces)
-piece_next pieces i piece front inside read split =
-    split ∙ ap (λ (t : List ℕ). front ++ t)
-    (at_drop_more pieces_text pieces i piece inside ∙ ap (λ (p : Bor (List ℕ)). pieces_text (p ∷ drop (i + 1) pieces)) (sym read))
-    ∙ sym (append_assoc front piece.now (pieces_text (drop (i + 1) pieces)))
+pub piece_next : (pieces : List (Bor (List ℕ))) (i : ℕ) (d : Bor (List ℕ)) (front : List ℕ) → i < length pieces
+    → pieces_text pieces ≡ front ++ pieces_text (drop i pieces) → pieces_text pieces ≡ (front ++ (get_or pieces i d).now) ++ pieces_text (drop (i + 1) pieces)
+piece_next pieces i d front inside split =
+    split ∙ ap (λ (t : List ℕ). front ++ t) (at_drop_more pieces_text pieces i d inside)
+    ∙ sym (append_assoc front (get_or pieces i d).now (pieces_text (drop (i + 1) pieces)))
 
 pub pieces_end : (pieces : List (Bor (List ℕ))) (i : ℕ) (front : List ℕ) → length pieces ≤ i → pieces_text pieces ≡ front ++ pieces_text (drop i pieces) → front ≡ pieces_text pieces
 pieces_end pieces i front over split =
     sym (append-nil front) ∙ ap (λ (t : List ℕ). front ++ t) (sym (at_drop_all pieces_text pieces i over)) ∙ sym split
 
 -- the line about a file that does not end complete
-pub line_of_mark : (name : List ℕ) (mark : Mark) (why : List ℕ) → mark ≢ Ended ending.Complete → incomplete_line name mark why ≡ mark_line name mark why
-line_of_mark name Io why not = refl
-line_of_mark name (Ended ending.Complete) why not = absurd (not refl)
-line_of_mark name (Ended ending.Many) why not = refl
-line_of_mark name (Ended ending.Large) why not = refl
-line_of_mark name (Ended ending.Truncated) why not = refl
-line_of_mark name (Ended ending.Oversize) why not = refl
-line_of_mark name (Ended ending.Header) why not = refl
-line_of_mark name (Ended ending.Memory) why not = refl
+pub line_of_mark : (name : List ℕ) (mark : Mark) (word why : List ℕ) → mark ≢ Ended ending.Complete → word ≡ word_of mark → mark_line name word why ≡ incomplete_line name mark why
+line_of_mark name Io word why not is = ap (λ (w : List ℕ). mark_line name w why) is
+line_of_mark name (Ended ending.Complete) word why not is = absurd (not refl)
+line_of_mark name (Ended ending.Many) word why not is = ap (λ (w : List ℕ). mark_line name w why) is
+line_of_mark name (Ended ending.Large) word why not is = ap (λ (w : List ℕ). mark_line name w why) is
+line_of_mark name (Ended ending.Truncated) word why not is = ap (λ (w : List ℕ). mark_line name w why) is
+line_of_mark name (Ended ending.Oversize) word why not is = ap (λ (w : List ℕ). mark_line name w why) is
+line_of_mark name (Ended ending.Header) word why not is = ap (λ (w : List ℕ). mark_line name w why) is
+line_of_mark name (Ended ending.Memory) word why not is = ap (λ (w : List ℕ). mark_line name w why) is
 
 -- two texts, the second of which was added if all went well
 pub both_added : {A F : Type 0} (answer : Result A F) (a b c : Option (List ℕ)) (xs ys : List ℕ) → Appends a b xs → OnOk answer (Appends b c ys) → OnOk answer (Appends a c (xs ++ ys))
@@ -55,18 +56,15 @@ abbrev pub IsLinesUpTo : List (Bor (List ℕ)) → List Flaws → ℕ → List �
 IsLinesUpTo names flaws i front = (rest : List ℕ) → AreFlawLines (names_of (drop i names)) (drop i flaws) rest → AreFlawLines (names_of names) flaws (front ++ rest)
 
 pub lines_next : (names : List (Bor (List ℕ))) (flaws : List Flaws) (i : ℕ) (name : Bor (List ℕ)) (lacking : Flaws) (why front : List ℕ)
-    → i < length names → name ≡ get_or names i name → i < length flaws → lacking ≡ get_or flaws i lacking
+    → drop i names ≡ name ∷ drop (i + 1) names → drop i flaws ≡ lacking ∷ drop (i + 1) flaws
     → IsLinesUpTo names flaws i front → IsLinesUpTo names flaws (i + 1) (front ++ lines_of_file name.now lacking why)
-lines_next names flaws i name lacking why front inside read within found before rest told =
+lines_next names flaws i name lacking why front first also before rest told =
     let own = lines_of_file name.now lacking why in
-    let first : AreFlawLines (name.now ∷ names_of (drop (i + 1) names)) (lacking ∷ drop (i + 1) flaws) (own ++ rest) = (why, rest, refl, told) in
-    let at_names : AreFlawLines (names_of (drop i names)) (lacking ∷ drop (i + 1) flaws) (own ++ rest) =
-    subst (λ (t : Type 0). t) (sym (at_drop_more (λ (ns : List (Bor (List ℕ))). AreFlawLines (names_of ns) (lacking ∷ drop (i + 1) flaws) (own ++ rest)) names i name inside
-    ∙ ap (λ (n : Bor (List ℕ)). AreFlawLines (names_of (n ∷ drop (i + 1) names)) (lacking ∷ drop (i + 1) flaws) (own ++ rest)) (sym read))) first in
-    let at_flaws : AreFlawLines (names_of (drop i names)) (drop i flaws) (own ++ rest) =
-    subst (λ (t : Type 0). t) (sym (at_drop_more (λ (fs : List Flaws). AreFlawLines (names_of (drop i names)) fs (own ++ rest)) flaws i lacking within
-    ∙ ap (λ (f : Flaws). AreFlawLines (names_of (drop i names)) (f ∷ drop (i + 1) flaws) (own ++ rest)) (sym found))) at_names in
-    subst (AreFlawLines (names_of names) flaws) (sym (append_assoc front own rest)) (before (own ++ rest) at_flaws)
+    let here : AreFlawLines (name.now ∷ names_of (drop (i + 1) names)) (lacking ∷ drop (i + 1) flaws) (own ++ rest) = (why, rest, refl, told) in
+    subst (AreFlawLines (names_of names) flaws) (sym (append_assoc front own rest))
+    (before (own ++ rest)
+    (subst (λ (ns : List (Bor (List ℕ))). AreFlawLines (names_of ns) (drop i flaws) (own ++ rest)) (sym first)
+    (subst (λ (fs : List Flaws). AreFlawLines (name.now ∷ names_of (drop (i + 1) names)) fs (own ++ rest)) (sym also) here)))
 
 no_flaws : (names : List (List ℕ)) → AreFlawLines names [] []
 no_flaws [] = refl
@@ -76,9 +74,26 @@ no_flaws (name ∷ names) = refl
 pub flaws_end : (names : List (Bor (List ℕ))) (flaws : List Flaws) (i : ℕ) (front : List ℕ) → length flaws ≤ i → IsLinesUpTo names flaws i front → AreFlawLines (names_of names) flaws front
 flaws_end names flaws i front over before =
     subst (AreFlawLines (names_of names) flaws) (append-nil front)
-    (before [] (subst (λ (t : Type 0). t) (sym (at_drop_all (λ (fs : List Flaws). AreFlawLines (names_of (drop i names)) fs []) flaws i over)) (no_flaws (names_of (drop i names)))))
+    (before [] (subst (λ (fs : List Flaws). AreFlawLines (names_of (drop i names)) fs []) (sym (drop_all i flaws over)) (no_flaws (names_of (drop i names)))))
 
 pub names_end : (names : List (Bor (List ℕ))) (flaws : List Flaws) (i : ℕ) (front : List ℕ) → length names ≤ i → IsLinesUpTo names flaws i front → AreFlawLines (names_of names) flaws front
 names_end names flaws i front over before =
     subst (AreFlawLines (names_of names) flaws) (append-nil front)
-    (before [] (subst (λ (t : Type 0). t) (sym (at_drop_all (λ (ns : List (Bor (List ℕ))). AreFlawLines (names_of ns) (drop i flaws) []) names i over)) refl))
+    (before [] (subst (λ (ns : List (Bor (List ℕ))). AreFlawLines (names_of ns) (drop i flaws) []) (sym (drop_all i names over)) refl))
+
+-- the line about graphs for which memory ran out, of parts
+pub memory_text : (name count first : List ℕ) (flaws : Flaws) (own : List ℕ) → nat_eq flaws.unanswered 0 ≡ false → own ≡ name → count ≡ decimal flaws.unanswered
+    → first ≡ decimal (flaws.first + 1)
+    → concat (codes "planarbend: " ∷ own ∷ codes ": graphs for which memory ran out: " ∷ count ∷ codes ", the first is graph " ∷ first ∷ codes "\n" ∷ []) ≡ memory_line name flaws
+memory_text name count first flaws own some own_is count_is first_is =
+    ap (λ (n : List ℕ). concat (codes "planarbend: " ∷ n ∷ codes ": graphs for which memory ran out: " ∷ count ∷ codes ", the first is graph " ∷ first ∷ codes "\n" ∷ [])) own_is
+    ∙ ap (λ (c : List ℕ). concat (codes "planarbend: " ∷ name ∷ codes ": graphs for which memory ran out: " ∷ c ∷ codes ", the first is graph " ∷ first ∷ codes "\n" ∷ [])) count_is
+    ∙ ap (λ (f : List ℕ). concat (codes "planarbend: " ∷ name ∷ codes ": graphs for which memory ran out: " ∷ decimal flaws.unanswered ∷ codes ", the first is graph " ∷ f ∷ codes "\n" ∷ [])) first_is
+    ∙ ap (λ (b : Bool). if b then [] else concat (codes "planarbend: " ∷ name ∷ codes ": graphs for which memory ran out: " ∷ decimal flaws.unanswered
+    ∷ codes ", the first is graph " ∷ decimal (flaws.first + 1) ∷ codes "\n" ∷ [])) (sym some)
+
+-- the line about a file that does not end complete, of parts
+pub mark_text : (name word why own called reason : List ℕ) → own ≡ name → called ≡ word → reason ≡ why
+    → concat (codes "planarbend: " ∷ own ∷ codes ": not complete (" ∷ called ∷ codes ")" ∷ reason ∷ codes "\n" ∷ []) ≡ mark_line name word why
+mark_text name word why own called reason own_is word_is reason_is =
+    ap (λ (n : List ℕ). mark_line n called reason) own_is ∙ ap (λ (w : List ℕ). mark_line name w reason) word_is ∙ ap (mark_line name word) reason_is

@@ -1,3 +1,4 @@
+pub mod NoFlaws
 pub mod PickFaults
 pub mod FlawTexts
 pub mod Picking

@@ -1,5 +1,5 @@
 -- The faults of runs that pick and count.
-use Rattle.std.proofs.Common.{◌≡◌, ℕ, Bool, true, false, List, Option, Result, Err, IfErr, Unit, ap, subst, sym}
+use Rattle.std.proofs.Common.{◌≡◌, ℕ, Bool, true, false, List, Option, Result, Err, IfErr, ap, subst, sym}
 use Rattle.streams.specs.declared.faults.WriteFault.{WriteFault}
 use Rattle.streams.specs.declared.faults.WriteFault.TheVariants.{Memory, Write}
 use Rattle.streams.specs.declared.output.SinkFault.{SinkFault}
@@ -11,13 +11,13 @@ use Rattle.command_line.specs.Refusals.{IsMisuse}
 use Rattle.commands.proofs.FaultStatus.{asked_well}
 
 -- a run that failed was asked for well
-pub no_misuse : {A P : Type 0} (answer : Result A Fault) (fault : Fault) (of : RunFault SinkFault) → answer ≡ Err fault → fault ≡ fault_of of → IfErr answer (λ f. IsMisuse f → P)
-no_misuse {A} {P} answer fault of is made =
+pub no_misuse : {A : Type 0} (P : Type 0) (answer : Result A Fault) (fault : Fault) (of : RunFault SinkFault) → answer ≡ Err fault → fault ≡ fault_of of → IfErr answer (λ f. IsMisuse f → P)
+no_misuse P answer fault of is made =
     subst (λ a. IfErr a (λ f. IsMisuse f → P)) (sym is) (λ misuse. absurd (asked_well of (subst IsMisuse made misuse)))
 
 -- so was one whose output failed
-pub no_misuse_written : {A P : Type 0} (answer : Result A Fault) (fault : Fault) (of : WriteFault) → answer ≡ Err fault → fault ≡ Fault.Write of → IfErr answer (λ f. IsMisuse f → P)
-no_misuse_written {A} {P} answer fault of is made =
+pub no_misuse_written : {A : Type 0} (P : Type 0) (answer : Result A Fault) (fault : Fault) (of : WriteFault) → answer ≡ Err fault → fault ≡ Fault.Write of → IfErr answer (λ f. IsMisuse f → P)
+no_misuse_written P answer fault of is made =
     subst (λ a. IfErr a (λ f. IsMisuse f → P)) (sym is) (λ misuse. absurd (subst IsMisuse made misuse))
 
 -- a prefix of a text was added if the output failed

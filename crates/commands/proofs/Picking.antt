@@ -1,6 +1,6 @@
 -- What runs that pick and count leave, for the files that a request names.
 use Rattle.std.proofs.Common.{◌≡◌, ◌≢◌, ◌⊎◌, ◌↔◌, ◌∙◌, inl, inr, ℕ, Bool, true, false, List, [], ◌∷◌, Option, Result, Err, Bor, All, map, refl, ap, sym, subst}
-use Rattle.std.specs.Io.KnownBytes.{Appends}
+use Rattle.std.proofs.lemmas.List.Elements.{All-nil, All-cons, All-head, All-tail}
 use Rattle.common.specs.declared.choice.Choice.{Choice}
 use Rattle.lanes.specs.Opening.{Meaning}
 use Rattle.named_sources.specs.Naming.{meanings_in}
@@ -13,7 +13,7 @@ use Rattle.picks.specs.Books.{FactBook, IsFlawless, IsFlawlessFacts, flaws_of}
 use Rattle.picks.specs.Picked.{IsAllPicked, IsPickBegun}
 use Rattle.picks.specs.Counted.{IsAllCounted}
 use Rattle.picks.specs.Tables.{TableModel, table_text}
-use Rattle.picks.proofs.Flaws.{flawless_flaws}
+use Rattle.commands.proofs.NoFlaws.{flawless_flaws}
 use Rattle.commands.specs.Statuses.{AreCountsWritten, ErrorOutput, IsTextOfCounted, IsTextOfPicked, TellsFlaws}
 use Rattle.std.specs.Prelude.{vec_len}
 
@@ -36,12 +36,16 @@ module _ (meaning : List (Bor (List ℕ)) → ℕ → Meaning) (selection : Sele
 
 -- all books are flawless if their flaws are none
 all_flawless : (books : List FactBook) → All IsFlawless (map flaws_of books) → All IsFlawlessFacts books
-all_flawless [] all = tt
-all_flawless (book ∷ books) all = ((flawless_flaws book).1 all.0, all_flawless books all.1)
+all_flawless [] all = All-nil IsFlawlessFacts
+all_flawless (book ∷ books) all =
+    All-cons IsFlawlessFacts book books ((flawless_flaws book).1 (All-head IsFlawless (flaws_of book) (map flaws_of books) all))
+    (all_flawless books (All-tail IsFlawless (flaws_of book) (map flaws_of books) all))
 
 none_lacking : (books : List FactBook) → All IsFlawlessFacts books → All IsFlawless (map flaws_of books)
-none_lacking [] all = tt
-none_lacking (book ∷ books) all = ((flawless_flaws book).0 all.0, none_lacking books all.1)
+none_lacking [] all = All-nil IsFlawless
+none_lacking (book ∷ books) all =
+    All-cons IsFlawless (flaws_of book) (map flaws_of books) ((flawless_flaws book).0 (All-head IsFlawlessFacts book books all))
+    (none_lacking books (All-tail IsFlawlessFacts book books all))
 
 either_else : (status : ℕ) → (status ≡ 0) ⊎ (status ≡ 3) → status ≢ 0 → status ≡ 3
 either_else status (inl is) never = absurd (never is)

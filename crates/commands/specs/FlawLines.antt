@@ -14,23 +14,24 @@ use Rattle.picks.specs.declared.flaws.Flaws.{Flaws}
 abbrev pub pieces_text : List (Bor (List ℕ)) → List ℕ
 pieces_text pieces = concat (map (λ piece. piece.now) pieces)
 
--- the line about a file with this name that ends with this mark, for this reason, which may be empty
-abbrev pub mark_line : List ℕ → Mark → List ℕ → List ℕ
-mark_line name mark why = codes "planarbend: " ++ name ++ codes ": not complete (" ++ word_of mark ++ codes ")" ++ why ++ codes "\n"
+-- the line about a file with this name that does not end complete, but with this word, for this reason, which may be empty
+abbrev pub mark_line : List ℕ → List ℕ → List ℕ → List ℕ
+mark_line name word why =
+    concat (codes "planarbend: " ∷ name ∷ codes ": not complete (" ∷ word ∷ codes ")" ∷ why ∷ codes "\n" ∷ [])
 
 -- nothing if it ends complete
 abbrev pub incomplete_line : List ℕ → Mark → List ℕ → List ℕ
 incomplete_line name (Ended Complete) why = []
-incomplete_line name (Ended ending) why = mark_line name (Ended ending) why
-incomplete_line name Io why = mark_line name Io why
+incomplete_line name (Ended ending) why = mark_line name (word_of (Ended ending)) why
+incomplete_line name Io why = mark_line name (word_of Io) why
 
 -- the line about the graphs of a file for which memory ran out: their number, and the number of the first, from 1;
 -- nothing if there are none
 abbrev pub memory_line : List ℕ → Flaws → List ℕ
 memory_line name flaws =
     if nat_eq flaws.unanswered 0 then []
-    else codes "planarbend: " ++ name ++ codes ": graphs for which memory ran out: " ++ decimal flaws.unanswered
-    ++ codes ", the first is graph " ++ decimal (flaws.first + 1) ++ codes "\n"
+    else concat (codes "planarbend: " ∷ name ∷ codes ": graphs for which memory ran out: " ∷ decimal flaws.unanswered
+    ∷ codes ", the first is graph " ∷ decimal (flaws.first + 1) ∷ codes "\n" ∷ [])
 
 -- the lines about one file
 abbrev pub lines_of_file : List ℕ → Flaws → List ℕ → List ℕ

@@ -165,10 +165,11 @@ AreCountsWritten selection columns choice meaning files old new flaws =
     (table : TableModel) × IsAllCounted selection columns choice meaning files flaws table × Appends old new (table_text table)
 
 -- a prefix of the text of such a table was added
-abbrev pub AreCountsBegun : Selection → Columns → Choice → (ℕ → Meaning) → ℕ → Option (List ℕ) → Option (List ℕ) → Type 0
-AreCountsBegun selection columns choice meaning files old new =
-    (flaws : List Flaws) × (table : TableModel) × IsAllCounted selection columns choice meaning files flaws table
-    × AppendsPrefix old new (table_text table)
+pub record AreCountsBegun (selection : Selection) (columns : Columns) (choice : Choice) (meaning : ℕ → Meaning) (files : ℕ) (old new : Option (List ℕ)) : Type 0 where
+  pub flaws : List Flaws
+  pub table : TableModel
+  pub counted : IsAllCounted selection columns choice meaning files flaws table
+  pub text : AppendsPrefix old new (table_text table)
 
 abbrev pub IsBegunTextOfCounted : (List ℕ → Meaning) → CountRequest → Option (List ℕ) → Option (List ℕ) → Type 0
 IsBegunTextOfCounted files asked old new =

@@ -46,6 +46,7 @@ pub(crate) fn count<
     ensures begun { OnErr result ((out.new ≡ out.old) ⊎ AreCountsBegun asked.now.selection asked.now.columns asked.now.choice
         (meanings_in (N.meaning files.now) asked.now.names.items) (vec_len asked.now.names)
         (S.taken out.old) (S.taken out.new)) }
+    ensures unwritten { OnErr result (S.failed out.new ≡ false → out.new ≡ out.old) }
     ensures refused { IfErr result (λ fault. IsMisuse fault → out.new ≡ out.old) }
     ensures refusable { IfErr result (λ fault. IsMisuse fault → IsTooMuch (vec_len asked.now.names) asked.now.lanes) }
 {

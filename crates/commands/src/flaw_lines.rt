@@ -1,7 +1,7 @@
 //! Lines on standard error about files of which something is lacking.
 ghost use Rattle.std.specs.Prelude.{◌≡◌, false, true, map, OnErr, OnOk};
 ghost use Rattle.std.specs.Io.KnownBytes.{Appends};
-ghost use Rattle.commands.specs.FlawLines.{IsTold, lines_of_file, memory_line, incomplete_line, pieces_text};
+ghost use Rattle.commands.specs.FlawLines.{IsTold, lines_of_file, memory_line, incomplete_line, mark_line, pieces_text};
 
 use itoa::Buffer;
 use named_sources::FileNotes;
@@ -66,12 +66,26 @@ fn write_incomplete<E: Sink>(
     if mark == Mark::Ended(Ending::Complete) {
         return Ok(());
     }
-    let word = mark_word(mark).as_bytes();
+    write_mark(name, mark_word(mark), why, err)
+}
+
+/// Writes the line about a file that ends with this word.
+fn write_mark<'a, E: Sink>(
+    name: &'a str,
+    word: &'a str,
+    why: &'a str,
+    err: &mut E,
+) -> Result<(), WriteFault>
+    requires { E.failed err.old ≡ false }
+    ensures added { OnOk result (Appends (E.taken err.old) (E.taken err.new) (mark_line name.now word.now why.now)) }
+    ensures stands { OnOk result (E.failed err.new ≡ false) }
+    ensures failed { OnErr result (E.failed err.new ≡ true) }
+{
     let pieces: [&[u8]; 7] = [
         b"planarbend: ",
         name.as_bytes(),
         b": not complete (",
-        word,
+        word.as_bytes(),
         b")",
         why.as_bytes(),
         b"\n",

@@ -269,6 +269,7 @@ fn count_graphs<
         (S.taken out.old) (S.taken out.new) (S.failed out.new)) }
     ensures begun { OnErr result ((out.new ≡ out.old) ⊎ IsBegunTextOfCounted (N.meaning files.now) asked.now (S.taken out.old) (S.taken out.new)) }
     ensures refusable { IfErr result (λ fault. IsMisuse fault → IsTooMuch (vec_len asked.now.names) asked.now.lanes) }
+    ensures unwritten { OnErr result (S.failed out.new ≡ false → out.new ≡ out.old) }
     ensures refused { IfErr result (λ fault. IsMisuse fault → out.new ≡ out.old) }
     ensures intact { OnErr result (E.failed err.new ≡ false) }
 {

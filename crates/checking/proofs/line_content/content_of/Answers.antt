@@ -11,6 +11,13 @@ returns-in_err-drawing_in-clause-none c =
     rw q.1 (λ real.
     nothing_said c.args.line.now (view c.in_ok-value.value) c.in_ok-value.ensures.ok (c.is_end.ensures.goes_on c.if-is_end.false) (c.in_err-drawing_in.ensures.none (λ m. real (q.2 ∙ m))))
 
+pub returns-in_err-value-clause-none : goal.returns-in_err-value-clause-none
+returns-in_err-value-clause-none c =
+    let q = err_from_is_err_and c.from_residual.result c.from_residual.ensures.1 in
+    rw q.1 (λ memory.
+    let none = c.in_err-value.ensures.none (λ m. memory (q.2 ∙ m)) in
+    record { no_end = λ e. none e.value e.text; no_drawing = λ points claims fits says. none says.value says.text })
+
 pub returns-in_err-value-clause-fault : goal.returns-in_err-value-clause-fault
 returns-in_err-value-clause-fault c =
     let q = err_from_is_err_and c.from_residual.result c.from_residual.ensures.1 in

@@ -1,4 +1,4 @@
-use Rattle.std.proofs.Common.{◌++◌, [], subst, sym, ◌∙◌, refl}
+use Rattle.std.proofs.Common.{◌++◌, [], get_or, subst, sym, ◌∙◌, refl}
 use Rattle.std.specs.Io.KnownBytes.{Appends}
 use Rattle.streams.proofs.Sinks.{added_both, added_none}
 use Rattle.commands.proofs.FlawTexts.{has_failed, piece_next, pieces_end}
@@ -14,9 +14,9 @@ loop-piece-preserved g c =
     record {
       stands = c.in_ok-put_all.ensures.0;
       added = (
-        before.0 ++ c.piece-item.result.now,
+        before.0 ++ (get_or c.args.pieces.now c.loop-piece.piece-index (record { ref_ptr = (0, 0); now = [] })).now,
         added_both _ _ _ _ _ before.1 c.in_ok-put_all.ensures.1,
-        piece_next c.args.pieces.now c.loop-piece.piece-index c.piece-item.result before.0 c.loop-piece-test.true c.piece-item.is before.2,
+        piece_next c.args.pieces.now c.loop-piece.piece-index (record { ref_ptr = (0, 0); now = [] }) before.0 c.loop-piece-test.true before.2,
       );
     }
 

@@ -23,9 +23,9 @@ returns-in_err-flaws-clause-begun g c =
 pub returns-in_err-flaws-clause-refused : goal.returns-in_err-flaws-clause-refused
 returns-in_err-flaws-clause-refused g c =
     let p = err_from_is_err_and c.from_residual-in_err-flaws.result c.from_residual-in_err-flaws.ensures.1 in
-    no_misuse _ _ _ p.1 p.2
+    no_misuse _ _ _ _ p.1 p.2
 
 pub returns-in_err-flaws-clause-refusable : goal.returns-in_err-flaws-clause-refusable
 returns-in_err-flaws-clause-refusable g c =
     let p = err_from_is_err_and c.from_residual-in_err-flaws.result c.from_residual-in_err-flaws.ensures.1 in
-    no_misuse _ _ _ p.1 p.2
+    no_misuse _ _ _ _ p.1 p.2

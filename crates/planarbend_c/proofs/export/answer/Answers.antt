@@ -45,8 +45,8 @@ pub returns-in-Ok-clause-undrawn : goal.returns-in-Ok-clause-undrawn
 returns-in-Ok-clause-undrawn c none =
     c.tell.ensures.undrawn (not_drawn c.args.request.now.drawing c.in-Some-drawing_of.kind (finding_of c.in-Ok.layout) (sym c.drawing_of.ensures ∙ c.in-Some-drawing_of.is) c.in-Ok.ensures.asked none)
 
-pub tell-in-Ok-lay_out_keeping-requires : goal.tell-in-Ok-lay_out_keeping-requires
-tell-in-Ok-lay_out_keeping-requires c = c.in-Ok-lay_out_keeping.ensures.found.drawn
+pub tell-requires-in-Ok-lay_out_keeping : goal.tell-requires-in-Ok-lay_out_keeping
+tell-requires-in-Ok-lay_out_keeping c = c.in-Ok-lay_out_keeping.ensures.found.drawn
 
 pub returns-in-Ok-lay_out_keeping-clause-outcome : goal.returns-in-Ok-lay_out_keeping-clause-outcome
 returns-in-Ok-lay_out_keeping-clause-outcome c =
