@@ -97,6 +97,8 @@ pub(crate) fn staged(
     choice: Choice,
     drawing_kind: DrawingKind,
 ) -> Entry {
+    // Its bytes are one record.
+    let _ = rec.bytes();
     let framed = Framed {
         task: Task {
             file: 7,

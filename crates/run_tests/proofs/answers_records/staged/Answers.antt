@@ -5,7 +5,7 @@ use Rattle.run_tests.proofs.answers_records.staged.Goals as goal
 
 pub invariant_of-framed : goal.invariant_of-framed
 invariant_of-framed c =
-    let rec_is = c.well_formed.1 in
+    let rec_is = c.bytes.ensures.is_record in
     record {
       known = ∣ (
         tt,
