@@ -157,7 +157,8 @@ class Completion(unittest.TestCase):
 
     def test_planarbend(self) -> None:
         for words, wanted in (
-            ("", "layout frames check help --version -h --help"), ("l", "layout"), ("--v", "--version"), ("help c", "check"),
+            ("", "layout frames check pick count help --version -h --help"), ("l", "layout"), ("--v", "--version"),
+            ("help c", "check count"), ("pick --rule n", "none"), ("count --by n,m ", ""),
             ("layout --outer ", "first best"), ("layout --outer =", "first best"), ("layout --outer = b", "best"),
             ("layout x.pc --drawing q", "quick"), ("layout --lanes ", "compopt +o default"), ("layout tw", ""),
             ("layout --wa", "--waiting"), ("check --", "--json --faces --help"), ("frames --x", ""),
