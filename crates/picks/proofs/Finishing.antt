@@ -1,5 +1,5 @@
 -- What is held of all notes of a run are the books of its files; and of some notes, a beginning of them.
-use Rattle.std.proofs.Common.{◌≡◌, ◌≢◌, ℕ, zero, suc, ◌+◌, ◌<◌, ◌≤◌, List, [], ◌∷◌, ◌++◌, map, length, get_or, Option, None, Some, All, inl, inr, refl, sym, ap, subst, ◌∙◌, arith, append_assoc, append-nil, length-append}
+use Rattle.std.proofs.Common.{◌≡◌, ◌≢◌, ℕ, zero, suc, ◌+◌, ◌<◌, ◌≤◌, List, [], ◌∷◌, ◌++◌, map, length, get_or, Option, None, Some, inl, inr, refl, sym, ap, subst, ◌∙◌, arith, append_assoc, append-nil, length-append}
 use Rattle.std.proofs.Math.Logic.{∥∥₁_map}
 use Rattle.std.proofs.lemmas.Bool.{cases_lt}
 use Rattle.std.proofs.lemmas.Grind.{merely}
@@ -8,7 +8,6 @@ use Rattle.std.proofs.lemmas.List.Concat.{flat_map-append}
 use Rattle.std.specs.Io.KnownBytes.{Appends}
 use Rattle.std.specs.List.{flat_map}
 use Rattle.planar_code.specs.declared.TheConstants.{HEADER}
-use Rattle.planar_code.specs.Stream.{lists_of}
 use Rattle.streams.specs.declared.frames.Mark.{Mark}
 use Rattle.streams.specs.FrameLines.{added_both, added_none}
 use Rattle.streams.specs.Sink.{AppendsPrefix}
@@ -26,7 +25,6 @@ use Rattle.collector.proofs.ToldEnds.{both}
 use Rattle.picks.specs.declared.selecting.Selection.{Selection}
 use Rattle.picks.specs.declared.flaws.Flaws.{Flaws}
 use Rattle.picks.specs.declared.picks.Picks.{Picks}
-use Rattle.picks.specs.Facts.{AreFacts}
 use Rattle.picks.specs.Books.{FactEntry, FactBook, IsFactBook, AreFactBooks, AreAllFactBooks, about_of, flaws_of}
 use Rattle.picks.specs.Picked.{picked_of_book, picked_text, IsAllPicked, IsPickBegun}
 use Rattle.picks.specs.Arrived.{Arrived, none_arrived, book_so_far, books_up_to, record_of, records_of, picked_up_to}
@@ -37,10 +35,6 @@ use Rattle.picks.proofs.PickedText.{up_to_last}
 about_records : (entries : List FactEntry) → map reported.about_of (map record_of entries) ≡ map about_of entries
 about_records [] = refl
 about_records (entry ∷ entries) = ap (λ l. entry.about ∷ l) (about_records entries)
-
--- each entry keeps that its facts are those of its record
-all_facts : (entries : List FactEntry) → All (λ entry. ∥ AreFacts entry.about.choice (lists_of entry.about.bytes) entry.facts ∥₁) entries
-all_facts entries = λ k d below. (get_or entries k d).right
 
 -- ---- books in a row
 
@@ -106,7 +100,6 @@ told_book choice meaning file ns came has told =
         each = sym (about_records came.entries) ∙ book.whole.each;
         found = subst (IsFoundAt meaning book.whole.records) mark book.whole.found;
       };
-      facts = all_facts came.entries;
     }
 
 told_up_to : (choice : Choice) (meaning : ℕ → Meaning) (ns : List Note) (came : ℕ → Arrived) (n : ℕ) → ((k : ℕ) → k < n → IsToldByNotes k ns (records_of (came k)))
@@ -158,7 +151,6 @@ all_picked choice meaning known start old new picks ns have holds put =
 closed_book : (choice : Choice) (meaning : Meaning) (file : ℕ) (came : Arrived) → IsInOrder choice meaning file (records_of came) → ∥ IsFactBook choice meaning file (book_so_far came) ∥₁
 closed_book choice meaning file came order = ∥∥₁_map (found_come choice meaning file (records_of came) order) (λ found. record {
   whole = record { records = map (λ (entry : Entry). entry.rec) (map record_of came.entries); each = sym (about_records came.entries) ∙ order.each; found = found };
-  facts = all_facts came.entries;
 })
 
 closed_up_to : (choice : Choice) (meaning : ℕ → Meaning) (came : ℕ → Arrived) (n : ℕ) → ((k : ℕ) → k < n → IsInOrder choice (meaning k) k (records_of (came k)))

@@ -9,3 +9,4 @@ pub mod Finishing
 pub mod Held
 pub mod CountedGraphs
 pub mod Runs
+pub mod ColumnNames

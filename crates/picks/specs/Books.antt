@@ -11,7 +11,7 @@ use Rattle.picks.specs.declared.facts.Facts.{Facts}
 use Rattle.picks.specs.declared.flaws.Flaws.{Flaws}
 use Rattle.picks.specs.Facts.{AreFacts}
 
--- a record of a file, and what is known of its graph; nothing if memory ran out for it
+-- a record of a file, and what is known of its graph, which is right for it; nothing if memory ran out for it
 pub record FactEntry : Type 0 where
   pub about : About
   pub facts : Option Facts
@@ -26,10 +26,9 @@ pub record FactBook : Type 0 where
   pub mark : Mark
 
 -- The book of a file that means this, under a choice of the outer face. Entry k is about record k of the file under this
--- choice, and its facts are those of that record; there is no other entry, and the mark is the file's.
+-- choice; there is no other entry, and the mark is the file's. That its facts are right is part of each entry.
 pub record IsFactBook (choice : Choice) (meaning : Meaning) (file : ℕ) (book : FactBook) : Type 0 where
   pub whole : IsWhole about_of choice meaning file book.entries book.mark
-  pub facts : All (λ entry. ∥ AreFacts entry.about.choice (lists_of entry.about.bytes) entry.facts ∥₁) book.entries
 
 -- the books of consecutive files, the first of which has this number
 abbrev pub AreFactBooks : Choice → (ℕ → Meaning) → ℕ → List FactBook → Type 0

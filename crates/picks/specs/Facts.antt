@@ -1,10 +1,10 @@
 -- What is known of a graph once its record is answered.
-use Rattle.std.specs.Prelude.{◌≡◌, ◌/◌, ◌⊎◌, ℕ, List, length, Option, None, Some, ⊤}
+use Rattle.std.specs.Prelude.{◌≡◌, ◌/◌, ◌⊎◌, ℕ, List, length, Option, None, Some}
 use Rattle.common.specs.declared.choice.Choice.{Choice}
 use Rattle.embedding.specs.declared.rules.Rule.{Rule}
 use Rattle.embedding.specs.declared.rules.Rule.TheVariants.{Range, Loop, Multi, Asymmetric, Edgeless, Degree, Disconnected, Genus}
 use Rattle.embedding.specs.Darts.{dart_count}
-use Rattle.embedding.specs.Rules.{FirstBroken}
+use Rattle.embedding.specs.Rules.{FirstBroken, KeepsBefore}
 use Rattle.faces.specs.Planes.{PlaneModel, IsPlane, vertices, darts}
 use Rattle.ortho_rep.specs.Shapes.{ShapeModel, turns_at}
 use Rattle.ortho_rep.specs.Representation.{IsShape, IsLeast, bends_of}
@@ -60,7 +60,8 @@ pub record AreRefusedFacts (g : List (List ℕ)) (facts : Facts) : Type 0 where
   pub broken : FirstBroken g rule
   pub same : facts ≡ refused_facts g rule
 
--- what is known of a graph with these lists under this choice, unless memory ran out for it
+-- What is known of a graph with these lists under this choice. Nothing is only if memory ran out for it, and it breaks no
+-- rule.
 abbrev pub AreFacts : Choice → List (List ℕ) → Option Facts → Type 0
-AreFacts choice g None = ⊤
+AreFacts choice g None = KeepsBefore g 9
 AreFacts choice g (Some facts) = AreLaidFacts choice g facts ⊎ AreRefusedFacts g facts

@@ -1,5 +1,5 @@
 -- The texts of conditions on the first broken rule, and of columns.
-use Rattle.std.specs.Prelude.{◌≡◌, ◌==◌, ℕ, Bool, true, false, if◌then◌else◌, List, Option, None, Some, codes, bytes_eq, fold}
+use Rattle.std.specs.Prelude.{◌≡◌, ◌⊎◌, ◌==◌, ℕ, All, Bool, count_by, true, false, if◌then◌else◌, List, Option, None, Some, codes, bytes_eq, fold}
 use Rattle.std.specs.List.{slice_split}
 use Rattle.embedding.specs.Words.{word_of}
 use Rattle.picks.specs.declared.selecting.RuleCondition.{RuleCondition}
@@ -45,3 +45,26 @@ listed text = slice_split (λ byte. byte == 44) text
 -- the columns whose names a text lists; none if a name is that of no column, or is listed twice
 abbrev pub columns_in : List ℕ → Option Columns
 columns_in text = fold with_column (Some no_columns) (listed text)
+
+-- ---- what such a text says
+
+-- the name of a column
+abbrev pub IsColumnName : List ℕ → Type 0
+IsColumnName name = (name ≡ codes "n") ⊎ ((name ≡ codes "m") ⊎ ((name ≡ codes "f") ⊎ ((name ≡ codes "bends") ⊎ (name ≡ codes "rule"))))
+
+-- how many of the names are this one
+abbrev pub times_listed : List ℕ → List (List ℕ) → ℕ
+times_listed name names = count_by (λ each. bytes_eq each name) names
+
+-- the name is listed once if its column is asked for, and otherwise not
+abbrev pub IsListedIf : Bool → List ℕ → List (List ℕ) → Type 0
+IsListedIf asked name names = times_listed name names ≡ (if asked then 1 else 0)
+
+-- the names are those of the columns that are asked for, each once and in any order
+pub record AreNamesOf (columns : Columns) (names : List (List ℕ)) : Type 0 where
+  pub each : All IsColumnName names
+  pub vertices : IsListedIf columns.vertices (codes "n") names
+  pub edges : IsListedIf columns.edges (codes "m") names
+  pub faces : IsListedIf columns.faces (codes "f") names
+  pub bends : IsListedIf columns.bends (codes "bends") names
+  pub rule : IsListedIf columns.rule (codes "rule") names

@@ -1,5 +1,5 @@
 //! Theorems about chosen records, each as the contract of an empty function.
-ghost use Rattle.std.specs.Prelude.{◌≡◌, ◌≢◌, ℕ, List, [], ◌∷◌, None, All, map, not};
+ghost use Rattle.std.specs.Prelude.{◌≡◌, ◌≢◌, ◌↔◌, ℕ, List, [], ◌∷◌, None, Some, All, map, not};
 ghost use Rattle.planar_code.specs.declared.ending.Ending.{Ending};
 ghost use Rattle.planar_code.specs.Split.{IsSplit};
 ghost use Rattle.picks.specs.declared.selecting.Conditions.{Conditions};
@@ -7,6 +7,8 @@ ghost use Rattle.picks.specs.declared.facts.Facts.{Facts};
 ghost use Rattle.picks.specs.Books.{FactBook};
 ghost use Rattle.picks.specs.Conditions.{chooses, no_condition, others_than, those_meeting};
 ghost use Rattle.picks.specs.Picked.{picked_text};
+ghost use Rattle.picks.specs.Words.{AreNamesOf, columns_in, listed};
+ghost use Rattle.picks.specs.declared.combination.Columns.{Columns};
 
 /// Without a condition, what is picked from a complete file is the file, unless memory ran out for a record.
 pub fn all_of_a_file()
@@ -21,4 +23,9 @@ pub fn all_of_a_file()
 pub fn chosen_or_other()
     ensures { (conditions : Conditions) (facts : Facts)
         → chooses (others_than conditions) facts ≡ not (chooses (those_meeting conditions) facts) }
+{}
+
+/// A text names columns exactly if it lists the names of those that are asked for, each once and in any order.
+pub fn listed_columns()
+    ensures { (text : List ℕ) (columns : Columns) → (columns_in text ≡ Some columns) ↔ AreNamesOf columns (listed text) }
 {}

@@ -22,3 +22,4 @@ pub mod Along
 pub mod Joining
 pub mod OneRegion
 pub mod OnePick
+pub mod OneCount

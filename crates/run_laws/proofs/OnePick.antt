@@ -46,7 +46,7 @@ one_facts choice g facts other (inl one) (inr two) = absurd (never_both choice g
 one_facts choice g facts other (inr one) (inl two) = absurd (never_both choice g other facts two one)
 one_facts choice g facts other (inr one) (inr two) = one.same ∙ ap (refused_facts g) (one_rule g one.rule two.rule one.broken two.broken) ∙ sym two.same
 
-one_known : (choice : Choice) (g : List (List ℕ)) (facts other : Option Facts) → facts ≢ None → other ≢ None → AreFacts choice g facts → AreFacts choice g other → facts ≡ other
+pub one_known : (choice : Choice) (g : List (List ℕ)) (facts other : Option Facts) → facts ≢ None → other ≢ None → AreFacts choice g facts → AreFacts choice g other → facts ≡ other
 one_known choice g None other has has' one two = absurd (has refl)
 one_known choice g (Some facts) None has has' one two = absurd (has' refl)
 one_known choice g (Some facts) (Some other) has has' one two = ap Some (one_facts choice g facts other one two)
@@ -58,7 +58,7 @@ picked_as : (s : Selection) (choice : Choice) (file ordinal : ℕ) (bytes : List
     → picked_of s entry ≡ (if is_chosen s entry.facts then bytes else [])
 picked_as s choice file ordinal bytes entry is = ap (λ (a : About). if is_chosen s entry.facts then a.bytes else []) is
 
-facts_as : (choice : Choice) (file ordinal : ℕ) (bytes : List ℕ) (entry : FactEntry) → entry.about ≡ record { file = file; ordinal = ordinal; bytes = bytes; choice = choice }
+pub facts_as : (choice : Choice) (file ordinal : ℕ) (bytes : List ℕ) (entry : FactEntry) → entry.about ≡ record { file = file; ordinal = ordinal; bytes = bytes; choice = choice }
     → ∥ AreFacts choice (lists_of bytes) entry.facts ∥₁
 facts_as choice file ordinal bytes entry is = subst (λ (a : About). ∥ AreFacts a.choice (lists_of a.bytes) entry.facts ∥₁) is entry.right
 
@@ -86,7 +86,7 @@ same_entries s choice file other_file ordinal (bytes ∷ records) (entry ∷ ent
     ∙ sym (picked_as s choice other_file ordinal bytes other here'))
     (same_entries s choice file other_file (ordinal + 1) records entries others rest rest' (λ k d inside. has (suc k) d (omega (arith, inside))) (λ k d inside. has' (suc k) d (omega (arith, inside))))
 
-book_marked : (choice : Choice) (meaning : Meaning) (file : ℕ) (book : FactBook) (bytes : List ℕ) → known_of meaning ≡ Some bytes
+pub book_marked : (choice : Choice) (meaning : Meaning) (file : ℕ) (book : FactBook) (bytes : List ℕ) → known_of meaning ≡ Some bytes
     → (is : IsFactBook choice meaning file book) → IsMarked bytes (fails_of meaning) is.whole.records book.mark
 book_marked choice meaning file book bytes known is =
     let found = is.whole.found in

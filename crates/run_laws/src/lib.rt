@@ -25,6 +25,6 @@ pub use outside::outer_face_looks_out;
 pub use parts::{edges_meet_at_ends, edges_share_no_part};
 pub use regions::{least_corner_is_outer, regions_are_connected};
 pub use runs::{same_whole_runs, written_is_report};
-pub use same_picks::{one_facts, one_picked_text};
+pub use same_picks::{one_counted_text, one_facts, one_picked_text};
 pub use same_reports::{one_book_text, one_report};
 pub use supplies::units_supplied;

@@ -1,4 +1,4 @@
-//! What is known and picked of the same bytes under the same choice is the same.
+//! What is known, picked and counted of the same bytes under the same choice is the same.
 
 ghost use Rattle.std.specs.Prelude.{◌≡◌, ℕ, List, All, Some};
 ghost use Rattle.common.specs.declared.choice.Choice.{Choice};
@@ -7,7 +7,8 @@ ghost use Rattle.picks.specs.declared.selecting.Selection.{Selection};
 ghost use Rattle.picks.specs.declared.facts.Facts.{Facts};
 ghost use Rattle.picks.specs.Books.{FactBook, AreAllFactBooks};
 ghost use Rattle.picks.specs.Facts.{AreFacts};
-ghost use Rattle.picks.specs.Picked.{picked_text};
+ghost use Rattle.picks.specs.Picked.{chosen_in, picked_text};
+ghost use Rattle.picks.specs.Tables.{IsTable, TableModel, table_text};
 ghost use Rattle.run_laws.specs.Picks.{HasAllFacts};
 ghost use Rattle.run_laws.specs.Reports.{AreAllKnownAlike};
 
@@ -28,4 +29,20 @@ pub fn one_picked_text()
         → All HasAllFacts books
         → All HasAllFacts others
         → picked_text selection books ≡ picked_text selection others }
+{}
+
+/// The table of the chosen graphs of files with the same known bytes has one text in given columns, unless memory ran out.
+///
+/// This holds for any lanes, capacity and schedule.
+pub fn one_counted_text()
+    ensures { (selection : Selection) (choice : Choice) (meaning other_meaning : ℕ → Meaning) (files : ℕ) (books others : List FactBook) (table other : TableModel)
+        → AreAllFactBooks choice meaning files books
+        → AreAllFactBooks choice other_meaning files others
+        → AreAllKnownAlike files meaning other_meaning
+        → All HasAllFacts books
+        → All HasAllFacts others
+        → IsTable (chosen_in selection books) table
+        → IsTable (chosen_in selection others) other
+        → table.columns ≡ other.columns
+        → table_text table ≡ table_text other }
 {}
