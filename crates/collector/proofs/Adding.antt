@@ -7,11 +7,12 @@ use Rattle.streams.specs.FrameLines.{added_none}
 use Rattle.reports.specs.declared.entry.Entry.{Entry}
 use Rattle.streams.specs.declared.form.Form.{Form}
 use Rattle.collector.specs.FormLines.{line_in, preamble_in, lines_in}
-use Rattle.collector.specs.declared.waiting.Waiting.{Waiting}
+use Rattle.file_order.specs.declared.waiting.Waiting.{Waiting}
 use Rattle.collector.specs.Came.{Came, nothing, HasMark, HasEntryMore, HasMarkMore}
-use Rattle.collector.specs.Waits.{ChangesAt, IsNothing, IsCountedOne, GetsLine, GetsMark}
-use Rattle.collector.specs.Written.{GoesOn, begun, ended, ended_texts, IsCounted, AreWritten}
-use Rattle.collector.proofs.Waits.{after_change, changes_both}
+use Rattle.file_order.specs.Waits.{ChangesAt, IsNothing, IsCountedOne, GetsLine, GetsMark}
+use Rattle.collector.specs.Written.{begun, ended, ended_texts, IsCounted, AreWritten}
+use Rattle.file_order.specs.Writing.{GoesOn}
+use Rattle.file_order.proofs.Waits.{after_change, changes_both}
 
 -- the text of the first files, where nothing more has come of them
 pub texts_same : (form : Form) (came next : ℕ → Came) (n : ℕ) → ((k : ℕ) → k < n → next k ≡ came k) → ended_texts form came n ≡ ended_texts form next n

@@ -19,7 +19,7 @@ use Rattle.reports.specs.FlawlessBooks.{IsFlawlessBook}
 use Rattle.reports.proofs.TextParts.{texts-append}
 use Rattle.collector.specs.FormLines.{book_in}
 use Rattle.collector.proofs.BookTexts.{text_by_lines}
-use Rattle.collector.specs.declared.waiting.Waiting.{Waiting}
+use Rattle.file_order.specs.declared.waiting.Waiting.{Waiting}
 use Rattle.collector.specs.Came.{Came, IsToldByNotes, IsFlawlessSoFar}
 use Rattle.collector.specs.Written.{ended_texts, begun, last_in}
 use Rattle.collector.specs.Holding.{HoldsNotes}

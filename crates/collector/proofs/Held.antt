@@ -15,11 +15,12 @@ use Rattle.reports.specs.Abouts.{about_of}
 use Rattle.streams.specs.declared.form.Form.{Form}
 use Rattle.streams.specs.declared.form.Form.TheVariants.{Report, Json}
 use Rattle.collector.specs.FormLines.{preamble_in}
-use Rattle.collector.specs.declared.waiting.Waiting.{Waiting}
+use Rattle.file_order.specs.declared.waiting.Waiting.{Waiting}
 use Rattle.collector.specs.declared.run_lines.Lines.{Lines}
 use Rattle.collector.specs.Came.{Came, HasEntryMore, HasMarkMore, IsFlawlessSoFar, nothing}
-use Rattle.collector.specs.Waits.{IsNothing}
-use Rattle.collector.specs.Orders.{IsKnownAt, IsInOrder, IsNext}
+use Rattle.file_order.specs.Waits.{IsNothing}
+use Rattle.collector.specs.Orders.{IsKnownAt, IsInOrder}
+use Rattle.file_order.specs.Waits.{IsNext}
 use Rattle.answers.specs.Spelt.{IsSpelt}
 use Rattle.collector.proofs.Ordering.{order_none, order_item, order_end, order_but}
 use Rattle.collector.proofs.Partial.{partial_written, partial_flushed}
@@ -31,7 +32,7 @@ use Rattle.streams.specs.FrameLines.{added_both}
 use Rattle.collector.proofs.Notes.{entry_more, has_entry_more, ended_now, has_mark_more, all_told_item, all_told_end}
 use Rattle.collector.proofs.FlawlessBooks.{flawless_end}
 use Rattle.collector.proofs.Adding.{written_none}
-use Rattle.collector.proofs.Waits.{some_waiting}
+use Rattle.file_order.proofs.Waits.{some_waiting}
 
 -- whether all is flawless, of as many files
 as_many : (before after : ℕ) (flawless : Bool) (came : ℕ → Came) → after ≡ before → ((flawless ≡ true) ↔ ((k : ℕ) → k < before → IsFlawlessSoFar (came k)))

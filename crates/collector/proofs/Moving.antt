@@ -5,11 +5,12 @@ use Rattle.streams.specs.declared.frames.Mark.{Mark}
 use Rattle.streams.specs.Sink.{IsInTransit}
 use Rattle.streams.specs.declared.form.Form.{Form}
 use Rattle.collector.specs.FormLines.{preamble_in, lines_in, end_in}
-use Rattle.collector.specs.declared.waiting.Waiting.{Waiting}
+use Rattle.file_order.specs.declared.waiting.Waiting.{Waiting}
 use Rattle.collector.specs.Came.{Came, HasMark}
-use Rattle.collector.specs.Waits.{ChangesAt, IsTaken}
-use Rattle.collector.specs.Written.{GoesOn, begun, last_in, ended, ended_texts, IsCounted, AreWritten, AreRemaining}
-use Rattle.collector.proofs.Waits.{after_change, some_waiting}
+use Rattle.file_order.specs.Waits.{ChangesAt, IsTaken}
+use Rattle.collector.specs.Written.{begun, last_in, ended, ended_texts, IsCounted, AreWritten, AreRemaining}
+use Rattle.file_order.specs.Writing.{GoesOn}
+use Rattle.file_order.proofs.Waits.{after_change, some_waiting}
 
 texts-next : (form : Form) (came : ℕ → Came) (n : ℕ) → ended_texts form came (n + 1) ≡ ended_texts form came n ++ ended form n (came n)
 texts-next form came n = subst (λ m. ended_texts form came m ≡ ended_texts form came n ++ ended form n (came n)) (sym (add-one n)) refl

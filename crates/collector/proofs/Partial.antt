@@ -9,28 +9,13 @@ use Rattle.reports.specs.declared.entry.Entry.{Entry}
 use Rattle.streams.specs.declared.form.Form.{Form}
 use Rattle.collector.specs.FormLines.{line_in, preamble_in, lines_in, end_in}
 use Rattle.streams.specs.declared.frames.Mark.{Mark}
-use Rattle.collector.specs.declared.waiting.Waiting.{Waiting}
+use Rattle.file_order.specs.declared.waiting.Waiting.{Waiting}
 use Rattle.collector.specs.Came.{Came, HasMark, HasEntryMore}
-use Rattle.collector.specs.Written.{GoesOn, begun, ended_texts, AreWritten, AreRemaining, IsPartlyAdded, IsPartialText}
-use Rattle.collector.proofs.Waits.{some_waiting}
+use Rattle.collector.specs.Written.{begun, ended_texts, AreWritten, AreRemaining, IsPartialText}
+use Rattle.file_order.specs.Writing.{GoesOn, IsPartlyAdded}
+use Rattle.file_order.proofs.Waits.{some_waiting}
 use Rattle.collector.proofs.Adding.{current_more}
 use Rattle.collector.proofs.Moving.{marked_next, ended_more}
-
--- one text begins with the other
-abbrev pub Longer : List ℕ → List ℕ → Type 0
-Longer whole text = (more : List ℕ) × (whole ≡ text ++ more)
-
-pub appends_longer : (start now : Option (List ℕ)) (whole text : List ℕ) → Longer whole text → AppendsPrefix start now text → AppendsPrefix start now whole
-appends_longer start now whole text longer added =
-    (added.0, added.1 ++ longer.0, longer.1 ∙ ap (λ l. l ++ longer.0) added.2 ∙ append_assoc added.0 added.1 longer.0, added.3)
-
--- what is on its way was added up to what waits
-pub way_front : (start now : Option (List ℕ)) (waiting text : List ℕ) → IsInTransit start now waiting text → AppendsPrefix start now text
-way_front start now waiting text way = (way.sent, waiting, way.split, way.added)
-
--- whatever more was to go on its way, where nothing was added
-pub partial_here : (now : Option (List ℕ)) (waiting more : List ℕ) → IsPartlyAdded now waiting now more
-partial_here now waiting more start text way = appends_longer start now (text ++ more) text (more, refl) (way_front start now waiting text way)
 
 -- where a write failed
 pub writes_front : (A : Type 0) (old new : Option (List ℕ)) (text : List ℕ) (failed : Bool) (e : WriteFault) → Writes {A = A} old new failed text (Err e) → AppendsPrefix old new text

@@ -1,5 +1,5 @@
 -- What may arrive of a file.
-use Rattle.std.specs.Prelude.{◌≡◌, ℕ, ◌<◌, ◌≤◌, List, length, map, None, Some, All}
+use Rattle.std.specs.Prelude.{◌≡◌, ℕ, ◌≤◌, List, length, map, Some, All}
 use Rattle.planar_code.specs.declared.TheConstants.{MAX_RECORDS}
 use Rattle.streams.specs.declared.frames.Mark.{Mark}
 use Rattle.common.specs.declared.choice.Choice.{Choice}
@@ -9,7 +9,6 @@ use Rattle.lanes.specs.Opening.{Meaning, IsPlacedAt, IsEndAt}
 use Rattle.reports.specs.declared.entry.Entry.{Entry}
 use Rattle.reports.specs.Abouts.{about_of}
 use Rattle.answers.specs.Spelt.{IsSpelt}
-use Rattle.collector.specs.declared.waiting.Waiting.{Waiting}
 use Rattle.collector.specs.Came.{Came}
 
 -- the record has this place in a file that means this
@@ -25,9 +24,3 @@ pub record IsInOrder (choice : Choice) (meaning : Meaning) (file : ℕ) (came : 
   pub few : length came.entries ≤ MAX_RECORDS
   pub placed : EachAt (IsKnownAt meaning) 0 (map (λ (entry : Entry). entry.rec) came.entries)
   pub ends : (mark : Mark) → came.mark ≡ Some mark → ∥ IsEndAt meaning (length came.entries) mark ∥₁
-
--- the file has not ended, and an entry at this place is its next one
-pub record IsNext (ordinal : ℕ) (waiting : Waiting) : Type 0 where
-  pub unmarked : waiting.mark ≡ None
-  pub count : waiting.count ≡ ordinal
-  pub few : ordinal < MAX_RECORDS

@@ -6,7 +6,7 @@ use Rattle.lanes.specs.Notes.{Note, is_of, of_file, Stop}
 use Rattle.lanes.specs.Opening.{Meaning}
 use Rattle.lanes.specs.Drafts.{abouts, mark_after}
 use Rattle.streams.specs.declared.form.Form.{Form}
-use Rattle.collector.specs.declared.waiting.Waiting.{Waiting}
+use Rattle.file_order.specs.declared.waiting.Waiting.{Waiting}
 use Rattle.collector.specs.Came.{Came, IsToldByNotes}
 use Rattle.collector.specs.Holding.{HoldsNotes}
 

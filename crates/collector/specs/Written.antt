@@ -1,42 +1,11 @@
 -- What has been written of what has arrived, and what is buffered.
-use Rattle.std.specs.Prelude.{◌≡◌, ℕ, zero, suc, ◌+◌, ◌<◌, ◌≤◌, ◌⊎◌, Bool, true, false, List, [], ◌++◌, length, Option, None, Some, slice_index_or, ⊤, Result, OnOk, IfErr}
+use Rattle.std.specs.Prelude.{◌≡◌, ℕ, zero, suc, ◌+◌, ◌<◌, ◌≤◌, ◌⊎◌, List, [], ◌++◌, length, Option, None, Some, slice_index_or}
 use Rattle.streams.specs.declared.frames.Mark.{Mark}
 use Rattle.streams.specs.Sink.{AppendsPrefix, IsInTransit}
 use Rattle.streams.specs.declared.form.Form.{Form}
 use Rattle.collector.specs.FormLines.{preamble_in, lines_in, end_in}
-use Rattle.streams.specs.declared.output.SinkFault.{SinkFault}
-use Rattle.lanes.specs.declared.fault.RunFault.{RunFault}
-use Rattle.lanes.specs.declared.fault.RunFault.TheVariants.{Memory, LaneLost, Thread, Refused}
-use Rattle.collector.specs.declared.waiting.Waiting.{Waiting}
+use Rattle.file_order.specs.declared.waiting.Waiting.{Waiting}
 use Rattle.collector.specs.Came.{Came, HasMark}
-
--- The sink has failed exactly if the message was refused for that. Otherwise memory ran out, or no lane gives such a
--- message.
-abbrev pub GivesUp : Bool → RunFault SinkFault → Type 0
-GivesUp failed (Refused fault) = failed ≡ true
-GivesUp failed Memory = failed ≡ false
-GivesUp failed LaneLost = failed ≡ false
-GivesUp failed Thread = ⊥
-
--- the sink has failed exactly if a run of lanes failed for that
-abbrev pub HasFailedBy : Bool → RunFault SinkFault → Type 0
-HasFailedBy failed (Refused fault) = failed ≡ true
-HasFailedBy failed Memory = failed ≡ false
-HasFailedBy failed LaneLost = failed ≡ false
-HasFailedBy failed Thread = failed ≡ false
-
--- the sink has not failed where all went well, and otherwise exactly if the message was refused for that
-pub record TellsFailure {A : Type 0} (failed : Bool) (result : Result A (RunFault SinkFault)) : Type 0 where
-  pub stands : OnOk result (failed ≡ false)
-  pub gave_up : IfErr result (GivesUp failed)
-
--- whatever text was in transit, it is now in transit followed by `more`
-abbrev pub GoesOn : Option (List ℕ) → List ℕ → Option (List ℕ) → List ℕ → List ℕ → Type 0
-GoesOn old waited new waits more = (start : Option (List ℕ)) (text : List ℕ) → IsInTransit start old waited text → IsInTransit start new waits (text ++ more)
-
--- whatever text was in transit, a prefix of it followed by `more` was added
-abbrev pub IsPartlyAdded : Option (List ℕ) → List ℕ → Option (List ℕ) → List ℕ → Type 0
-IsPartlyAdded old waited new more = (start : Option (List ℕ)) (text : List ℕ) → IsInTransit start old waited text → AppendsPrefix start new (text ++ more)
 
 -- the text before the lines of this file, counted from 0, and its lines so far
 abbrev pub begun : Form → ℕ → Came → List ℕ

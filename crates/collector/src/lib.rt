@@ -1,16 +1,19 @@
 //! Runs over whole files: each record is answered, and a run returns a book for each file.
 #![tactic(auto)]
 
-mod chunks;
+mod counting;
 mod drawn_texts;
+mod find_facts;
+mod flaws;
+mod found_facts;
 mod frames_giving;
 mod frames_run;
 mod kept;
-mod known_files;
 pub mod laws;
 mod line;
 mod lines;
-mod pace;
+mod picking;
+mod picks;
 mod plain;
 mod print_lines;
 mod printed;
@@ -18,18 +21,20 @@ mod read_message;
 mod run;
 mod run_lines;
 mod texts;
-mod waiting;
 mod writing;
 
 pub use answers::{Answer, Cause, Entry, answer};
-pub use chunks::Chunks;
 pub use common::{Choice, DrawingKind};
+pub use counting::{Counted, count_files};
 pub use drawn_texts::{books_are_drawn, lines_tell_drawings};
+pub use find_facts::FindFacts;
+pub use flaws::{Flaws, status_of_flaws};
+pub use found_facts::FoundFacts;
 pub use frames_run::run_frames;
-pub use known_files::{KnownEnd, KnownFiles, known_end};
 pub use lanes::{Gate, MemOpener, OpenFault, OpenGate, Opener, Stage};
 pub use line::Line;
-pub use pace::Pace;
+pub use picking::{PickTexts, pick_files};
+pub use picks::Picks;
 pub use plain::run_plain;
 pub use print_lines::{PrintLines, line_lanes};
 pub use printed::{Printed, found_line};
@@ -42,5 +47,3 @@ pub use streams::{
     write_frames,
 };
 pub use texts::Texts;
-pub use waiting::{Waiting, count_one, keep_line, keep_mark, none_come, take_lines};
-pub use writing::put;

@@ -9,11 +9,11 @@ ghost use Rattle.answers.specs.Spelt.{IsSpelt};
 ghost use Rattle.answers.specs.Steps.{IsFoundFor, IsShaped, answer_in};
 ghost use Rattle.answers.specs.Tasks.{about_in};
 
-use crate::known_files::{KnownEnd, KnownFiles, known_end};
 use crate::printed::{Printed, found_line};
 use answers::{Answering, DrawScratch, Purpose, ShapedPlane, Task, find_points};
 use common::DrawingKind;
 use embedding::ReadFault;
+use file_order::{KnownEnd, KnownFiles, known_end};
 use lanes::Numbered;
 use planar_code::Record;
 use reports::{Form, Style};

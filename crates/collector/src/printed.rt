@@ -11,12 +11,12 @@ ghost use Rattle.collector.specs.Answered.{entry_of};
 ghost use Rattle.collector.specs.FormLines.{IsLineOf};
 ghost use Rattle.answers.specs.Spelt.{IsSpelt};
 
-use crate::known_files::KnownFiles;
 use crate::line::Line;
 use crate::lines::{answer_line, drawn_line};
 use answers::PointsFound;
 use common::Choice;
 use embedding::ReadFault;
+use file_order::KnownFiles;
 use lanes::Numbered;
 use planar_code::Record;
 use reports::{Answer, Form};

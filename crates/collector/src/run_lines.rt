@@ -7,19 +7,22 @@ ghost use Rattle.lanes.specs.Opening.{Meaning};
 ghost use Rattle.reports.specs.declared.entry.Entry.{Entry};
 ghost use Rattle.reports.specs.declared.answer.Answer.{Answer};
 ghost use Rattle.collector.specs.FormLines.{line_in};
-ghost use Rattle.collector.specs.declared.waiting.Waiting.{Waiting};
+ghost use Rattle.file_order.specs.declared.waiting.Waiting.{Waiting};
 ghost use Rattle.collector.specs.Came.{Came, HasEntryMore};
-ghost use Rattle.collector.specs.Orders.{IsNext};
-ghost use Rattle.collector.specs.Written.{IsPartialText, TellsFailure};
+ghost use Rattle.file_order.specs.Waits.{IsNext};
+ghost use Rattle.collector.specs.Written.{IsPartialText};
+ghost use Rattle.file_order.specs.Writing.{TellsFailure};
 ghost use Rattle.collector.specs.Holding.{form_of, choice_of, files_of, IsFlushed, LinesWrite, LinesRemain, LinesHold, ArePartialLines, ArePartialLinesAt, AreLinesOf, StandAt};
 ghost use Rattle.collector.specs.Whole.{HaveFiles, IsAllWritten};
 
-use crate::known_files::{KnownEnd, KnownFiles};
 use crate::lines::{lacking_text, preamble_line};
 use crate::printed::Printed;
-use crate::waiting::{Waiting, count_one, keep_line, keep_mark, none_come, take_lines};
-use crate::writing::{put, put_end, put_preamble};
+use crate::writing::{put_end, put_preamble};
 use common::Choice;
+use file_order::{
+    KnownEnd, KnownFiles, Pace, Waiting, count_one, keep_line, keep_mark, none_come, put,
+    take_lines,
+};
 use lanes::RunFault;
 use planar_code::{Ending, MAX_RECORDS};
 use reports::Form;
@@ -77,25 +80,14 @@ impl Lines {
         })
     }
 
-    /// The first file that has not ended.
-    pub(crate) fn current(&self) -> u32 {
-        self.current
-    }
-
-    /// The first file after the current file that has not ended.
-    pub(crate) fn next(&self) -> u32 {
-        for file in self.current.saturating_add(1)..u32::MAX {
-            let place = file as usize;
-            if place >= self.waiting.len() || self.waiting[place].mark.is_none() {
-                return file;
-            }
+    /// Pauses later files or lets them go on, depending on how much is buffered; if a message was refused, they go on,
+    /// since no more is taken in.
+    pub(crate) fn keep_pace(&self, pace: &Pace<'_>, goes_on: bool) {
+        if goes_on {
+            pace.keep(self.held, self.current, self.waiting.as_slice());
+        } else {
+            pace.give_up();
         }
-        u32::MAX
-    }
-
-    /// The number of bytes of memory that the buffered lines of files after the current file hold.
-    pub(crate) fn waits(&self) -> usize {
-        self.held
     }
 
     /// Takes in the line of one more entry.

@@ -4,15 +4,14 @@ ghost use Rattle.std.proofs.Common.{◌∙◌, ap, subst};
 ghost use Rattle.common.specs.declared.choice.Choice.{Choice};
 ghost use Rattle.lanes.specs.Notes.{Note};
 ghost use Rattle.lanes.specs.Opening.{Meaning};
-ghost use Rattle.collector.specs.Written.{GivesUp};
+ghost use Rattle.file_order.specs.Writing.{GivesUp};
 ghost use Rattle.collector.specs.Stops.{held_stop};
 ghost use Rattle.collector.specs.Holding.{form_of, files_of, IsFlushed, LinesHold, ArePartialLines, AreLinesOf};
 ghost use Rattle.collector.specs.Whole.{HaveFiles, IsAllWritten};
 
-use crate::known_files::{KnownEnd, KnownFiles};
-use crate::pace::Pace;
 use crate::printed::Printed;
 use crate::run_lines::Lines;
+use file_order::{KnownEnd, KnownFiles, Pace};
 use lanes::{Consumer, RunFault};
 use std::alloc::Global;
 use std::snapshot::Snapshot;
@@ -50,18 +49,6 @@ impl<'s, S: Sink> Texts<'s, S, Lines> {
             alloc,
             lines,
             pace,
-        }
-    }
-}
-
-impl<S> Texts<'_, S, Lines> {
-    /// Pauses later files or lets them go on, depending on the buffered text; if a message was refused, they go on,
-    /// since no more is taken in.
-    fn keep_pace(&self, goes_on: bool) {
-        if goes_on {
-            self.pace.keep(&self.lines);
-        } else {
-            self.pace.give_up();
         }
     }
 }
@@ -107,7 +94,7 @@ impl<S: Sink, J: KnownFiles + Send + Sync> Consumer<Printed<J>, KnownEnd<J>>
 
     fn item(&mut self, item: Printed<J>) -> Result<(), RunFault<SinkFault>> {
         let taken = self.lines.line(self.alloc, self.sink, item);
-        self.keep_pace(taken.is_ok());
+        self.lines.keep_pace(&self.pace, taken.is_ok());
         taken
     }
 
@@ -118,7 +105,7 @@ impl<S: Sink, J: KnownFiles + Send + Sync> Consumer<Printed<J>, KnownEnd<J>>
         known: KnownEnd<J>,
     ) -> Result<(), RunFault<SinkFault>> {
         let taken = self.lines.end(self.alloc, self.sink, file, mark, known);
-        self.keep_pace(taken.is_ok());
+        self.lines.keep_pace(&self.pace, taken.is_ok());
         taken
     }
 
@@ -128,7 +115,7 @@ impl<S: Sink, J: KnownFiles + Send + Sync> Consumer<Printed<J>, KnownEnd<J>>
 
     fn flush(&mut self) -> Result<(), RunFault<SinkFault>> {
         let flushed = self.lines.flush(self.sink);
-        self.keep_pace(flushed.is_ok());
+        self.lines.keep_pace(&self.pace, flushed.is_ok());
         flushed
     }
 

@@ -1,34 +1,14 @@
-//! Writing text to a sink through a buffer.
+//! Writing the first and the last line of a file to a sink through a buffer.
 ghost use Rattle.std.specs.Prelude.{◌≡◌, ◌+◌, false, OnOk, OnErr};
 ghost use Rattle.collector.specs.FormLines.{preamble_in, end_in};
-ghost use Rattle.collector.specs.Written.{GoesOn, IsPartlyAdded, TellsFailure};
+ghost use Rattle.file_order.specs.Writing.{GoesOn, IsPartlyAdded, TellsFailure};
 
 use crate::lines::{end_text, preamble_line};
+use file_order::put;
 use lanes::RunFault;
-use reports::{Form, push_line};
+use reports::Form;
 use std::alloc::Global;
 use streams::{Sink, SinkFault, SourceEnd, TextBuffer};
-
-/// Writes `text` to the sink through the buffer.
-///
-/// # Errors
-///
-/// `Refused` exactly if the sink has then failed. There is no other error.
-pub fn put<S: Sink>(
-    buffer: &mut TextBuffer,
-    sink: &mut S,
-    text: &[u8],
-) -> Result<(), RunFault<SinkFault>>
-    requires { S.failed sink.old ≡ false }
-    ensures put { OnOk result (GoesOn (S.taken sink.old) buffer.old (S.taken sink.new) buffer.new text.now) }
-    ensures partial { OnErr result (IsPartlyAdded (S.taken sink.old) buffer.old (S.taken sink.new) text.now) }
-    ensures stands { TellsFailure (S.failed sink.new) result }
-{
-    match push_line(buffer, sink, text) {
-        Ok(()) => Ok(()),
-        Err(_) => Err(RunFault::Refused(SinkFault)),
-    }
-}
 
 /// Writes the text before the lines of a file to the sink through the buffer.
 pub(crate) fn put_preamble<S: Sink>(

@@ -21,12 +21,12 @@ use Rattle.command_line.specs.declared.reading.Keyword.{Keyword}
 use Rattle.command_line.specs.declared.reading.Keyword.TheVariants as keyword
 use Rattle.command_line.specs.declared.request.Request.{Request}
 use Rattle.command_line.specs.declared.request.Request.TheVariants.{Frames, Layout, Check, Pick, Count}
-use Rattle.picks.specs.declared.range.Range.{Range}
-use Rattle.picks.specs.declared.selecting.RuleCondition.{RuleCondition}
-use Rattle.picks.specs.declared.selecting.Selection.{Selection}
-use Rattle.picks.specs.declared.combination.Columns.{Columns}
-use Rattle.picks.specs.Ranges.{IsRangeText}
-use Rattle.picks.specs.Words.{IsRuleText, columns_in, no_columns}
+use Rattle.graph_facts.specs.declared.range.Range.{Range}
+use Rattle.graph_facts.specs.declared.selecting.RuleCondition.{RuleCondition}
+use Rattle.graph_facts.specs.declared.selecting.Selection.{Selection}
+use Rattle.graph_facts.specs.declared.combination.Columns.{Columns}
+use Rattle.graph_facts.specs.Ranges.{IsRangeText}
+use Rattle.graph_facts.specs.Words.{IsRuleText, columns_in, no_columns}
 
 -- the argument begins with these two bytes
 abbrev pub has_prefix : ℕ → ℕ → List ℕ → Bool

@@ -17,7 +17,7 @@ use crate::selecting::{columns_of, selection_of, value_fault};
 use clap::Error;
 use clap::error::ErrorKind;
 use common::{Choice, DrawingKind};
-use picks::{Columns, Selection};
+use graph_facts::{Columns, Selection};
 use reports::{Form, Style};
 use std::alloc::{AllocError, Global};
 

@@ -1,13 +1,13 @@
 //! The graphs that a command line selects, and the columns of their table.
 ghost use Rattle.std.specs.Prelude.{◌≡◌, Option, IfNone, IfSome, option_map};
-ghost use Rattle.picks.specs.declared.range.Range.{Range};
-ghost use Rattle.picks.specs.declared.selecting.RuleCondition.{RuleCondition};
-ghost use Rattle.picks.specs.declared.selecting.Selection.{Selection};
+ghost use Rattle.graph_facts.specs.declared.range.Range.{Range};
+ghost use Rattle.graph_facts.specs.declared.selecting.RuleCondition.{RuleCondition};
+ghost use Rattle.graph_facts.specs.declared.selecting.Selection.{Selection};
 ghost use Rattle.command_line.specs.Requests as requests;
 ghost use Rattle.command_line.specs.Requests.{IsRangeOf, IsRuleOf, IsSelectedBy};
 
 use crate::reading::{Keyword, Setting, asks, setting_text};
-use picks::{Columns, Conditions, Range, RuleCondition, Selection};
+use graph_facts::{Columns, Conditions, Range, RuleCondition, Selection};
 use std::alloc::{AllocError, Global};
 
 /// The graphs that the arguments select; `None` if a value of a condition is not valid.

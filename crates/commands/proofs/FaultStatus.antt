@@ -14,7 +14,7 @@ use Rattle.streams.specs.declared.form.Form.{Form}
 use Rattle.ruled_lanes.specs.declared.limits.TheConstants.{LANES}
 use Rattle.reports.specs.declared.limits.TheConstants.{MAX_FILES}
 use Rattle.collector.specs.Whole.{IsBegun}
-use Rattle.collector.specs.Written.{GivesUp}
+use Rattle.file_order.specs.Writing.{GivesUp}
 use Rattle.command_line.specs.declared.faults.Fault.{Fault}
 use Rattle.command_line.specs.Faults.{fault_of}
 use Rattle.command_line.specs.Refusals.{IsMisuse}

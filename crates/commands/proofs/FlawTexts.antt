@@ -11,7 +11,7 @@ use Rattle.streams.specs.declared.faults.WriteFault.TheVariants.{Memory, Write}
 use Rattle.streams.specs.Sink.{Writes}
 use Rattle.streams.specs.Text.{word_of}
 use Rattle.streams.proofs.Sinks.{added_both}
-use Rattle.picks.specs.declared.flaws.Flaws.{Flaws}
+use Rattle.collector.specs.declared.flaws.Flaws.{Flaws}
 use Rattle.commands.specs.FlawLines.{AreFlawLines, incomplete_line, lines_of_file, mark_line, memory_line, pieces_text}
 
 -- a sink that refused a text has failed

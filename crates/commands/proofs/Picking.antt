@@ -6,13 +6,13 @@ use Rattle.lanes.specs.Opening.{Meaning}
 use Rattle.named_sources.specs.Naming.{meanings_in}
 use Rattle.command_line.specs.declared.request.PickRequest.{PickRequest}
 use Rattle.command_line.specs.declared.request.CountRequest.{CountRequest}
-use Rattle.picks.specs.declared.selecting.Selection.{Selection}
-use Rattle.picks.specs.declared.combination.Columns.{Columns}
-use Rattle.picks.specs.declared.flaws.Flaws.{Flaws}
-use Rattle.picks.specs.Books.{FactBook, IsFlawless, IsFlawlessFacts, flaws_of}
-use Rattle.picks.specs.Picked.{IsAllPicked, IsPickBegun}
-use Rattle.picks.specs.Counted.{IsAllCounted}
-use Rattle.picks.specs.Tables.{TableModel, table_text}
+use Rattle.graph_facts.specs.declared.selecting.Selection.{Selection}
+use Rattle.graph_facts.specs.declared.combination.Columns.{Columns}
+use Rattle.collector.specs.declared.flaws.Flaws.{Flaws}
+use Rattle.collector.specs.FactBooks.{FactBook, IsFlawless, IsFlawlessFacts, flaws_of}
+use Rattle.collector.specs.Picked.{IsAllPicked, IsPickBegun}
+use Rattle.collector.specs.Counted.{IsAllCounted}
+use Rattle.graph_facts.specs.Tables.{TableModel, table_text}
 use Rattle.commands.proofs.NoFlaws.{flawless_flaws}
 use Rattle.commands.specs.Statuses.{AreCountsWritten, ErrorOutput, IsTextOfCounted, IsTextOfPicked, TellsFlaws}
 use Rattle.std.specs.Prelude.{vec_len}

@@ -8,7 +8,7 @@ use Rattle.planar_code.specs.declared.ending.Ending.TheVariants.{Complete}
 use Rattle.streams.specs.declared.frames.Mark.{Mark}
 use Rattle.streams.specs.declared.frames.Mark.TheVariants.{Ended, Io}
 use Rattle.streams.specs.Text.{word_of}
-use Rattle.picks.specs.declared.flaws.Flaws.{Flaws}
+use Rattle.collector.specs.declared.flaws.Flaws.{Flaws}
 
 -- texts one after another
 abbrev pub pieces_text : List (Bor (List ℕ)) → List ℕ

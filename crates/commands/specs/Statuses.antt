@@ -30,13 +30,13 @@ use Rattle.command_line.specs.declared.request.Request.TheVariants.{Frames, Layo
 use Rattle.command_line.specs.declared.request.CheckRequest.{CheckRequest}
 use Rattle.command_line.specs.declared.request.PickRequest.{PickRequest}
 use Rattle.command_line.specs.declared.request.CountRequest.{CountRequest}
-use Rattle.picks.specs.declared.combination.Columns.{Columns}
-use Rattle.picks.specs.declared.selecting.Selection.{Selection}
-use Rattle.picks.specs.declared.flaws.Flaws.{Flaws}
-use Rattle.picks.specs.Books.{FactBook, AreAllFactBooks, IsFlawlessFacts, flaws_of}
-use Rattle.picks.specs.Picked.{IsAllPicked, IsPickBegun, picked_text, chosen_in}
-use Rattle.picks.specs.Counted.{IsAllCounted}
-use Rattle.picks.specs.Tables.{IsTable, TableModel, table_text}
+use Rattle.graph_facts.specs.declared.combination.Columns.{Columns}
+use Rattle.graph_facts.specs.declared.selecting.Selection.{Selection}
+use Rattle.collector.specs.declared.flaws.Flaws.{Flaws}
+use Rattle.collector.specs.FactBooks.{FactBook, AreAllFactBooks, IsFlawlessFacts, flaws_of}
+use Rattle.collector.specs.Picked.{IsAllPicked, IsPickBegun, picked_text, chosen_in}
+use Rattle.collector.specs.Counted.{IsAllCounted}
+use Rattle.graph_facts.specs.Tables.{IsTable, TableModel, table_text}
 use Rattle.commands.specs.FlawLines.{IsTold}
 
 -- the output of '--version'

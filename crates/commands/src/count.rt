@@ -5,10 +5,11 @@ ghost use Rattle.named_sources.specs.Naming.{meanings_in};
 ghost use Rattle.commands.specs.Statuses.{AreCountsBegun, AreCountsWritten, IsTooMuch};
 
 use crate::runs::{CAPACITY, run_size};
+use collector::{Flaws, count_files};
 use command_line::{Console, CountRequest, Fault, Meter};
+use graph_facts::write_counts;
 use lanes::{Pauses, Run};
 use named_sources::{FileNotes, FileOpener, NamedFiles};
-use picks::{Flaws, count_files, write_counts};
 use std::sync::Wait;
 use std::thread::Threads;
 use streams::Sink;

@@ -3,9 +3,9 @@ ghost use Rattle.std.specs.Prelude.{◌≡◌, false, true, map, OnErr, OnOk};
 ghost use Rattle.std.specs.Io.KnownBytes.{Appends};
 ghost use Rattle.commands.specs.FlawLines.{IsTold, lines_of_file, memory_line, incomplete_line, mark_line, pieces_text};
 
+use collector::Flaws;
 use itoa::Buffer;
 use named_sources::FileNotes;
-use picks::Flaws;
 use planar_code::Ending;
 use std::alloc::Global;
 use streams::{Mark, Sink, WriteFault, mark_word, put_all};

@@ -2,14 +2,14 @@
 ghost use Rattle.std.specs.Prelude.{◌≡◌, ◌⊎◌, false, IfOk, IfErr, OnOk, OnErr, vec_len};
 ghost use Rattle.command_line.specs.Refusals.{IsMisuse};
 ghost use Rattle.named_sources.specs.Naming.{meanings_in};
-ghost use Rattle.picks.specs.Picked.{IsAllPicked, IsPickBegun};
+ghost use Rattle.collector.specs.Picked.{IsAllPicked, IsPickBegun};
 ghost use Rattle.commands.specs.Statuses.{IsTooMuch};
 
 use crate::runs::{CAPACITY, MEGABYTE, run_size};
+use collector::{Flaws, pick_files};
 use command_line::{Console, Fault, Meter, PickRequest};
 use lanes::{Pauses, Run};
 use named_sources::{FileNotes, FileOpener, NamedFiles};
-use picks::{Flaws, pick_files};
 use std::sync::Wait;
 use std::thread::Threads;
 use streams::Sink;

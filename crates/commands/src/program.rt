@@ -26,12 +26,12 @@ use crate::pick::pick;
 use crate::version::VERSION;
 use clap::Error;
 use clap::error::ErrorKind;
+use collector::status_of_flaws;
 use command_line::{
     Console, CountRequest, Fault, Keyword, LayoutRequest, Meter, ParseFault, PickRequest, Request,
     asks, help_text, parse, write_fault,
 };
 use named_sources::{FileNotes, KeepsReason, NamedFiles, Reason, open_source};
-use picks::status_of_flaws;
 use reports::status_of;
 use std::alloc::{AllocError, Global};
 use std::sync::Wait;

@@ -9,9 +9,10 @@ ghost use Rattle.lanes.specs.Accepting.{AcceptsFiles};
 ghost use Rattle.collector.specs.Whole.{IsAllWritten, IsBegun};
 ghost use Rattle.commands.specs.TextRuns.{HasFailedBy, IsStreamed};
 
-use collector::{KnownFiles, Lines, Pace, Texts, line_lanes};
+use collector::{Lines, Texts, line_lanes};
 use command_line::Fault;
 use common::Choice;
+use file_order::{KnownFiles, Pace};
 use lanes::{Consumer, Gate, LaneKind, Opener, Pauses, Run, RunFault, run_lanes};
 use reports::{MAX_FILES, Style};
 use ruled_lanes::LANES;

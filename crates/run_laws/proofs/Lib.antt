@@ -23,3 +23,14 @@ pub mod Joining
 pub mod OneRegion
 pub mod OnePick
 pub mod OneCount
+pub mod Trees
+pub mod Rounds
+pub mod Halves
+pub mod Discs
+pub mod Weights
+pub mod Jumps
+pub mod Angles
+pub mod Corners
+pub mod Parts
+pub mod NoCut
+pub mod NoCutOfParts

@@ -11,14 +11,14 @@ use Rattle.common.specs.declared.choice.Choice.{Choice}
 use Rattle.lanes.specs.Notes.{numbered}
 use Rattle.lanes.specs.Opening.{Meaning, fails_of}
 use Rattle.collector.proofs.ToldEnds.{both}
-use Rattle.picks.specs.declared.selecting.Selection.{Selection}
-use Rattle.picks.specs.declared.facts.Facts.{Facts}
-use Rattle.picks.specs.Books.{FactEntry, FactBook, IsFactBook, AreFactBooks, AreAllFactBooks, about_of}
-use Rattle.picks.specs.Conditions.{chooses}
-use Rattle.picks.specs.Facts.{AreFacts}
-use Rattle.picks.specs.Picked.{chosen_of, chosen_of_book, chosen_in}
-use Rattle.picks.specs.Tables.{IsTable, TableModel, table_text}
-use Rattle.picks.proofs.OneTable.{one_table}
+use Rattle.graph_facts.specs.declared.selecting.Selection.{Selection}
+use Rattle.graph_facts.specs.declared.facts.Facts.{Facts}
+use Rattle.collector.specs.FactBooks.{FactEntry, FactBook, IsFactBook, AreFactBooks, AreAllFactBooks, about_of}
+use Rattle.graph_facts.specs.Conditions.{chooses}
+use Rattle.graph_facts.specs.Facts.{AreFacts}
+use Rattle.collector.specs.Picked.{chosen_of, chosen_of_book, chosen_in}
+use Rattle.graph_facts.specs.Tables.{IsTable, TableModel, table_text}
+use Rattle.graph_facts.proofs.OneTable.{one_table}
 use Rattle.run_laws.specs.Picks.{HasAllFacts}
 use Rattle.run_laws.specs.Reports.{AreKnownAlike, AreAllKnownAlike}
 use Rattle.run_laws.proofs.Booking.{same_marked}

@@ -14,12 +14,12 @@ use Rattle.lanes.specs.Notes.{About, numbered}
 use Rattle.lanes.specs.Opening.{Meaning, known_of, fails_of}
 use Rattle.faces.specs.Planes.{PlaneModel, vertices, darts}
 use Rattle.ortho_rep.specs.Representation.{IsShape, IsLeast}
-use Rattle.picks.specs.declared.selecting.Selection.{Selection}
-use Rattle.picks.specs.declared.facts.Facts.{Facts}
-use Rattle.picks.specs.Books.{FactEntry, FactBook, IsFactBook, AreFactBooks, AreAllFactBooks, about_of}
-use Rattle.picks.specs.Conditions.{is_chosen}
-use Rattle.picks.specs.Facts.{AreFacts, AreLaidFacts, AreRefusedFacts, laid_facts, refused_facts}
-use Rattle.picks.specs.Picked.{picked_of, picked_in, picked_of_book, picked_text}
+use Rattle.graph_facts.specs.declared.selecting.Selection.{Selection}
+use Rattle.graph_facts.specs.declared.facts.Facts.{Facts}
+use Rattle.collector.specs.FactBooks.{FactEntry, FactBook, IsFactBook, AreFactBooks, AreAllFactBooks, about_of}
+use Rattle.graph_facts.specs.Conditions.{is_chosen}
+use Rattle.graph_facts.specs.Facts.{AreFacts, AreLaidFacts, AreRefusedFacts, laid_facts, refused_facts}
+use Rattle.collector.specs.Picked.{picked_of, picked_in, picked_of_book, picked_text}
 use Rattle.run_laws.specs.Picks.{HasAllFacts}
 use Rattle.run_laws.specs.Reports.{AreKnownAlike, AreAllKnownAlike}
 use Rattle.run_laws.proofs.Booking.{marked_as_known, same_marked}

@@ -4,3 +4,5 @@ pub mod Supplies
 pub mod Reports
 pub mod Cells
 pub mod Picks
+pub mod Points
+pub mod Frames

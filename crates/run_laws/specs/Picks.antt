@@ -2,7 +2,7 @@
 use Rattle.std.specs.Prelude.{◌≢◌, None, All}
 use Rattle.planar_code.specs.declared.ending.Ending.{Ending}
 use Rattle.streams.specs.declared.frames.Mark.{Mark}
-use Rattle.picks.specs.Books.{FactBook}
+use Rattle.collector.specs.FactBooks.{FactBook}
 
 -- memory ran out neither for the file nor for one of its records
 pub record HasAllFacts (book : FactBook) : Type 0 where

@@ -3,12 +3,12 @@
 ghost use Rattle.std.specs.Prelude.{◌≡◌, ℕ, List, All, Some};
 ghost use Rattle.common.specs.declared.choice.Choice.{Choice};
 ghost use Rattle.lanes.specs.Opening.{Meaning};
-ghost use Rattle.picks.specs.declared.selecting.Selection.{Selection};
-ghost use Rattle.picks.specs.declared.facts.Facts.{Facts};
-ghost use Rattle.picks.specs.Books.{FactBook, AreAllFactBooks};
-ghost use Rattle.picks.specs.Facts.{AreFacts};
-ghost use Rattle.picks.specs.Picked.{chosen_in, picked_text};
-ghost use Rattle.picks.specs.Tables.{IsTable, TableModel, table_text};
+ghost use Rattle.graph_facts.specs.declared.selecting.Selection.{Selection};
+ghost use Rattle.graph_facts.specs.declared.facts.Facts.{Facts};
+ghost use Rattle.collector.specs.FactBooks.{FactBook, AreAllFactBooks};
+ghost use Rattle.graph_facts.specs.Facts.{AreFacts};
+ghost use Rattle.collector.specs.Picked.{chosen_in, picked_text};
+ghost use Rattle.graph_facts.specs.Tables.{IsTable, TableModel, table_text};
 ghost use Rattle.run_laws.specs.Picks.{HasAllFacts};
 ghost use Rattle.run_laws.specs.Reports.{AreAllKnownAlike};
 

@@ -1,7 +1,7 @@
 //! Conditions on graphs and their texts, by rows. The values come from the description of the commands `pick` and `count`.
 
 use embedding::Rule;
-use picks::{Conditions, Facts, Range, RangeFault, RuleCondition, Selection};
+use graph_facts::{Conditions, Facts, Range, RangeFault, RuleCondition, Selection};
 use std::process::Abort;
 use test_tools::same;
 

@@ -7,9 +7,11 @@ ghost use Rattle.std.specs.Prelude.{◌<◌, ◌≤◌};
 
 use crate::picks_rows::{ALL, selection_of};
 use crate::reported::{Files, THREE};
-use collector::{Choice, IoSink, MAX_LANES, OpenGate};
+use collector::{
+    Choice, Flaws, IoSink, MAX_LANES, OpenGate, count_files, pick_files, status_of_flaws,
+};
+use graph_facts::{Columns, Selection, write_counts};
 use lanes::{Pauses, Run, RunFault};
-use picks::{Columns, Flaws, Selection, count_files, pick_files, status_of_flaws, write_counts};
 use planar_code::Ending;
 use std::process::Abort;
 use std::sync::Wait;

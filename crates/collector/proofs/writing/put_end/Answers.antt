@@ -1,8 +1,8 @@
 use Rattle.std.proofs.Common.{◌+◌, subst, ◌∙◌}
 use Rattle.collector.specs.FormLines.{end_in}
-use Rattle.collector.specs.Written.{IsPartlyAdded}
-use Rattle.collector.proofs.Partial.{partial_here}
-use Rattle.collector.proofs.SucceedsOrFails.{err_then}
+use Rattle.file_order.specs.Writing.{IsPartlyAdded}
+use Rattle.file_order.proofs.Prefixes.{partial_here}
+use Rattle.file_order.proofs.SucceedsOrFails.{err_then}
 use Rattle.collector.proofs.writing.put_end.Goals as goal
 
 pub returns-in-Ok-clause-partial : goal.returns-in-Ok-clause-partial

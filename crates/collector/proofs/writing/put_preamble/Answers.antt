@@ -1,6 +1,6 @@
 use Rattle.std.proofs.Common.{subst, ◌∙◌}
-use Rattle.collector.specs.Written.{IsPartlyAdded}
-use Rattle.collector.proofs.SucceedsOrFails.{err_then}
+use Rattle.file_order.specs.Writing.{IsPartlyAdded}
+use Rattle.file_order.proofs.SucceedsOrFails.{err_then}
 use Rattle.collector.proofs.writing.put_preamble.Goals as goal
 
 pub returns-clause-partial : goal.returns-clause-partial

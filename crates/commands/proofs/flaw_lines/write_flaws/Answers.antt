@@ -1,7 +1,7 @@
 use Rattle.std.proofs.Common.{◌≡◌, ◌≤◌, ◌∷◌, ◌++◌, ◌+◌, ℕ, List, [], Bor, ap, drop, get_or, length, refl, subst, sym, ◌∙◌}
 use Rattle.std.proofs.lemmas.List.{drop_more}
 use Rattle.streams.proofs.Sinks.{added_both, added_none}
-use Rattle.picks.specs.declared.flaws.Flaws.{Flaws}
+use Rattle.collector.specs.declared.flaws.Flaws.{Flaws}
 use Rattle.commands.specs.FlawLines.{lines_of_file}
 use Rattle.commands.proofs.FlawTexts.{flaws_end, lines_next, names_end}
 use Rattle.commands.proofs.flaw_lines.write_flaws.Goals as goal

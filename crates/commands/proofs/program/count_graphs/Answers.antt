@@ -1,7 +1,7 @@
 use Rattle.std.proofs.Common.{List, Bor, ℕ, subst, sym}
 use Rattle.std.specs.Prelude.{vec_len}
 use Rattle.named_sources.specs.Naming.{meanings_in}
-use Rattle.picks.specs.declared.flaws.Flaws.{Flaws}
+use Rattle.collector.specs.declared.flaws.Flaws.{Flaws}
 use Rattle.commands.specs.Statuses.{AreCountsWritten, TellsFlaws, error_output}
 use Rattle.commands.proofs.Picking.{text_of_counted}
 use Rattle.commands.proofs.program.count_graphs.Goals as goal

@@ -1,8 +1,8 @@
 use Rattle.std.proofs.Common.{List, Bor, ℕ, subst, sym}
 use Rattle.std.specs.Prelude.{vec_len}
 use Rattle.named_sources.specs.Naming.{meanings_in}
-use Rattle.picks.specs.declared.flaws.Flaws.{Flaws}
-use Rattle.picks.specs.Picked.{IsAllPicked}
+use Rattle.collector.specs.declared.flaws.Flaws.{Flaws}
+use Rattle.collector.specs.Picked.{IsAllPicked}
 use Rattle.commands.specs.Statuses.{TellsFlaws, error_output}
 use Rattle.commands.proofs.Picking.{text_of_picked}
 use Rattle.commands.proofs.program.pick_records.Goals as goal

@@ -4,7 +4,7 @@ use Rattle.lanes.specs.Files.{AreToldWhole}
 use Rattle.streams.specs.declared.output.SinkFault.{SinkFault}
 use Rattle.lanes.specs.declared.fault.RunFault.{RunFault}
 use Rattle.lanes.specs.Faults.{HoldsOnFault}
-use Rattle.collector.specs.Written.{GivesUp}
+use Rattle.file_order.specs.Writing.{GivesUp}
 use Rattle.collector.specs.Holding.{form_of, choice_of, files_of, LinesHold, ArePartialLines}
 use Rattle.collector.specs.Whole.{IsAllWritten, IsBegun}
 use Rattle.collector.proofs.Ordering.{begun_none}

@@ -1,11 +1,11 @@
 use Rattle.std.proofs.Common.{◌≡◌, ◌<◌, length, subst, arith}
 use Rattle.collector.specs.Came.{HasEntryMore}
-use Rattle.collector.specs.Waits.{ChangesAt, IsCountedOne}
+use Rattle.file_order.specs.Waits.{ChangesAt, IsCountedOne}
 use Rattle.collector.proofs.Adding.{written_current, written_behind}
-use Rattle.collector.proofs.SucceedsOrFails.{ok_then}
+use Rattle.file_order.proofs.SucceedsOrFails.{ok_then}
 use Rattle.std.proofs.Common.{inl, inr}
 use Rattle.collector.proofs.Partial.{partial_written, partial_line}
-use Rattle.collector.proofs.SucceedsOrFails.{err_then, err_any}
+use Rattle.file_order.proofs.SucceedsOrFails.{err_then, err_any}
 use Rattle.collector.proofs.run_lines.Lines.add.Goals as goal
 
 pub returns-then-file-self-clause-added : goal.returns-then-file-self-clause-added

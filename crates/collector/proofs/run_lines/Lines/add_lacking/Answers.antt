@@ -1,8 +1,8 @@
 use Rattle.std.proofs.Common.{sym, ◌∙◌}
-use Rattle.collector.proofs.SucceedsOrFails.{ok_then}
+use Rattle.file_order.proofs.SucceedsOrFails.{ok_then}
 use Rattle.std.proofs.Common.{inl}
 use Rattle.collector.proofs.Partial.{partial_written}
-use Rattle.collector.proofs.SucceedsOrFails.{err_then}
+use Rattle.file_order.proofs.SucceedsOrFails.{err_then}
 use Rattle.collector.proofs.run_lines.Lines.add_lacking.Goals as goal
 
 pub returns-in-Ok-clause-added : goal.returns-in-Ok-clause-added

@@ -1,5 +1,5 @@
 use Rattle.collector.proofs.Partial.{partial_as}
-use Rattle.collector.proofs.SucceedsOrFails.{err_any}
+use Rattle.file_order.proofs.SucceedsOrFails.{err_any}
 use Rattle.std.proofs.Common.{length}
 use Rattle.collector.proofs.run_lines.Lines.advance.Goals as goal
 

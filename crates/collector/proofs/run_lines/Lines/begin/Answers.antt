@@ -1,7 +1,7 @@
 use Rattle.collector.proofs.Moving.{written_begun}
-use Rattle.collector.proofs.SucceedsOrFails.{ok_then}
+use Rattle.file_order.proofs.SucceedsOrFails.{ok_then}
 use Rattle.collector.proofs.Partial.{partial_first, partial_lines}
-use Rattle.collector.proofs.SucceedsOrFails.{err_then, err_any}
+use Rattle.file_order.proofs.SucceedsOrFails.{err_then, err_any}
 use Rattle.collector.proofs.run_lines.Lines.begin.Goals as goal
 
 pub returns-clause-begun : goal.returns-clause-begun

@@ -1,11 +1,11 @@
 use Rattle.std.proofs.Common.{◌≡◌, ◌<◌, ◌≤◌, length, refl, rules}
 use Rattle.collector.specs.declared.run_lines.Lines.{Lines}
-use Rattle.collector.specs.Waits.{ChangesAt, GetsMark}
+use Rattle.file_order.specs.Waits.{ChangesAt, GetsMark}
 use Rattle.collector.proofs.Adding.{written_marked}
 use Rattle.collector.proofs.Held.{held_end, end_as}
-use Rattle.collector.proofs.SucceedsOrFails.{ok_both}
+use Rattle.file_order.proofs.SucceedsOrFails.{ok_both}
 use Rattle.collector.proofs.Held.{left_off_end}
-use Rattle.collector.proofs.SucceedsOrFails.{err_then}
+use Rattle.file_order.proofs.SucceedsOrFails.{err_then}
 use Rattle.std.proofs.Common.{sym, subst, inl}
 use Rattle.collector.specs.Holding.{ArePartialLines}
 use Rattle.collector.proofs.Held.{left_off_held, left_off_as}

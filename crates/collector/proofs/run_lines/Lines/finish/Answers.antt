@@ -3,7 +3,7 @@ use Rattle.std.proofs.lemmas.Bool.{false≢true}
 use Rattle.collector.proofs.Finishing.{all_written}
 use Rattle.collector.proofs.Partial.{writes_front}
 use Rattle.collector.proofs.Held.{left_off_finish}
-use Rattle.collector.proofs.SucceedsOrFails.{err_any}
+use Rattle.file_order.proofs.SucceedsOrFails.{err_any}
 use Rattle.collector.proofs.run_lines.Lines.finish.Goals as goal
 use Rattle.collector.proofs.run_lines.Lines.finish.Goals.{then-self, else-self}
 

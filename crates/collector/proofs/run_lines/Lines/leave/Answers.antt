@@ -1,9 +1,9 @@
 use Rattle.std.proofs.Common.{◌≡◌, ◌+◌, ◌≤◌, length, refl, rules, arith}
 use Rattle.collector.proofs.Moving.{left_ended, written_over}
-use Rattle.collector.proofs.SucceedsOrFails.{ok_then}
+use Rattle.file_order.proofs.SucceedsOrFails.{ok_then}
 use Rattle.collector.proofs.Moving.{current_told}
 use Rattle.collector.proofs.Partial.{partial_written, partial_end}
-use Rattle.collector.proofs.SucceedsOrFails.{err_then, err_any}
+use Rattle.file_order.proofs.SucceedsOrFails.{err_then, err_any}
 use Rattle.collector.proofs.run_lines.Lines.leave.Goals as goal
 
 pub returns-then-self-len-clause-written : goal.returns-then-self-len-clause-written

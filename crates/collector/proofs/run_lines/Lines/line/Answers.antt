@@ -4,10 +4,10 @@ use Rattle.collector.specs.Answered.{entry_of}
 use Rattle.collector.specs.FormLines.{IsLineOf, line_in}
 use Rattle.collector.specs.Came.{IsFlawlessSoFar}
 use Rattle.collector.proofs.Held.{comes_next, held_item, lacking}
-use Rattle.collector.proofs.SucceedsOrFails.{ok_then, ok_both}
+use Rattle.file_order.proofs.SucceedsOrFails.{ok_then, ok_both}
 use Rattle.collector.proofs.FlawlessBooks.{flawless_item, whole_lacking}
 use Rattle.collector.proofs.Held.{left_off_held, left_off_item}
-use Rattle.collector.proofs.SucceedsOrFails.{err_then}
+use Rattle.file_order.proofs.SucceedsOrFails.{err_then}
 use Rattle.collector.proofs.run_lines.Lines.line.Goals as goal
 
 pub returns-in-Some-clause-held : goal.returns-in-Some-clause-held

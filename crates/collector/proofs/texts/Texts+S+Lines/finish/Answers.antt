@@ -1,5 +1,5 @@
 use Rattle.std.proofs.lemmas.Result.{IfOk-weaker}
-use Rattle.collector.proofs.SucceedsOrFails.{err_then}
+use Rattle.file_order.proofs.SucceedsOrFails.{err_then}
 use Rattle.collector.proofs.texts.Texts+S+Lines.finish.Goals as goal
 
 pub returns-clause-written : goal.returns-clause-written

@@ -1,5 +1,5 @@
-use Rattle.collector.proofs.SucceedsOrFails.{ok_both}
-use Rattle.collector.proofs.SucceedsOrFails.{err_both}
+use Rattle.file_order.proofs.SucceedsOrFails.{ok_both}
+use Rattle.file_order.proofs.SucceedsOrFails.{err_both}
 use Rattle.std.proofs.Common.{inl, inr}
 use Rattle.collector.proofs.texts.TextsLinesConsumerPrintedKnownEnd.end.Goals as goal
 

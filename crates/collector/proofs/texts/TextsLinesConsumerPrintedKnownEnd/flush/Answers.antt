@@ -1,4 +1,4 @@
-use Rattle.collector.proofs.SucceedsOrFails.{ok_both, err_both}
+use Rattle.file_order.proofs.SucceedsOrFails.{ok_both, err_both}
 use Rattle.collector.proofs.texts.TextsLinesConsumerPrintedKnownEnd.flush.Goals as goal
 
 pub returns-clause-kept : goal.returns-clause-kept

@@ -1,0 +1,68 @@
+use Rattle.std.proofs.Common.{◌≡◌, ◌≢◌, ◌<◌, ◌≤◌, ◌∙◌, ℕ, length, get_or, ap, refl, rules}
+use Rattle.file_order.specs.declared.waiting.Waiting.{Waiting}
+use Rattle.file_order.specs.Waits.{IsNext}
+use Rattle.file_order.proofs.SucceedsOrFails.{ok_then, err_then, err_any}
+use Rattle.collector.specs.declared.flaws.Flaws.{Flaws}
+use Rattle.collector.specs.declared.picks.Picks.{Picks}
+use Rattle.collector.specs.FactBooks.{FactEntry}
+use Rattle.collector.specs.Picked.{picked_of}
+use Rattle.collector.specs.PicksHolding.{ArePicksOf}
+use Rattle.collector.proofs.PicksHeld.{comes_next, held_item, left_off_held, left_off_item}
+use Rattle.collector.proofs.picks.Picks.item.Goals as goal
+
+pub returns-clause-held : goal.returns-clause-held
+returns-clause-held g c =
+    let found = c.args.found in
+    let entry : FactEntry = record { about = record { file = found.file; ordinal = found.ordinal; bytes = found.rec; choice = found.choice }; facts = found.facts; right = found.right } in
+    let file = found.file in
+    let before = c.args.self.now in
+    let after = c.add.new.self in
+    let meaning = g.J.KnownFiles.meaning in
+    let old = g.S.Sink.taken c.args.sink.now in
+    let new = g.S.Sink.taken c.add.new.sink in
+    let below : file < length before.waiting.items = search rules in
+    let choice : found.choice ≡ before.choice = search rules in
+    let next : (other : Waiting) → IsNext found.ordinal (get_or before.waiting.items file other) = c.is_next.ensures.next (search rules) in
+    let text : c.picked.result.now ≡ picked_of before.selection entry = c.picked.ensures in
+    let went = c.add.ensures.same in
+    let same : ArePicksOf before after = record { selection = went.selection; choice = went.choice; files = went.files } in
+    let flaws = c.add.ensures.flaws in
+    ok_then c.add.result c.add.ensures.added (λ added start ns held.
+    held_item meaning start old new before after ns file entry same c.add.ensures.current below
+    (ap (λ v. length v.items) flaws ∙ c.in_ok-add_flaw.ensures.count)
+    (λ other. ap (λ v. get_or v.items file other) flaws ∙ c.in_ok-add_flaw.ensures.here other)
+    (λ k other apart. ap (λ v. get_or v.items k other) flaws ∙ c.in_ok-add_flaw.ensures.others k other apart)
+    (λ came next more was. added start came next entry text more was) held
+    (comes_next meaning start old before ns file entry refl choice found.rec_is found.placed below next held))
+
+pub returns-clause-partial : goal.returns-clause-partial
+returns-clause-partial g c =
+    let found = c.args.found in
+    let entry : FactEntry = record { about = record { file = found.file; ordinal = found.ordinal; bytes = found.rec; choice = found.choice }; facts = found.facts; right = found.right } in
+    let file = found.file in
+    let before = c.args.self.now in
+    let after = c.add.new.self in
+    let meaning = g.J.KnownFiles.meaning in
+    let old = g.S.Sink.taken c.args.sink.now in
+    let new = g.S.Sink.taken c.add.new.sink in
+    let below : file < length before.waiting.items = search rules in
+    let choice : found.choice ≡ before.choice = search rules in
+    let next : (other : Waiting) → IsNext found.ordinal (get_or before.waiting.items file other) = c.is_next.ensures.next (search rules) in
+    let text : c.picked.result.now ≡ picked_of before.selection entry = c.picked.ensures in
+    let went = c.add.ensures.same in
+    let same : ArePicksOf before after = record { selection = went.selection; choice = went.choice; files = went.files } in
+    err_then c.add.result c.add.ensures.partial (λ partial start ns held.
+    left_off_item meaning start old new before after ns file entry same below
+    (λ came next more was. partial start came next entry text more was) held
+    (comes_next meaning start old before ns file entry refl choice found.rec_is found.placed below next held))
+
+pub returns-in_err-add_flaw-clause-partial : goal.returns-in_err-add_flaw-clause-partial
+returns-in_err-add_flaw-clause-partial g c =
+    let before = c.args.self.now in
+    let mid : Picks = record before { flaws = c.add_flaw.new.flaws } in
+    err_any c.from_residual.result (λ start ns held.
+    left_off_held g.J.KnownFiles.meaning start (g.S.Sink.taken c.args.sink.now) before mid ns (record { selection = refl; choice = refl; files = refl }) held)
+
+pub returns-then-ne-clause-partial : goal.returns-then-ne-clause-partial
+returns-then-ne-clause-partial g c = λ start ns held.
+    left_off_held g.J.KnownFiles.meaning start (g.S.Sink.taken c.args.sink.now) c.args.self.now c.args.self.now ns (record { selection = refl; choice = refl; files = refl }) held

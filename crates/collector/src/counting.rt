@@ -1,0 +1,165 @@
+//! Runs that count graphs.
+ghost use Rattle.std.specs.Prelude.{◌≡◌, ◌<◌, ◌≤◌, ◌++◌, List, ⊤, IfOk, IfErr, OnOk, filter, length, option_to_list};
+ghost use Rattle.std.proofs.Common.{refl, ◌∙◌};
+ghost use Rattle.ruled_lanes.specs.declared.limits.TheConstants.{LANES};
+ghost use Rattle.reports.specs.declared.limits.TheConstants.{MAX_FILES};
+ghost use Rattle.lanes.specs.Faults.{IsOfLanes};
+ghost use Rattle.graph_facts.specs.declared.facts.Facts.{Facts};
+ghost use Rattle.graph_facts.specs.Conditions.{chooses};
+ghost use Rattle.collector.specs.Counted.{IsAllCounted};
+ghost use Rattle.collector.specs.CountsHeld.{CountsHold, counted_stop};
+ghost use Rattle.graph_facts.specs.Tables.{IsTable};
+
+use crate::find_facts::fact_lanes;
+use crate::flaws::{Flaws, add_flaw, no_flaws, set_mark};
+use crate::found_facts::FoundFacts;
+use crate::picking::gather_into;
+use file_order::{KnownEnd, KnownFiles};
+use graph_facts::{Columns, Counts, Facts, Selection};
+use lanes::{Consumer, Gate, Opener, Run, RunFault};
+use std::marker::Brand;
+use std::sync::Wait;
+use std::thread::Threads;
+use streams::{Mark, SinkFault};
+
+/// The table of the chosen graphs of files, and what is lacking in each file.
+///
+/// It is the consumer of the lanes' messages. It counts graphs in whatever order they arrive, and buffers nothing.
+#[derive(Drop)]
+pub struct Counted {
+    /// The graphs that are counted.
+    pub selection: Selection,
+    pub counts: Counts,
+    pub flaws: Vec<Flaws>,
+}
+
+/// Counts the chosen graphs of the files of a run, in these columns.
+///
+/// Memory grows with the number of different combinations alone.
+///
+/// # Errors
+///
+/// `Memory`: no memory for links, the fan, tickets, buffers, lists of lanes or combinations. `LaneLost`: an end of a link
+/// or of the fan was gone, or a message came that no lane gives. `Thread`: a thread could not be started.
+pub fn count_files<R: Threads + Wait + Sync, O: Opener, G: Gate>(
+    run: &Run<'_, R, O, G>,
+    selection: Selection,
+    columns: Columns,
+) -> Result<Counted, RunFault<SinkFault>>
+    requires few_files { run.now.files ≤ MAX_FILES }
+    requires some { 0 < run.now.lanes }
+    requires few { run.now.lanes ≤ LANES }
+    ensures counted { IfOk result (λ c. IsAllCounted selection columns run.now.choice (O.meaning run.now.opener.now) run.now.files
+        c.flaws.items c.counts) }
+    ensures failed { IfErr result IsOfLanes }
+{
+    count_known::<Brand, _, _, _>(run, selection, columns)
+}
+
+/// Counts the chosen graphs of the files of a run. The type `J` represents what the files mean.
+fn count_known<J: KnownFiles + Send + Sync, R: Threads + Wait + Sync, O: Opener, G: Gate>(
+    run: &Run<'_, R, O, G>,
+    selection: Selection,
+    columns: Columns,
+) -> Result<Counted, RunFault<SinkFault>>
+    requires few_files { run.now.files ≤ MAX_FILES }
+    requires some { 0 < run.now.lanes }
+    requires few { run.now.lanes ≤ LANES }
+    requires same_meaning { J.meaning ≡ O.meaning run.now.opener.now }
+    ensures counted { IfOk result (λ c. IsAllCounted selection columns run.now.choice (O.meaning run.now.opener.now) run.now.files
+        c.flaws.items c.counts) }
+    ensures failed { IfErr result IsOfLanes }
+{
+    let flaws = no_flaws(run.alloc, run.files)?;
+    let counts = Counts::new(run.alloc, columns);
+    let counted = Counted {
+        selection,
+        counts,
+        flaws,
+    };
+    let lanes = fact_lanes::<J>();
+    let mut ran = Ok(());
+    let counted = gather_into(run, &lanes, counted, &mut ran);
+    match ran {
+        Ok(()) => Ok(counted),
+        Err(fault) => Err(fault),
+    }
+}
+
+impl<J: KnownFiles + Send + Sync> Consumer<FoundFacts<J>, KnownEnd<J>> for Counted {
+    type Refusal = SinkFault;
+
+    ghost holds = { λ c ns. CountsHold c.selection c.counts c.flaws.items ns };
+
+    ghost stays = { λ a b. (b.selection ≡ a.selection) × (b.counts.columns ≡ a.counts.columns) × (length b.flaws.items ≡ length a.flaws.items) };
+
+    ghost gave_up = { λ _ fault. IsOfLanes fault };
+
+    ghost passed_on = { λ _. ⊤ };
+
+    fn item(&mut self, item: FoundFacts<J>) -> Result<(), RunFault<SinkFault>> {
+        if (item.file as usize) >= self.flaws.len() {
+            return Err(RunFault::LaneLost);
+        }
+        add_flaw(&mut self.flaws, item.file, item.ordinal, &item.facts)?;
+        let selection = self.selection;
+        count_chosen(&mut self.counts, &selection, &item.facts)
+    }
+
+    fn end(
+        &mut self,
+        file: u32,
+        mark: Mark,
+        _known: KnownEnd<J>,
+    ) -> Result<(), RunFault<SinkFault>> {
+        if (file as usize) >= self.flaws.len() {
+            return Err(RunFault::LaneLost);
+        }
+        set_mark(&mut self.flaws, file, mark);
+        Ok(())
+    }
+
+    fn is_flushed(&self) -> bool {
+        true
+    }
+
+    fn flush(&mut self) -> Result<(), RunFault<SinkFault>> {
+        Ok(())
+    }
+
+    ghost holds_on = { λ c ns held. counted_stop _ _ _ _ held };
+
+    ghost stays_itself = { λ c. (refl, refl, refl) };
+
+    ghost stays_on = { λ a b c p q. (q.0 ∙ p.0, q.1 ∙ p.1, q.2 ∙ p.2) };
+}
+
+/// Counts a graph with these facts, if it is chosen.
+///
+/// # Errors
+///
+/// `Memory` if there is no memory for a new combination; `LaneLost` if there are too many graphs to count.
+fn count_chosen(
+    counts: &mut Counts,
+    selection: &Selection,
+    facts: &Option<Facts>,
+) -> Result<(), RunFault<SinkFault>>
+    ensures columns { counts.new.columns ≡ counts.old.columns }
+    ensures table { OnOk result ((graphs : List Facts) → IsTable graphs counts.old
+        → IsTable (graphs ++ filter (chooses selection.now) (option_to_list facts.now)) counts.new) }
+    ensures failed { IfErr result IsOfLanes }
+{
+    let Some(facts) = facts else {
+        return Ok(());
+    };
+    if !selection.chooses(facts) {
+        return Ok(());
+    }
+    if counts.total() == u64::MAX {
+        return Err(RunFault::LaneLost);
+    }
+    match counts.add(facts) {
+        Ok(()) => Ok(()),
+        Err(_) => Err(RunFault::Memory),
+    }
+}

@@ -1,0 +1,4 @@
+pub mod SucceedsOrFails
+pub mod Waits
+pub mod Prefixes
+pub mod Joining

@@ -1,0 +1,3 @@
+pub mod Concatenated
+pub mod Waits
+pub mod Writing

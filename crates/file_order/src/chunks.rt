@@ -1,0 +1,112 @@
+//! Text that grows without being moved, in chunks.
+ghost use Rattle.std.specs.Prelude.{◌≡◌, ◌++◌, [], false, OnOk, OnErr};
+ghost use Rattle.file_order.specs.Concatenated.{concatenated};
+ghost use Rattle.file_order.specs.Writing.{GoesOn, IsPartlyAdded, TellsFailure};
+
+use crate::writing::put;
+use lanes::RunFault;
+use std::alloc::{AllocError, Global};
+use std::marker::Model;
+use std::mem;
+use streams::{Sink, SinkFault, TextBuffer};
+
+/// The minimum capacity of a chunk, in bytes.
+const CHUNK: usize = 16_384;
+
+/// A buffer of text in chunks, which are never moved and mostly have one size.
+///
+/// It holds exactly as much memory as `size` says, and memory that one piece of text frees fits another.
+#[derive(Drop)]
+pub struct Chunks {
+    /// The chunks before the last.
+    full: Vec<Vec<u8>>,
+    /// The last chunk.
+    last: Vec<u8>,
+    /// The total capacity of all chunks, in bytes.
+    size: usize,
+}
+
+impl Model for Chunks {
+    ghost use Rattle.std.specs.Prelude.{◌++◌, ℕ, List};
+    ghost use Rattle.file_order.specs.Concatenated.{concatenated};
+
+    ghost Value = { List ℕ };
+
+    ghost view = { λ p. concatenated p.full.items ++ p.last.items };
+}
+
+impl Chunks {
+    /// An empty text. It allocates nothing.
+    pub(crate) fn new(alloc: Global) -> Chunks
+        ensures { result ≡ [] }
+    {
+        Chunks {
+            full: Vec::new(alloc),
+            last: Vec::new(alloc),
+            size: 0,
+        }
+    }
+
+    /// The memory that the text holds, in bytes.
+    pub fn size(&self) -> usize {
+        self.size
+    }
+
+    /// Appends `text`, undivided, and returns how many bytes of memory that took.
+    ///
+    /// # Errors
+    ///
+    /// `AllocError` if there is no memory for it. Then nothing changes.
+    pub(crate) fn push(&mut self, alloc: Global, text: &[u8]) -> Result<usize, AllocError>
+        ensures added { OnOk result (self.new ≡ self.old ++ text.now) }
+        ensures stays { OnErr result (self.new ≡ self.old) }
+    {
+        if self.last.len() + text.len() <= self.last.capacity() {
+            self.last.extend_from_slice(text)?;
+            return Ok(0);
+        }
+        let room = text.len().max(CHUNK);
+        let mut chunk = Vec::with_capacity(alloc, room)?;
+        chunk.extend_from_slice(text)?;
+        self.full.reserve(1)?;
+        self.full.push_reserved(mem::replace(&mut self.last, chunk));
+        self.size = self.size.saturating_add(room);
+        Ok(room)
+    }
+
+    /// Writes the text to the sink through the buffer.
+    ///
+    /// # Errors
+    ///
+    /// `Refused` exactly if the sink has then failed. There is no other error.
+    pub fn put<S: Sink>(
+        &self,
+        buffer: &mut TextBuffer,
+        sink: &mut S,
+    ) -> Result<(), RunFault<SinkFault>>
+        requires { S.failed sink.old ≡ false }
+        ensures put { OnOk result (GoesOn (S.taken sink.old) buffer.old (S.taken sink.new) buffer.new self.now) }
+        ensures partial { OnErr result (IsPartlyAdded (S.taken sink.old) buffer.old (S.taken sink.new) self.now) }
+        ensures stands { TellsFailure (S.failed sink.new) result }
+    {
+        put_each(self.full.as_slice(), buffer, sink)?;
+        put(buffer, sink, self.last.as_slice())
+    }
+}
+
+/// Writes the text of these chunks to the buffer and the sink.
+fn put_each<S: Sink>(
+    chunks: &[Vec<u8>],
+    buffer: &mut TextBuffer,
+    sink: &mut S,
+) -> Result<(), RunFault<SinkFault>>
+    requires { S.failed sink.old ≡ false }
+    ensures put { OnOk result (GoesOn (S.taken sink.old) buffer.old (S.taken sink.new) buffer.new (concatenated chunks.now)) }
+    ensures partial { OnErr result (IsPartlyAdded (S.taken sink.old) buffer.old (S.taken sink.new) (concatenated chunks.now)) }
+    ensures stands { TellsFailure (S.failed sink.new) result }
+{
+    for chunk in chunks {
+        put(buffer, sink, chunk.as_slice())?;
+    }
+    Ok(())
+}

@@ -1,2 +1,0 @@
-pub mod Points
-pub mod Frames
