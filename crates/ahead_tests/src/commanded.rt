@@ -2,13 +2,13 @@
 ghost use Rattle.std.specs.Prelude.{false, None};
 ghost use Rattle.lanes.specs.Opening.{Silent};
 
+use collector::{IoSink, Tap, TapFault};
 use commands::{Console, KeepsReason, NamedFiles, Reason, Refused, command};
 use std::alloc::Global;
 use std::sync::Wait;
 use std::sync::atomic::{AtomicBool, AtomicU32, Ordering};
 use std::test::Fail;
 use std::thread::Threads;
-use streams::{IoSink, Tap, TapFault};
 use test_tools::records::{EDGE, HEADER};
 use test_tools::{same, wait_for_count};
 

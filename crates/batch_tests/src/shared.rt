@@ -3,11 +3,10 @@
 ghost use Rattle.std.specs.Prelude.{◌<◌};
 
 use collector::{
-    Answer, Batch, Book, Choice, DrawingKind, Form, Gate, IoSink, Mark, MemOpener, Style,
+    Answer, Batch, Book, Choice, DrawingKind, Ending, Form, Gate, IoSink, Mark, MemOpener, Style,
     WriteFault, run_batch, run_plain, write_report,
 };
 use commands::write_batch;
-use planar_code::Ending;
 use std::alloc::{AllocError, Global};
 use std::process::Abort;
 use std::sync::Wait;

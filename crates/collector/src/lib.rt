@@ -36,6 +36,7 @@ pub use line::Line;
 pub use picking::{PickTexts, pick_files};
 pub use picks::Picks;
 pub use plain::run_plain;
+pub use planar_code::Ending;
 pub use print_lines::{PrintLines, line_lanes};
 pub use printed::{Printed, found_line};
 pub use reports::{Batch, Book, Form, MAX_FILES, ReportLine, Style, write_json, write_report};

@@ -16,6 +16,7 @@ mod version;
 pub use command_line::{
     Console, ErrorConsole, Fault, Meter, Progress, SharedTerminal, write_fault,
 };
+pub use lanes::{Gate, Stage};
 pub use named_sources::{
     FileOpener, KeepsReason, NamedFiles, OutputSink, Reason, Refused, SystemFiles, if_open,
     is_input, place_holder,

@@ -3,12 +3,11 @@ ghost use Rattle.std.specs.Prelude.{◌<◌};
 
 use crate::files::read_file;
 use anyhow::{Result, ensure};
-use collector::run_frames;
+use collector::{Frames, Mark, MemTap, run_frames};
 use planar_code::{Ending, Record};
 use std::rt::Files;
 use std::sync::Wait;
 use std::thread::Threads;
-use streams::{Frames, Mark, MemTap};
 use test_tools::split;
 
 /// How many bytes a read gives at most.

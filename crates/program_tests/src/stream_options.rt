@@ -6,8 +6,7 @@ use crate::layouts::{EDGELESS, UNREAD};
 use crate::shared::{
     Input, NoConsole, Row, check_rows, check_said, expect_report, make_file, run_on,
 };
-use commands::{Console, Meter, Progress, is_input};
-use lanes::{Gate, Stage};
+use commands::{Console, Gate, Meter, Progress, Stage, is_input};
 use std::process::Abort;
 use std::rt::Files;
 use std::sync::Wait;

@@ -4,7 +4,7 @@ ghost use Rattle.lanes.specs.Opening.{Silent};
 ghost use Rattle.lanes.specs.Notes.{Item};
 
 use crate::reported::EDGES;
-use common::Choice;
+use collector::Choice;
 use lanes::{MemOpener, OpenFault, Opener, RecordSink, read_file};
 use planar_code::{Ending, Record};
 use std::alloc::{AllocError, Global};

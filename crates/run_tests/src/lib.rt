@@ -1,11 +1,7 @@
-//! Tests of runs and of their parts: files that are opened and kept, records that are answered, ends that are lost, stages
-//! that are held up, and runs and reports whose sources, openers and writers fail.
+//! Tests of runs and of their parts: files that are opened and kept, ends that are lost, stages that are held up, and runs
+//! and reports whose sources, openers and writers fail.
 #![tactic(auto)]
 
-#[cfg(test)]
-mod answers_kinds;
-#[cfg(test)]
-mod answers_records;
 #[cfg(test)]
 mod collector_ahead;
 #[cfg(test)]

@@ -1,7 +1,6 @@
 //! Runs that pick and count: their bytes and tables, over any number of lanes. The bytes come from the description of the
 //! format.
 ghost use Rattle.std.specs.Prelude.{false};
-ghost use Rattle.reports.specs.declared.limits.TheConstants.{MAX_FILES};
 ghost use Rattle.ruled_lanes.specs.declared.limits.TheConstants.{LANES};
 ghost use Rattle.std.specs.Prelude.{◌<◌, ◌≤◌};
 

@@ -1,7 +1,7 @@
 -- The bytes of a record are one record, as its type guarantees.
 use Rattle.std.proofs.Common.{sym, subst, ◌<◌, length}
 use Rattle.planar_code.proofs.Lists.{lists_of-record, spelt-record, each-record}
-use Rattle.run_tests.proofs.answers_records.staged.Goals as goal
+use Rattle.answer_tests.proofs.answers_records.staged.Goals as goal
 
 pub invariant_of-framed : goal.invariant_of-framed
 invariant_of-framed c =
