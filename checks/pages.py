@@ -1,11 +1,11 @@
 #!/usr/bin/env python3
-"""Checks of the pages for checks/ready: no page is too long; the numbers of crates, proofs, edits, attacks and tests
-that pages quote are those of the tree; and each name in backticks exists in the tree as a file, a crate, an option, or
-a word of the code, the definitions or the scripts. In docs/PROVED.md, a name must occur in the crates of its section,
-and each clause in a table must be in the contract of a call in the same row. Code blocks are not checked. The man pages
-docs/planarbend.1 and docs/planarbend-draw.1 have the arguments and options of --help in the same words, their version is
-the program's, and `man --warnings` finds no fault in them. The program's texts are those of checks/start/texts, which
-checks/first-answer compares with the program's. Run directly, this script puts these texts into the man pages.
+"""Checks of the pages for checks/ready: no page is too long; and each name in backticks exists in the tree as a file, a
+crate, an option, or a word of the code, the definitions or the scripts. In docs/PROVED.md, a name must occur in the crates of
+its section, and each clause in a table must be in the contract of a call in the same row. Code blocks are not checked. The
+man pages docs/planarbend.1 and docs/planarbend-draw.1 have the arguments and options of --help in the same words, their
+version is the program's, and that of CHANGELOG.md, and `man --warnings` finds no fault in them. The program's texts are those
+of checks/start/texts, which checks/first-answer compares with the program's. Run directly, this script puts these texts into
+the man pages.
 """
 import collections
 import difflib
@@ -26,7 +26,6 @@ MOST = {"README.md": 1_000, "CONTRIBUTING.md": 900, "CHANGELOG.md": 600, "docs/C
         "all pages": 13_000}  # words
 WRITTEN = {"bench/RESULTS.md", "docs/COUNTS.md"}  # by scripts, and so not counted
 NO_TREE = {"bench/RESULTS.md"}  # quotes what ran
-NUMBER = re.compile(r"([\d,]*\d) (crates|proofs|edits|attacks|tests)\b")
 # Words of other programs, of formats, and of the system.
 OUTSIDE = set("""rt ci check fmt tidy lemma test doc version must-fail verdict Ok Err printf png svg planarg geng -p -c
     -D4 plantri parallel slurm-wlm munge nauty chromium futex clap MOD RES kill cred_expire slurm.conf sshlogin workdir
@@ -56,7 +55,7 @@ def too_long():
 
 
 class Tree:
-    """The names in the repository, and the numbers that pages quote."""
+    """The names in the repository."""
 
     def __init__(self, crates):
         self.crates = [crate.name for crate in crates]
@@ -82,14 +81,6 @@ class Tree:
         return {crate, *self.split("\n".join(
             line.partition(comment)[0] for part, comment in (("src", "//"), ("specs", "--")) for file in self.files
             if file.startswith(f"crates/{crate}/{part}/") for line in text_of(file).splitlines()))}
-
-    def counts(self):
-        tests = [sum(text_of(file).count("#[test]") for file in self.files if file.startswith(f"crates/{crate}/src/"))
-                 for crate in self.crates]
-        edits = [file.split("/") for file in self.files if file.endswith(".edit")]
-        return {"crates": len(tests), "tests": sum(tests), "proofs": len(tests) + sum(map(bool, tests)),
-                "edits": sum(parts[0] == "crates" and parts[2] == "must-fail" for parts in edits),
-                "attacks": sum(parts[:2] == ["checks", "edits"] and parts[2] != "tested" for parts in edits)}
 
     def has_path(self, name):
         """Whether the path of some file or folder of the tree ends like this."""
@@ -206,12 +197,10 @@ def faults_of_man(page):
 def faults(crates):
     """The faults of the pages, one line each."""
     tree, found = Tree(crates), pages(PAGES)
-    counts, lines = tree.counts(), too_long()
-    for page, text in found.items():
-        if page not in NO_TREE:
-            lines += lost_names(tree, page, text)
-            lines += [f"{page}: {number} {what}, and there are {counts[what]:,}" for number, what in NUMBER.findall(text)
-                      if int(number.replace(",", "")) != counts[what]]
+    lines = too_long() + [line for page, text in found.items() if page not in NO_TREE for line in lost_names(tree, page, text)]
+    newest = re.search(r"^(?:To become |## \[)(\d[\d.]*\d)", text_of("CHANGELOG.md"), re.M)[1]
+    if newest != (version := text_of(f"{TEXTS}/version").split()[1]):
+        lines.append(f"CHANGELOG.md: the newest version is {newest}, and that of the program {version}")
     return lines + lost_clauses(tree, found["docs/PROVED.md"]) + [line for page in MEN for line in faults_of_man(page)]
 
 

@@ -1,7 +1,5 @@
 """Arguments of the command line, and the command `check`."""
 import os
-import re
-import shutil
 import signal
 import subprocess
 import time
@@ -27,7 +25,7 @@ def check_words(machine: Machine) -> None:
         ran = machine.ran(["--help"])
         assert ran.status == 0 and not ran.err and ran.out, ran
     with machine.case("--version", "names the version and the toolchain"):
-        assert (ran := machine.ran(["--version"])) == Ran(0, version_text(), ""), ran
+        assert (ran := machine.ran(["--version"])) == Ran(0, read(f"{ROOT}/checks/start/texts/version"), ""), ran
 
 
 def refused(path: str) -> list[tuple[str, list[Any], str | None]]:
@@ -44,17 +42,6 @@ def refused(path: str) -> list[tuple[str, list[Any], str | None]]:
           for option, most in (("--lanes", 8), ("--waiting", 65536))
           for words in [*([option, number] for number in ("0", "-1", "x", "", "1.5", "65537")),
                         *([f"{option}={number}"] for number in ("0", "-1", "x", "4294967297"))]]]
-
-
-def version_text() -> bytes:
-    """The newest version in CHANGELOG.md, and the output of `rt version` without the letter after the kit's number,
-    since kits with the same number and logic prove the same; if there is no `rt`, the text of checks/start."""
-    if not shutil.which("rt"):
-        return read(f"{ROOT}/checks/start/texts/version")
-    number = re.search(r"^(?:To become |## \[)(\d+(?:\.\d+)+)", read(f"{ROOT}/CHANGELOG.md").decode(), re.MULTILINE)
-    toolchain = subprocess.run(["rt", "version"], stdout=subprocess.PIPE, text=True, check=True).stdout.strip()
-    kit = re.sub(r"^(rattle-kit-\d+)[a-z]*", r"\1", toolchain)
-    return f"planarbend {number[1] if number else ''}\ntoolchain {kit}\n".encode()
 
 
 # ---- The command `check`: two files, of which one may be standard input, with the verdicts of docs/CHECK.md, found by

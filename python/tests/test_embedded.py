@@ -70,7 +70,13 @@ class Embedded(unittest.TestCase):
         star = bytes([6, 2, 3, 4, 5, 6, 0, 1, 0, 1, 0, 1, 0, 1, 0, 1, 0])
         self.refused("graph 1: refused degree: vertex 1 has 5 neighbours", "-", "-o", "-", data=b">>planar_code<<" + star)
         self.refused("truncated", "-", "-o", "-", data=b">>planar_code<<" + star[:-1])
-        self.refused("no graph", "-", "-o", "-", data=b">>planar_code<<")
+
+    def test_a_file_without_graphs(self) -> None:
+        header = b">>planar_code<<"
+        for words in (["-"], ["-", "--graphs", "2,3"], ["/tmp/x.html"]):
+            self.refused(r"\Aplanarbend-draw: -: no graphs\n\Z", "-", "-o", *words, data=header)
+        self.refused(r": -: the file contains no vertices\n\Z", "-", "-o", "-", data=b"graph { }\n")
+        self.refused(r": -: the file has no graph\n\Z", "-", "-o", "-", "--format", "dot")
 
     def test_a_page_of_a_cut_file(self) -> None:
         with tempfile.TemporaryDirectory() as folder:

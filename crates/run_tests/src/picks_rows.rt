@@ -2,18 +2,20 @@
 
 use embedding::Rule;
 use graph_facts::{Conditions, Facts, Range, RangeFault, RuleCondition, Selection};
-use std::process::Abort;
 use test_tools::same;
+
+/// No condition.
+const NONE: Conditions = Conditions {
+    vertices: None,
+    edges: None,
+    faces: None,
+    bends: None,
+    rule: None,
+};
 
 /// No condition: all graphs.
 pub(crate) const ALL: Selection = Selection {
-    conditions: Conditions {
-        vertices: None,
-        edges: None,
-        faces: None,
-        bends: None,
-        rule: None,
-    },
+    conditions: NONE,
     others: false,
 };
 
@@ -26,7 +28,7 @@ pub(crate) fn selection_of(bends: Option<u32>, rule: Option<RuleCondition>) -> S
                 to: Some(number),
             }),
             rule,
-            ..ALL.conditions
+            ..NONE
         },
         others: false,
     }
@@ -53,10 +55,13 @@ const FIVE: Facts = Facts {
 /// Each text of a range, with its first and its last number.
 #[test]
 fn ranges_have_their_texts(rt: HostRuntime) {
-    let rows: [(&str, u32, Option<u32>); 7] = [
+    let rows: [(&str, u32, Option<u32>); 10] = [
         ("0", 0, Some(0)),
         ("17", 17, Some(17)),
+        ("+5", 5, Some(5)),
+        ("007", 7, Some(7)),
         ("2:5", 2, Some(5)),
+        ("1:+2", 1, Some(2)),
         ("5:5", 5, Some(5)),
         ("3:", 3, None),
         (":4", 0, Some(4)),
@@ -68,6 +73,7 @@ fn ranges_have_their_texts(rt: HostRuntime) {
     let bad = [
         "",
         ":",
+        "+",
         "a",
         "1:b",
         "-1",
@@ -75,6 +81,7 @@ fn ranges_have_their_texts(rt: HostRuntime) {
         "4294967296",
         ":4294967296",
         "1 ",
+        " 5",
         " 1:2",
     ];
     for text in bad {
@@ -100,10 +107,7 @@ fn ranges_choose(rt: HostRuntime) {
     for (from, to, triangle, five) in rows {
         let bends = Some(Range { from, to });
         let chosen = Selection {
-            conditions: Conditions {
-                bends,
-                ..ALL.conditions
-            },
+            conditions: Conditions { bends, ..NONE },
             others: false,
         };
         let others = Selection {
@@ -117,84 +121,112 @@ fn ranges_choose(rt: HostRuntime) {
     }
 }
 
-/// Checks whether these graphs are chosen.
-fn check_chosen<R: Abort>(rt: &R, conditions: Conditions, triangle: bool, five: bool) {
-    let chosen = Selection {
-        conditions,
-        others: false,
-    };
-    same!(rt, chosen.chooses(&TRIANGLE), triangle);
-    same!(rt, chosen.chooses(&FIVE), five);
+/// Conditions, and whether they choose the triangle and the graph with a vertex of degree 5.
+#[derive(Clone, Copy)]
+struct Choice {
+    conditions: Conditions,
+    triangle: bool,
+    five: bool,
 }
 
 /// Conditions on vertices, edges, faces and the broken rule, and all at once.
+const CHOICES: [Choice; 9] = [
+    Choice {
+        conditions: NONE,
+        triangle: true,
+        five: true,
+    },
+    Choice {
+        conditions: Conditions {
+            vertices: Some(Range {
+                from: 4,
+                to: Some(6),
+            }),
+            ..NONE
+        },
+        triangle: false,
+        five: true,
+    },
+    Choice {
+        conditions: Conditions {
+            edges: Some(Range {
+                from: 3,
+                to: Some(5),
+            }),
+            ..NONE
+        },
+        triangle: true,
+        five: true,
+    },
+    Choice {
+        conditions: Conditions {
+            edges: Some(Range {
+                from: 0,
+                to: Some(4),
+            }),
+            ..NONE
+        },
+        triangle: true,
+        five: false,
+    },
+    Choice {
+        conditions: Conditions {
+            faces: Some(Range {
+                from: 0,
+                to: Some(9),
+            }),
+            ..NONE
+        },
+        triangle: true,
+        five: false,
+    },
+    Choice {
+        conditions: Conditions {
+            rule: Some(RuleCondition::BreaksFirst(Rule::Degree)),
+            ..NONE
+        },
+        triangle: false,
+        five: true,
+    },
+    Choice {
+        conditions: Conditions {
+            rule: Some(RuleCondition::BreaksFirst(Rule::Genus)),
+            ..NONE
+        },
+        triangle: false,
+        five: false,
+    },
+    Choice {
+        conditions: Conditions {
+            rule: Some(RuleCondition::BreaksNone),
+            ..NONE
+        },
+        triangle: true,
+        five: false,
+    },
+    Choice {
+        conditions: Conditions {
+            vertices: Some(Range {
+                from: 6,
+                to: Some(6),
+            }),
+            rule: Some(RuleCondition::BreaksNone),
+            ..NONE
+        },
+        triangle: false,
+        five: false,
+    },
+];
+
+/// The graphs that meet all conditions are chosen, and no others.
 #[test]
 fn conditions_choose(rt: HostRuntime) {
-    let range = |from: u32, to: u32| { Some(Range { from, to: Some(to) }) };
-    let none = ALL.conditions;
-    check_chosen(&rt, none, true, true);
-    check_chosen(
-        &rt,
-        Conditions {
-            vertices: range(4, 6),
-            ..none
-        },
-        false,
-        true,
-    );
-    check_chosen(
-        &rt,
-        Conditions {
-            edges: range(3, 5),
-            ..none
-        },
-        true,
-        true,
-    );
-    check_chosen(
-        &rt,
-        Conditions {
-            edges: range(0, 4),
-            ..none
-        },
-        true,
-        false,
-    );
-    check_chosen(
-        &rt,
-        Conditions {
-            faces: range(0, 9),
-            ..none
-        },
-        true,
-        false,
-    );
-    let degree = Some(RuleCondition::BreaksFirst(Rule::Degree));
-    check_chosen(
-        &rt,
-        Conditions {
-            rule: degree,
-            ..none
-        },
-        false,
-        true,
-    );
-    let genus = Some(RuleCondition::BreaksFirst(Rule::Genus));
-    check_chosen(
-        &rt,
-        Conditions {
-            rule: genus,
-            ..none
-        },
-        false,
-        false,
-    );
-    let kept = Some(RuleCondition::BreaksNone);
-    check_chosen(&rt, Conditions { rule: kept, ..none }, true, false);
-    let both = Conditions {
-        vertices: range(6, 6),
-        rule: kept,
-        ..none
-    };
-    check_chosen(&rt, both, false, false);
+    for choice in CHOICES {
+        let chosen = Selection {
+            conditions: choice.conditions,
+            others: false,
+        };
+        same!(&rt, chosen.chooses(&TRIANGLE), choice.triangle);
+        same!(&rt, chosen.chooses(&FIVE), choice.five);
+    }
 }

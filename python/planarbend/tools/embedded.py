@@ -17,9 +17,9 @@ COLUMNS = 4  # of a grid
 
 def chosen(data: bytes, numbers: list[int] | None, name: str) -> tuple[dict[int, Record], str]:
     """Return the graphs with these numbers, counted from 1, and how the file ends; all graphs, if `numbers` is None. Raise a
-    `DrawError` if the file has no graph with a number, or too many for a page."""
+    `DrawError` if the file has no graphs, none with a number, or too many for a page."""
     found: dict[int, Record] = {}
-    ending, wanted = "complete", None if numbers is None else set(numbers)
+    number, ending, wanted = 0, "complete", None if numbers is None else set(numbers)
     try:
         for number, record in enumerate(records(io.BytesIO(data)), 1):
             if wanted is None or number in wanted:
@@ -33,8 +33,8 @@ def chosen(data: bytes, numbers: list[int] | None, name: str) -> tuple[dict[int,
             raise DrawError(f"{name}: {fault}") from None
         ending = fault.ending
     missing = [str(number) for number in numbers or [] if number not in found]
-    if missing or not found:
-        raise DrawError(f"{name}: no graph {', '.join(missing[:5])}" if missing else f"{name}: no graph")
+    if missing or not number:
+        raise DrawError(f"{name}: no graph {', '.join(missing[:5])}" if number else f"{name}: no graphs")
     return found, ending
 
 
