@@ -31,6 +31,6 @@ pub mod Weights
 pub mod Jumps
 pub mod Angles
 pub mod Corners
-pub mod Parts
+pub mod FrameParts
 pub mod NoCut
 pub mod NoCutOfParts

@@ -18,7 +18,7 @@ use Rattle.run_laws.proofs.Weights.{IsEven, even_none, even_rest, even_same, eve
 use Rattle.run_laws.proofs.Jumps.{HasBoth, made_up, falls, rises, how_often, equally_often}
 use Rattle.run_laws.proofs.Angles.{HaveRoom, lacks, is_free, angle_of, at_vertex, angles_model, even_one, vertex_less}
 use Rattle.run_laws.proofs.Corners.{even_inside}
-use Rattle.run_laws.proofs.Parts.{are_rims, have_both, free_alike, free_parts, have_room}
+use Rattle.run_laws.proofs.FrameParts.{are_rims, have_both, free_alike, free_parts, have_room}
 use Rattle.run_laws.proofs.NoCut.{in_range, zeros}
 
 -- given turns are 0
