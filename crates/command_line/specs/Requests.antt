@@ -20,6 +20,7 @@ use Rattle.command_line.specs.declared.reading.Setting.TheVariants.{Lanes, Waiti
 use Rattle.command_line.specs.declared.reading.Keyword.{Keyword}
 use Rattle.command_line.specs.declared.reading.Keyword.TheVariants as keyword
 use Rattle.command_line.specs.declared.request.Request.{Request}
+use Rattle.command_line.specs.declared.request.RunRequest.{RunRequest}
 use Rattle.command_line.specs.declared.request.Request.TheVariants.{Frames, Layout, Check, Pick, Count}
 use Rattle.picks.specs.declared.range.Range.{Range}
 use Rattle.picks.specs.declared.selecting.RuleCondition.{RuleCondition}
@@ -315,22 +316,22 @@ IsWaitingIn words n = IsNumberOf 64 (setting_text_in Waiting words) n
 abbrev pub IsWaiting : ℕ → Type 0
 IsWaiting waiting = (1 ≤ waiting) × (waiting ≤ 65536)
 
--- the arguments ask for a run over these files, of which at most one is standard input, under this choice, over this many
--- lanes. Here and below, arguments that are not valid, and those that ask for help, ask for nothing
-pub record AsksRun (words : List (String Global)) (names : Vec (Bor (List ℕ)) Global) (choice : Choice) (lanes : ℕ) : Type 0 where
+-- the arguments ask for this run: over its files, of which at most one is standard input, under its choice, over its
+-- number of lanes. Here and below, arguments that are not valid, and those that ask for help, ask for nothing
+pub record AsksRun (words : List (String Global)) (run : RunRequest) : Type 0 where
   pub no_help : asks_in keyword.Help words ≡ false
-  pub files : map (λ name. name.now) names.items ≡ files_in words
-  pub some : 0 < vec_len names
+  pub files : map (λ name. name.now) run.names.items ≡ files_in words
+  pub some : 0 < vec_len run.names
   pub once : inputs_in words ≤ 1
-  pub best : (choice ≡ Choice.Best) ↔ (asks_in keyword.BestOuter words ≡ true)
-  pub lanes_in : AreLanesIn words lanes
+  pub best : (run.choice ≡ Choice.Best) ↔ (asks_in keyword.BestOuter words ≡ true)
+  pub lanes_in : AreLanesIn words run.lanes
 
 -- the arguments ask for a layout in this style, in a run with this limit on buffered text in megabytes. A kind of drawing
 -- is named for JSON lines alone
-pub record AsksLayout (words : List (String Global)) (names : Vec (Bor (List ℕ)) Global) (choice : Choice) (style : Style) (lanes waiting : ℕ) : Type 0 where
+pub record AsksLayout (words : List (String Global)) (run : RunRequest) (style : Style) (waiting : ℕ) : Type 0 where
   pub command : asks_in keyword.Layout words ≡ true
   pub valid : AreValid keyword.Layout words
-  pub run : AsksRun words names choice lanes
+  pub asks_run : AsksRun words run
   pub json : (style.form ≡ Form.Json) ↔ (asks_in keyword.Json words ≡ true)
   pub drawing : style.drawing_kind ≡ drawing_in words
   pub waiting_in : IsWaitingIn words waiting
@@ -364,19 +365,19 @@ pub record IsSelectedBy (words : List (String Global)) (selection : Selection) :
   pub others : selection.others ≡ asks_in keyword.Others words
 
 -- the arguments ask for the records of these graphs, in a run with this limit on buffered bytes in megabytes
-pub record AsksPick (words : List (String Global)) (names : Vec (Bor (List ℕ)) Global) (choice : Choice) (selection : Selection) (lanes waiting : ℕ) : Type 0 where
+pub record AsksPick (words : List (String Global)) (run : RunRequest) (selection : Selection) (waiting : ℕ) : Type 0 where
   pub command : asks_in keyword.Pick words ≡ true
   pub valid : AreValid keyword.Pick words
-  pub run : AsksRun words names choice lanes
+  pub asks_run : AsksRun words run
   pub selected : IsSelectedBy words selection
   pub waiting_in : IsWaitingIn words waiting
   pub in_range : IsWaiting waiting
 
 -- the arguments ask for the numbers of these graphs in a table with these columns
-pub record AsksCount (words : List (String Global)) (names : Vec (Bor (List ℕ)) Global) (choice : Choice) (selection : Selection) (columns : Columns) (lanes : ℕ) : Type 0 where
+pub record AsksCount (words : List (String Global)) (run : RunRequest) (selection : Selection) (columns : Columns) : Type 0 where
   pub command : asks_in keyword.Count words ≡ true
   pub valid : AreValid keyword.Count words
-  pub run : AsksRun words names choice lanes
+  pub asks_run : AsksRun words run
   pub selected : IsSelectedBy words selection
   pub columns_in : columns_of (setting_text_in By words) ≡ Some columns
 
@@ -409,10 +410,10 @@ HasWaiting (Count asked) = ⊤
 -- the request is what the arguments ask for
 abbrev pub IsAskedBy : List (String Global) → Request → Type 0
 IsAskedBy words (Frames name) = AsksFrames words name.now
-IsAskedBy words (Layout asked) = AsksLayout words asked.names asked.choice asked.style asked.lanes asked.waiting
+IsAskedBy words (Layout asked) = AsksLayout words asked.run asked.style asked.waiting
 IsAskedBy words (Check asked) = AsksCheck words asked.graphs.now asked.lines.now asked.form asked.faces
-IsAskedBy words (Pick asked) = AsksPick words asked.names asked.choice asked.selection asked.lanes asked.waiting
-IsAskedBy words (Count asked) = AsksCount words asked.names asked.choice asked.selection asked.columns asked.lanes
+IsAskedBy words (Pick asked) = AsksPick words asked.run asked.selection asked.waiting
+IsAskedBy words (Count asked) = AsksCount words asked.run asked.selection asked.columns
 
 -- the arguments ask for nothing
 abbrev pub AsksNothing : List (String Global) → Type 0

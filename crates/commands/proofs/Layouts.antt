@@ -1,5 +1,5 @@
 -- A layout of the files that a request names, whole or begun.
-use Rattle.std.proofs.Common.{◌≡◌, ◌≢◌, ◌<◌, ◌⊎◌, ℕ, Bool, true, false, List, Option, Result, Ok, Err, OnErr, IfOk, IfErr, Bor, refl, ap, inl, inr, subst, sym, ◌∙◌}
+use Rattle.std.proofs.Common.{◌≡◌, ◌≢◌, ◌<◌, ◌≤◌, ◌⊎◌, ℕ, Bool, true, false, List, Option, Result, Ok, Err, OnErr, IfOk, IfErr, refl, ap, inl, inr}
 use Rattle.streams.specs.declared.faults.BatchFault.TheVariants.{TooManyFiles, BadLanes}
 use Rattle.ruled_lanes.specs.declared.limits.TheConstants.{LANES}
 use Rattle.reports.specs.declared.limits.TheConstants.{MAX_FILES}
@@ -8,31 +8,10 @@ use Rattle.command_line.specs.Refusals.{IsMisuse}
 use Rattle.common.specs.declared.choice.Choice.{Choice}
 use Rattle.lanes.specs.Opening.{Meaning}
 use Rattle.streams.specs.declared.form.Form.{Form}
-use Rattle.commands.specs.TextRuns.{IsBegun, IsStreamed}
-use Rattle.commands.specs.Statuses.{IsTextOfBooks, IsBegunTextOfBooks}
+use Rattle.commands.specs.TextRuns.{IsStreamed}
+use Rattle.commands.specs.Statuses.{IsTextOfBooks, IsTooMuch}
 use Rattle.commands.proofs.FaultStatus.{refusable_run}
-
-module _ (meaning : List (Bor (List ℕ)) → ℕ → Meaning) (choice : Choice) (form : Form) (names listed : List (Bor (List ℕ))) (files count : ℕ) (old new : Option (List ℕ))
-    (same : listed ≡ names) (many : files ≡ count) where
-  pub begun_to_lay_out : ∥ IsBegun choice (meaning listed) form files old new ∥₁ → IsBegunTextOfBooks choice form (meaning names) count old new
-  begun_to_lay_out begun =
-      subst (λ n. IsBegunTextOfBooks choice form (meaning names) n old new) many (subst (λ xs. IsBegunTextOfBooks choice form (meaning xs) files old new) same begun)
-
-  pub laid_out : (failed : Bool) (status : ℕ) → IsTextOfBooks choice form (meaning listed) files old new failed status → IsTextOfBooks choice form (meaning names) count old new failed status
-  laid_out failed status is =
-      subst (λ n. IsTextOfBooks choice form (meaning names) n old new failed status) many (subst (λ xs. IsTextOfBooks choice form (meaning xs) files old new failed status) same is)
-
-  pub laid_out_if : (failed : Bool) (answer : Result ℕ Fault) → IfOk answer (IsTextOfBooks choice form (meaning listed) files old new failed)
-      → IfOk answer (IsTextOfBooks choice form (meaning names) count old new failed)
-  laid_out_if failed answer is =
-      subst (λ n. IfOk answer (IsTextOfBooks choice form (meaning names) n old new failed)) many
-      (subst (λ xs. IfOk answer (IsTextOfBooks choice form (meaning xs) files old new failed)) same is)
-
-  pub begun_if : (answer : Result ℕ Fault) → OnErr answer ∥ IsBegun choice (meaning listed) form files old new ∥₁
-      → OnErr answer (IsBegunTextOfBooks choice form (meaning names) count old new)
-  begun_if answer is =
-      subst (λ n. OnErr answer (IsBegunTextOfBooks choice form (meaning names) n old new)) many
-      (subst (λ xs. OnErr answer (IsBegunTextOfBooks choice form (meaning xs) files old new)) same is)
+use Rattle.commands.proofs.Named.{not_much}
 
 not_true : (b : Bool) → (b ≡ true → ⊥) → b ≡ false
 not_true true never = absurd (never refl)
@@ -57,6 +36,9 @@ module _ {S : Type 0} (choice : Choice) (meaning : ℕ → Meaning) (form : Form
   told_whole (Err fault) is = tt
 
   pub refusable_if : (answer : Result ℕ Fault) → IsStreamed choice meaning form files lanes taken fails old new answer
-      → IfErr answer (λ fault. IsMisuse fault → (MAX_FILES < files) ⊎ ((lanes ≡ 0) ⊎ (LANES < lanes)))
+      → IfErr answer (λ fault. IsMisuse fault → IsTooMuch files lanes)
   refusable_if (Ok status) is = tt
   refusable_if (Err fault) is = λ misuse. refusable_run fault is.only (λ same. is.too_many.1 (ap Err same)) (λ same. (is.bad_lanes.1 (ap Err same)).0) misuse
+
+  pub streamed_well : (fault : Fault) → IsStreamed choice meaning form files lanes taken fails old new (Err fault) → files ≤ MAX_FILES → 0 < lanes → lanes ≤ LANES → IsMisuse fault → ⊥
+  streamed_well fault is few some most misuse = not_much files lanes few some most (refusable_if (Err fault) is misuse)
