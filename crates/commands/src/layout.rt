@@ -8,7 +8,7 @@ ghost use Rattle.named_sources.specs.Naming.{meanings_in};
 ghost use Rattle.commands.specs.Statuses.{IsTextOfBooks, IsBegunTextOfBooks, IsTooMuch};
 
 use crate::runs::{NamedRun, bytes_of};
-use crate::text::TextRun;
+use crate::text::write_text;
 use command_line::{Console, Fault, LayoutRequest};
 use named_sources::NamedFiles;
 use std::sync::Wait;
@@ -58,12 +58,7 @@ pub(crate) fn layout<
     let named = NamedRun::new(rt, &asked.run, files, console)?;
     let opener = named.opener();
     let run = named.over(&opener);
-    let text_run = TextRun {
-        run,
-        style: asked.style,
-        waiting: bytes_of(asked.waiting),
-    };
-    let outcome = text_run.write(out);
+    let outcome = write_text(&run, asked.style, bytes_of(asked.waiting), out);
     named.meter.finish();
     let status = outcome?;
     named.notes.write(rt.alloc(), named.names, err);
