@@ -244,6 +244,7 @@ pub record IsOutcome {S : Type 0} (files : List ℕ → Meaning) (words : List (
   pub failed_write : failed new ≡ true → status ≡ 1
   pub refused : status ≡ 2 → new ≡ old
   pub refusable : status ≡ 2 → (request : Request) → IsAskedBy words request → IsRefusable terminal request
+  pub too_much : (request : Request) → IsAskedBy words request → IsRefusable terminal request → (new ≡ old) × ((status ≡ 1) ⊎ (status ≡ 2))
   pub for_terminal : terminal ≡ true → asks_in Keyword.Pick words ≡ true → asks_in Keyword.Help words ≡ false
       → (new ≡ old) × ((status ≡ 1) ⊎ (status ≡ 2))
   pub version : asks_in Keyword.Version words ≡ true → IsPrinted version_text (taken old) (taken new) (failed new) status

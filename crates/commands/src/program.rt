@@ -51,6 +51,10 @@ pub fn command<
     ensures refused { result ≡ 2 → out.new ≡ out.old }
     ensures refusable { result ≡ 2 → (request : Request) → IsAskedBy words.now request → IsRefusable (C.has_terminal console.now) request }
 
+    // Each such request is refused, unless memory for the arguments ran out.
+    ensures too_much { (request : Request) → IsAskedBy words.now request → IsRefusable (C.has_terminal console.now) request
+        → (out.new ≡ out.old) × ((result ≡ 1) ⊎ (result ≡ 2)) }
+
     // No records are written to a terminal.
     ensures for_terminal { C.has_terminal console.now ≡ true → asks_in Keyword.Pick words.now ≡ true
         → asks_in Keyword.Help words.now ≡ false → (out.new ≡ out.old) × ((result ≡ 1) ⊎ (result ≡ 2)) }
@@ -115,6 +119,7 @@ fn perform<
     ensures failed_write { S.failed out.new ≡ true → result ≡ 1 }
     ensures refused { result ≡ 2 → out.new ≡ out.old }
     ensures refusable { result ≡ 2 → IsRefusable (C.has_terminal console.now) request.entry }
+    ensures too_much { IsRefusable (C.has_terminal console.now) request.entry → result ≡ 2 }
     ensures for_terminal { C.has_terminal console.now ≡ true → IsOfRecords request.entry
         → (out.new ≡ out.old) × (result ≡ 2) }
     ensures done { (result ≡ 0) ⊎ (result ≡ 3)
