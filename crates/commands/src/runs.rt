@@ -37,16 +37,13 @@ pub(crate) fn run_size(files: usize, lanes: u32) -> Result<u32, Fault>
     ensures bad_lanes { (((lanes ≡ 0) ⊎ (LANES < lanes)) × (files ≤ MAX_FILES)) ↔ (result ≡ Err (Fault.Run BatchFault.BadLanes)) }
     ensures refused { IfErr result (λ _. IsTooMuch files lanes) }
 {
-    let Ok(count) = u32::try_from(files) else {
-        return Err(Fault::Run(BatchFault::TooManyFiles));
-    };
-    if count > MAX_FILES {
+    if files > MAX_FILES as usize {
         return Err(Fault::Run(BatchFault::TooManyFiles));
     }
     if lanes == 0 || lanes > LANES {
         return Err(Fault::Run(BatchFault::BadLanes));
     }
-    Ok(count)
+    Ok(files as u32)
 }
 
 /// A run over the files that a request names, with its meter and the notes on its files.
