@@ -183,15 +183,12 @@ is_drawing word = bytes_eq word (codes "short") || bytes_eq word (codes "quick")
 abbrev pub is_of_with : List ℕ → (List ℕ → Bool) → List ℕ → Bool
 is_of_with name passes word = bytes_eq word name || option_map_or passes (given_after (name ++ codes "=") word) false
 
--- the argument is an option of `layout`
-abbrev pub is_layout_option : List ℕ → Bool
-is_layout_option word =
-    if bytes_eq word (codes "--json") then true
-    else if bytes_eq word (codes "--progress") then true
+-- the argument is an option of each of `layout`, `pick` and `count`
+abbrev pub is_run_option : List ℕ → Bool
+is_run_option word =
+    if bytes_eq word (codes "--progress") then true
     else if is_of (codes "--lanes") word then true
-    else if is_of (codes "--waiting") word then true
-    else if is_of_with (codes "--outer") is_outer word then true
-    else is_of_with (codes "--drawing") is_drawing word
+    else is_of_with (codes "--outer") is_outer word
 
 -- the argument is an option that sets a condition on graphs, or asks for the other graphs
 abbrev pub is_condition : List ℕ → Bool
@@ -203,30 +200,22 @@ is_condition word =
     else if is_of (codes "--bends") word then true
     else is_of (codes "--rule") word
 
--- the argument is an option of `pick`
-abbrev pub is_pick_option : List ℕ → Bool
-is_pick_option word =
-    if bytes_eq word (codes "--progress") then true
-    else if is_of (codes "--lanes") word then true
-    else if is_of (codes "--waiting") word then true
-    else if is_of_with (codes "--outer") is_outer word then true
-    else is_condition word
-
--- the argument is an option of `count`
-abbrev pub is_count_option : List ℕ → Bool
-is_count_option word =
-    if bytes_eq word (codes "--progress") then true
-    else if is_of (codes "--lanes") word then true
-    else if is_of (codes "--by") word then true
-    else if is_of_with (codes "--outer") is_outer word then true
-    else is_condition word
-
 -- the argument is an option of this command
 abbrev pub is_option_of : Keyword → List ℕ → Bool
-is_option_of keyword.Layout word = is_layout_option word
+is_option_of keyword.Layout word =
+    if is_run_option word then true
+    else if bytes_eq word (codes "--json") then true
+    else if is_of (codes "--waiting") word then true
+    else is_of_with (codes "--drawing") is_drawing word
 is_option_of keyword.Check word = bytes_eq word (codes "--json") || bytes_eq word (codes "--faces")
-is_option_of keyword.Pick word = is_pick_option word
-is_option_of keyword.Count word = is_count_option word
+is_option_of keyword.Pick word =
+    if is_run_option word then true
+    else if is_of (codes "--waiting") word then true
+    else is_condition word
+is_option_of keyword.Count word =
+    if is_run_option word then true
+    else if is_of (codes "--by") word then true
+    else is_condition word
 is_option_of _ word = false
 
 -- an argument of this command may stand in this role: it is no option, or one of this command, and a value is one that

@@ -3,7 +3,7 @@ ghost use Rattle.std.specs.Prelude.{◌≡◌, ◌<◌, ◌≤◌, ◌↔◌, If
 ghost use Rattle.std.specs.List.{count_by};
 ghost use Rattle.named_sources.specs.Naming as naming;
 ghost use Rattle.command_line.specs.Requests.{group_of, role_after, setting_of, asks, asks_in, files_in, given_after, has_prefix, is_file, is_help, prefix_of, setting_text, setting_text_in};
-ghost use Rattle.command_line.specs.Requests.{AreValid, fit_from, fits, is_condition, is_count_option, is_drawing, is_layout_option, is_of, is_of_with, is_option, is_option_of, is_outer, is_pick_option, is_use, may_end, uses_in};
+ghost use Rattle.command_line.specs.Requests.{AreValid, fit_from, fits, is_condition, is_drawing, is_of, is_of_with, is_option, is_option_of, is_outer, is_run_option, is_use, may_end, uses_in};
 ghost use Rattle.command_line.specs.declared.reading.Role.{Role};
 
 use named_sources::is_input;
@@ -237,36 +237,22 @@ fn is_option_of(command: Keyword, word: &str) -> bool
     ensures { result ≡ is_option_of command word.now }
 {
     match command {
-        Keyword::Layout => is_layout_option(word),
+        Keyword::Layout => is_run_option(word)
+            || word == "--json"
+            || is_of("--waiting", word)
+            || is_drawing_option(word),
         Keyword::Check => word == "--json" || word == "--faces",
-        Keyword::Pick => is_pick_option(word),
-        Keyword::Count => is_count_option(word),
+        Keyword::Pick => is_run_option(word) || is_of("--waiting", word) || is_condition(word),
+        Keyword::Count => is_run_option(word) || is_of("--by", word) || is_condition(word),
         _ => false,
     }
 }
 
-/// Whether an argument is an option of `pick`.
-fn is_pick_option(word: &str) -> bool
-    ensures { result ≡ is_pick_option word.now }
+/// Whether an argument is an option of each of `layout`, `pick` and `count`.
+fn is_run_option(word: &str) -> bool
+    ensures { result ≡ is_run_option word.now }
 {
-    match word {
-        _ if word == "--progress" => true,
-        _ if is_of("--lanes", word) => true,
-        _ if is_of("--waiting", word) => true,
-        _ => is_outer_option(word) || is_condition(word),
-    }
-}
-
-/// Whether an argument is an option of `count`.
-fn is_count_option(word: &str) -> bool
-    ensures { result ≡ is_count_option word.now }
-{
-    match word {
-        _ if word == "--progress" => true,
-        _ if is_of("--lanes", word) => true,
-        _ if is_of("--by", word) => true,
-        _ => is_outer_option(word) || is_condition(word),
-    }
+    word == "--progress" || is_of("--lanes", word) || is_outer_option(word)
 }
 
 /// Whether an argument is an option that sets a condition, or asks for the other graphs.
@@ -280,19 +266,6 @@ fn is_condition(word: &str) -> bool
         _ if is_of("--faces", word) => true,
         _ if is_of("--bends", word) => true,
         _ => is_of("--rule", word),
-    }
-}
-
-/// Whether an argument is an option of `layout`.
-fn is_layout_option(word: &str) -> bool
-    ensures { result ≡ is_layout_option word.now }
-{
-    match word {
-        _ if word == "--json" => true,
-        _ if word == "--progress" => true,
-        _ if is_of("--lanes", word) => true,
-        _ if is_of("--waiting", word) => true,
-        _ => is_outer_option(word) || is_drawing_option(word),
     }
 }
 
