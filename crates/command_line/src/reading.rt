@@ -1,5 +1,5 @@
 //! The meaning of the arguments of a command line, one after another.
-ghost use Rattle.std.specs.Prelude.{◌≡◌, ◌<◌, ◌≤◌, ◌↔◌, IfOk, codes, map, option_map, true};
+ghost use Rattle.std.specs.Prelude.{◌≡◌, ◌<◌, ◌↔◌, IfOk, codes, map, option_map, true};
 ghost use Rattle.std.specs.List.{count_by};
 ghost use Rattle.named_sources.specs.Naming as naming;
 ghost use Rattle.command_line.specs.Requests.{group_of, role_after, setting_of, asks, asks_in, files_in, given_after, has_prefix, is_file, is_help, prefix_of, setting_text, setting_text_in};

@@ -1,5 +1,5 @@
 -- The faults of runs that pick and count.
-use Rattle.std.proofs.Common.{◌≡◌, ◌↔◌, ℕ, Bool, true, false, List, Option, Result, Err, IfErr, ap, subst, sym}
+use Rattle.std.proofs.Common.{◌≡◌, ◌↔◌, ℕ, Bool, List, Option, Result, Err, IfErr, subst, sym}
 use Rattle.streams.specs.declared.faults.WriteFault.{WriteFault}
 use Rattle.streams.specs.declared.faults.WriteFault.TheVariants.{Memory, Write}
 use Rattle.streams.specs.declared.output.SinkFault.{SinkFault}
