@@ -14,11 +14,10 @@ use Rattle.command_line.specs.declared.reading.Keyword.{Keyword}
 use Rattle.command_line.specs.declared.reading.Keyword.TheVariants as keyword
 use Rattle.command_line.specs.declared.request.Request.{Request}
 use Rattle.command_line.specs.declared.request.Request.TheVariants as request
+use Rattle.command_line.specs.declared.request.RunRequest.{RunRequest}
 use Rattle.command_line.specs.declared.request.LayoutRequest.{LayoutRequest}
 use Rattle.command_line.specs.declared.request.PickRequest.{PickRequest}
 use Rattle.command_line.specs.declared.request.CountRequest.{CountRequest}
-use Rattle.common.specs.declared.choice.Choice.{Choice}
-use Rattle.std.specs.Prelude.{Vec}
 use Rattle.command_line.specs.Requests.{role_after, setting_of, value_role, asks, asks_from, asks_in, files_in, inputs_in, IsNumberOf, number_or_0, AreValid, IsAskedBy, AsksRun, AsksLayout, AsksPick, AsksCount, AsksNothing}
 
 -- ---- the first argument is the command
@@ -161,10 +160,10 @@ same_number otherwise (Some text) n m is also = is.2 ∙ parsed_once text is.0 a
 
 pub no_help_asked : (words : List (String Global)) (request : Request) → IsAskedBy words request → asks_in keyword.Help words ≡ false
 no_help_asked words (request.Frames asks) asked = asked.no_help
-no_help_asked words (request.Layout asks) asked = asked.run.no_help
+no_help_asked words (request.Layout asks) asked = asked.asks_run.no_help
 no_help_asked words (request.Check asks) asked = asked.no_help
-no_help_asked words (request.Pick asks) asked = asked.run.no_help
-no_help_asked words (request.Count asks) asked = asked.run.no_help
+no_help_asked words (request.Pick asks) asked = asked.asks_run.no_help
+no_help_asked words (request.Count asks) asked = asked.asks_run.no_help
 
 pub nothing_with_help : (words : List (String Global)) → asks_in keyword.Help words ≡ true → AsksNothing words
 nothing_with_help words help request asked = true≢false (sym help ∙ no_help_asked words request asked)
@@ -186,7 +185,7 @@ nothing_for_check words is none (request.Pick asks) asked = one_beginning words 
 nothing_for_check words is none (request.Count asks) asked = one_beginning words (codes "check") (codes "count") refl (check_begins words is) (count_begins words asked.command)
 
 pub nothing_for_layout : (words : List (String Global)) → asks_in keyword.Layout words ≡ true
-    → ((layout : LayoutRequest) → AsksLayout words layout.names layout.choice layout.style layout.lanes layout.waiting → ⊥) → AsksNothing words
+    → ((layout : LayoutRequest) → AsksLayout words layout.run layout.style layout.waiting → ⊥) → AsksNothing words
 nothing_for_layout words is none (request.Frames asks) asked = one_beginning words (codes "layout") (codes "frames") refl (layout_begins words is) (frames_begins words asked.command)
 nothing_for_layout words is none (request.Layout asks) asked = none asks asked
 nothing_for_layout words is none (request.Check asks) asked = one_beginning words (codes "layout") (codes "check") refl (layout_begins words is) (check_begins words asked.command)
@@ -194,7 +193,7 @@ nothing_for_layout words is none (request.Pick asks) asked = one_beginning words
 nothing_for_layout words is none (request.Count asks) asked = one_beginning words (codes "layout") (codes "count") refl (layout_begins words is) (count_begins words asked.command)
 
 pub nothing_for_pick : (words : List (String Global)) → asks_in keyword.Pick words ≡ true
-    → ((pick : PickRequest) → AsksPick words pick.names pick.choice pick.selection pick.lanes pick.waiting → ⊥) → AsksNothing words
+    → ((pick : PickRequest) → AsksPick words pick.run pick.selection pick.waiting → ⊥) → AsksNothing words
 nothing_for_pick words is none (request.Frames asks) asked = one_beginning words (codes "pick") (codes "frames") refl (pick_begins words is) (frames_begins words asked.command)
 nothing_for_pick words is none (request.Layout asks) asked = one_beginning words (codes "pick") (codes "layout") refl (pick_begins words is) (layout_begins words asked.command)
 nothing_for_pick words is none (request.Check asks) asked = one_beginning words (codes "pick") (codes "check") refl (pick_begins words is) (check_begins words asked.command)
@@ -202,7 +201,7 @@ nothing_for_pick words is none (request.Pick asks) asked = none asks asked
 nothing_for_pick words is none (request.Count asks) asked = one_beginning words (codes "pick") (codes "count") refl (pick_begins words is) (count_begins words asked.command)
 
 pub nothing_for_count : (words : List (String Global)) → asks_in keyword.Count words ≡ true
-    → ((count : CountRequest) → AsksCount words count.names count.choice count.selection count.columns count.lanes → ⊥) → AsksNothing words
+    → ((count : CountRequest) → AsksCount words count.run count.selection count.columns → ⊥) → AsksNothing words
 nothing_for_count words is none (request.Frames asks) asked = one_beginning words (codes "count") (codes "frames") refl (count_begins words is) (frames_begins words asked.command)
 nothing_for_count words is none (request.Layout asks) asked = one_beginning words (codes "count") (codes "layout") refl (count_begins words is) (layout_begins words asked.command)
 nothing_for_count words is none (request.Check asks) asked = one_beginning words (codes "count") (codes "check") refl (count_begins words is) (check_begins words asked.command)
@@ -222,10 +221,10 @@ nothing_without_command words frames layout check pick count (request.Count asks
 count_same : (xs : List (Bor (List ℕ))) (texts : List (List ℕ)) → map (λ name. name.now) xs ≡ texts → length xs ≡ length texts
 count_same xs texts same = sym (length-map xs (λ name. name.now)) ∙ ap length same
 
-pub files_of_run : (words : List (String Global)) (names : Vec (Bor (List ℕ)) Global) (choice : Choice) (lanes : ℕ) (files : List (Bor (List ℕ)))
-    → map (λ file. file.now) files ≡ files_in words → AsksRun words names choice lanes → (0 < length files) × (count_by is_input (map (λ file. file.now) files) ≤ 1)
-files_of_run words names choice lanes files same asked = (
-  subst (λ n. 0 < n) (names.ok.0 ∙ count_same names.items (files_in words) asked.files ∙ sym (count_same files (files_in words) same)) asked.some,
+pub files_of_run : (words : List (String Global)) (run : RunRequest) (files : List (Bor (List ℕ)))
+    → map (λ file. file.now) files ≡ files_in words → AsksRun words run → (0 < length files) × (count_by is_input (map (λ file. file.now) files) ≤ 1)
+files_of_run words run files same asked = (
+  subst (λ n. 0 < n) (run.names.ok.0 ∙ count_same run.names.items (files_in words) asked.files ∙ sym (count_same files (files_in words) same)) asked.some,
   subst (λ texts. count_by is_input texts ≤ 1) (sym same) asked.once,
 )
 

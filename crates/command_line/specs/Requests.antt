@@ -1,9 +1,8 @@
 -- The requests that the arguments of a command line make.
-use Rattle.std.specs.Prelude.{◌≡◌, ◌<◌, ◌≤◌, ◌+◌, ◌++◌, ◌↔◌, ◌&&◌, ◌||◌, if◌then◌else◌, ℕ, Bool, true, false, not, nat_eq, List, [], ◌∷◌, map, length, drop, String, Vec, Option, None, Some, Result, Ok, Err, ⊤, codes, bytes_eq, slice_index, string_bytes, vec_len}
+use Rattle.std.specs.Prelude.{◌≡◌, ◌<◌, ◌≤◌, ◌+◌, ◌++◌, ◌↔◌, ◌&&◌, ◌||◌, if◌then◌else◌, ℕ, Bool, true, false, not, nat_eq, List, [], ◌∷◌, map, length, drop, String, Option, None, Some, Result, Ok, Err, ⊤, codes, bytes_eq, slice_index, string_bytes, vec_len}
 use Rattle.std.specs.List.{count_by, starts_with}
 use Rattle.std.specs.Option.{option_map_or}
 use Rattle.std.specs.Str.Parse.{ParsesUnsigned}
-use Rattle.std.specs.Borrow.{Bor}
 use Rattle.std.specs.declared.alloc.Global.{Global}
 use Rattle.common.specs.declared.choice.Choice.{Choice}
 use Rattle.streams.specs.declared.form.Form.{Form}
@@ -20,6 +19,7 @@ use Rattle.command_line.specs.declared.reading.Setting.TheVariants.{Lanes, Waiti
 use Rattle.command_line.specs.declared.reading.Keyword.{Keyword}
 use Rattle.command_line.specs.declared.reading.Keyword.TheVariants as keyword
 use Rattle.command_line.specs.declared.request.Request.{Request}
+use Rattle.command_line.specs.declared.request.RunRequest.{RunRequest}
 use Rattle.command_line.specs.declared.request.Request.TheVariants.{Frames, Layout, Check, Pick, Count}
 use Rattle.graph_facts.specs.declared.range.Range.{Range}
 use Rattle.graph_facts.specs.declared.selecting.RuleCondition.{RuleCondition}
@@ -182,15 +182,12 @@ is_drawing word = bytes_eq word (codes "short") || bytes_eq word (codes "quick")
 abbrev pub is_of_with : List ℕ → (List ℕ → Bool) → List ℕ → Bool
 is_of_with name passes word = bytes_eq word name || option_map_or passes (given_after (name ++ codes "=") word) false
 
--- the argument is an option of `layout`
-abbrev pub is_layout_option : List ℕ → Bool
-is_layout_option word =
-    if bytes_eq word (codes "--json") then true
-    else if bytes_eq word (codes "--progress") then true
+-- the argument is an option of each of `layout`, `pick` and `count`
+abbrev pub is_run_option : List ℕ → Bool
+is_run_option word =
+    if bytes_eq word (codes "--progress") then true
     else if is_of (codes "--lanes") word then true
-    else if is_of (codes "--waiting") word then true
-    else if is_of_with (codes "--outer") is_outer word then true
-    else is_of_with (codes "--drawing") is_drawing word
+    else is_of_with (codes "--outer") is_outer word
 
 -- the argument is an option that sets a condition on graphs, or asks for the other graphs
 abbrev pub is_condition : List ℕ → Bool
@@ -202,30 +199,22 @@ is_condition word =
     else if is_of (codes "--bends") word then true
     else is_of (codes "--rule") word
 
--- the argument is an option of `pick`
-abbrev pub is_pick_option : List ℕ → Bool
-is_pick_option word =
-    if bytes_eq word (codes "--progress") then true
-    else if is_of (codes "--lanes") word then true
-    else if is_of (codes "--waiting") word then true
-    else if is_of_with (codes "--outer") is_outer word then true
-    else is_condition word
-
--- the argument is an option of `count`
-abbrev pub is_count_option : List ℕ → Bool
-is_count_option word =
-    if bytes_eq word (codes "--progress") then true
-    else if is_of (codes "--lanes") word then true
-    else if is_of (codes "--by") word then true
-    else if is_of_with (codes "--outer") is_outer word then true
-    else is_condition word
-
 -- the argument is an option of this command
 abbrev pub is_option_of : Keyword → List ℕ → Bool
-is_option_of keyword.Layout word = is_layout_option word
+is_option_of keyword.Layout word =
+    if is_run_option word then true
+    else if bytes_eq word (codes "--json") then true
+    else if is_of (codes "--waiting") word then true
+    else is_of_with (codes "--drawing") is_drawing word
 is_option_of keyword.Check word = bytes_eq word (codes "--json") || bytes_eq word (codes "--faces")
-is_option_of keyword.Pick word = is_pick_option word
-is_option_of keyword.Count word = is_count_option word
+is_option_of keyword.Pick word =
+    if is_run_option word then true
+    else if is_of (codes "--waiting") word then true
+    else is_condition word
+is_option_of keyword.Count word =
+    if is_run_option word then true
+    else if is_of (codes "--by") word then true
+    else is_condition word
 is_option_of _ word = false
 
 -- an argument of this command may stand in this role: it is no option, or one of this command, and a value is one that
@@ -315,22 +304,22 @@ IsWaitingIn words n = IsNumberOf 64 (setting_text_in Waiting words) n
 abbrev pub IsWaiting : ℕ → Type 0
 IsWaiting waiting = (1 ≤ waiting) × (waiting ≤ 65536)
 
--- the arguments ask for a run over these files, of which at most one is standard input, under this choice, over this many
--- lanes. Here and below, arguments that are not valid, and those that ask for help, ask for nothing
-pub record AsksRun (words : List (String Global)) (names : Vec (Bor (List ℕ)) Global) (choice : Choice) (lanes : ℕ) : Type 0 where
+-- the arguments ask for this run: over its files, of which at most one is standard input, under its choice, over its
+-- number of lanes. Here and below, arguments that are not valid, and those that ask for help, ask for nothing
+pub record AsksRun (words : List (String Global)) (run : RunRequest) : Type 0 where
   pub no_help : asks_in keyword.Help words ≡ false
-  pub files : map (λ name. name.now) names.items ≡ files_in words
-  pub some : 0 < vec_len names
+  pub files : map (λ name. name.now) run.names.items ≡ files_in words
+  pub some : 0 < vec_len run.names
   pub once : inputs_in words ≤ 1
-  pub best : (choice ≡ Choice.Best) ↔ (asks_in keyword.BestOuter words ≡ true)
-  pub lanes_in : AreLanesIn words lanes
+  pub best : (run.choice ≡ Choice.Best) ↔ (asks_in keyword.BestOuter words ≡ true)
+  pub lanes_in : AreLanesIn words run.lanes
 
 -- the arguments ask for a layout in this style, in a run with this limit on buffered text in megabytes. A kind of drawing
 -- is named for JSON lines alone
-pub record AsksLayout (words : List (String Global)) (names : Vec (Bor (List ℕ)) Global) (choice : Choice) (style : Style) (lanes waiting : ℕ) : Type 0 where
+pub record AsksLayout (words : List (String Global)) (run : RunRequest) (style : Style) (waiting : ℕ) : Type 0 where
   pub command : asks_in keyword.Layout words ≡ true
   pub valid : AreValid keyword.Layout words
-  pub run : AsksRun words names choice lanes
+  pub asks_run : AsksRun words run
   pub json : (style.form ≡ Form.Json) ↔ (asks_in keyword.Json words ≡ true)
   pub drawing : style.drawing_kind ≡ drawing_in words
   pub waiting_in : IsWaitingIn words waiting
@@ -364,19 +353,19 @@ pub record IsSelectedBy (words : List (String Global)) (selection : Selection) :
   pub others : selection.others ≡ asks_in keyword.Others words
 
 -- the arguments ask for the records of these graphs, in a run with this limit on buffered bytes in megabytes
-pub record AsksPick (words : List (String Global)) (names : Vec (Bor (List ℕ)) Global) (choice : Choice) (selection : Selection) (lanes waiting : ℕ) : Type 0 where
+pub record AsksPick (words : List (String Global)) (run : RunRequest) (selection : Selection) (waiting : ℕ) : Type 0 where
   pub command : asks_in keyword.Pick words ≡ true
   pub valid : AreValid keyword.Pick words
-  pub run : AsksRun words names choice lanes
+  pub asks_run : AsksRun words run
   pub selected : IsSelectedBy words selection
   pub waiting_in : IsWaitingIn words waiting
   pub in_range : IsWaiting waiting
 
 -- the arguments ask for the numbers of these graphs in a table with these columns
-pub record AsksCount (words : List (String Global)) (names : Vec (Bor (List ℕ)) Global) (choice : Choice) (selection : Selection) (columns : Columns) (lanes : ℕ) : Type 0 where
+pub record AsksCount (words : List (String Global)) (run : RunRequest) (selection : Selection) (columns : Columns) : Type 0 where
   pub command : asks_in keyword.Count words ≡ true
   pub valid : AreValid keyword.Count words
-  pub run : AsksRun words names choice lanes
+  pub asks_run : AsksRun words run
   pub selected : IsSelectedBy words selection
   pub columns_in : columns_of (setting_text_in By words) ≡ Some columns
 
@@ -409,10 +398,10 @@ HasWaiting (Count asked) = ⊤
 -- the request is what the arguments ask for
 abbrev pub IsAskedBy : List (String Global) → Request → Type 0
 IsAskedBy words (Frames name) = AsksFrames words name.now
-IsAskedBy words (Layout asked) = AsksLayout words asked.names asked.choice asked.style asked.lanes asked.waiting
+IsAskedBy words (Layout asked) = AsksLayout words asked.run asked.style asked.waiting
 IsAskedBy words (Check asked) = AsksCheck words asked.graphs.now asked.lines.now asked.form asked.faces
-IsAskedBy words (Pick asked) = AsksPick words asked.names asked.choice asked.selection asked.lanes asked.waiting
-IsAskedBy words (Count asked) = AsksCount words asked.names asked.choice asked.selection asked.columns asked.lanes
+IsAskedBy words (Pick asked) = AsksPick words asked.run asked.selection asked.waiting
+IsAskedBy words (Count asked) = AsksCount words asked.run asked.selection asked.columns
 
 -- the arguments ask for nothing
 abbrev pub AsksNothing : List (String Global) → Type 0

@@ -5,21 +5,17 @@ use std::alloc::{AllocError, Global};
 
 /// The definition of the command line for clap, which tells why arguments are refused.
 pub(crate) fn describe<'a>(alloc: Global) -> Result<Command<'a>, AllocError> {
-    describe_program(alloc)?
-        .subcommand(describe_layout(alloc)?)?
-        .subcommand(describe_frames(alloc)?)?
-        .subcommand(describe_check(alloc)?)?
-        .subcommand(describe_pick(alloc)?)?
-        .subcommand(describe_count(alloc)?)
-}
-
-/// The program's name and the options that stand before a command.
-fn describe_program<'a>(alloc: Global) -> Result<Command<'a>, AllocError> {
+    let waiting = valued(alloc, "waiting", "MB").allow_hyphen_values(true);
     Command::new(alloc, "planarbend")
         .bin_name("planarbend")?
         .no_binary_name(true)
         .subcommand_required(true)
-        .arg(flag(alloc, "version"))
+        .arg(flag(alloc, "version"))?
+        .subcommand(describe_layout(alloc)?)?
+        .subcommand(Command::new(alloc, "frames").arg(file_of(alloc, "FILE"))?)?
+        .subcommand(describe_check(alloc)?)?
+        .subcommand(describe_selection(alloc, "pick", waiting)?)?
+        .subcommand(describe_selection(alloc, "count", valued(alloc, "by", "COLUMNS"))?)
 }
 
 /// The command `layout` with its options.
@@ -52,11 +48,6 @@ fn run_files<'a>(alloc: Global) -> Arg<'a> {
         .action(ArgAction::Append)
 }
 
-/// The command `frames`, with one file.
-fn describe_frames<'a>(alloc: Global) -> Result<Command<'a>, AllocError> {
-    Command::new(alloc, "frames").arg(file_of(alloc, "FILE"))
-}
-
 /// The command `check`, with a file of graphs and one of lines.
 fn describe_check<'a>(alloc: Global) -> Result<Command<'a>, AllocError> {
     Command::new(alloc, "check")
@@ -66,22 +57,12 @@ fn describe_check<'a>(alloc: Global) -> Result<Command<'a>, AllocError> {
         .arg(file_of(alloc, "LINES"))
 }
 
-/// The command `pick` with its options.
-fn describe_pick<'a>(alloc: Global) -> Result<Command<'a>, AllocError> {
-    describe_selection(alloc, "pick")?
-        .arg(valued(alloc, "waiting", "MB").allow_hyphen_values(true))?
-        .arg(run_files(alloc))
-}
-
-/// The command `count` with its options.
-fn describe_count<'a>(alloc: Global) -> Result<Command<'a>, AllocError> {
-    describe_selection(alloc, "count")?
-        .arg(valued(alloc, "by", "COLUMNS"))?
-        .arg(run_files(alloc))
-}
-
-/// The command with this name, which selects graphs, and the options of such commands.
-fn describe_selection<'a>(alloc: Global, name: &'a str) -> Result<Command<'a>, AllocError> {
+/// The command with this name, which selects graphs: the options of such commands, its own, and the files.
+fn describe_selection<'a>(
+    alloc: Global,
+    name: &'a str,
+    own: Arg<'a>,
+) -> Result<Command<'a>, AllocError> {
     Command::new(alloc, name)
         .arg(valued(alloc, "bends", "RANGE"))?
         .arg(valued(alloc, "rule", "WORD").value_parser(RULES))?
@@ -91,7 +72,9 @@ fn describe_selection<'a>(alloc: Global, name: &'a str) -> Result<Command<'a>, A
         .arg(flag(alloc, "not"))?
         .arg(valued(alloc, "outer", "CHOICE").value_parser(OUTER))?
         .arg(valued(alloc, "lanes", "N").allow_hyphen_values(true))?
-        .arg(flag(alloc, "progress").action(ArgAction::Count))
+        .arg(flag(alloc, "progress").action(ArgAction::Count))?
+        .arg(own)?
+        .arg(run_files(alloc))
 }
 
 /// The argument with this name, which is one file.

@@ -192,14 +192,8 @@ pub fn help_text(words: &[String]) -> &'static str
 {
     match words {
         [] => PROGRAM,
-        [word] => help_of(word.as_str()),
-        [word, topic, ..] => {
-            if word.as_str() == "help" {
-                help_of(topic.as_str())
-            } else {
-                help_of(word.as_str())
-            }
-        }
+        [word, topic, ..] if word.as_str() == "help" => help_of(topic.as_str()),
+        [word, ..] => help_of(word.as_str()),
     }
 }
 

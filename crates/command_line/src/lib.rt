@@ -17,6 +17,6 @@ pub use help::help_text;
 pub use progress::{Console, Meter, Progress};
 pub use reading::{Keyword, asks};
 pub use request::{
-    CheckRequest, CountRequest, LayoutRequest, ParseFault, PickRequest, Request, parse,
+    CheckRequest, CountRequest, LayoutRequest, ParseFault, PickRequest, Request, RunRequest, parse,
 };
 pub use terminal::{ErrorConsole, SharedTerminal};

@@ -132,14 +132,12 @@ impl<'c, C: Console> Meter<'c, C> {
             .last_told
             .compare_exchange(last_told, time, Ordering::SeqCst, Ordering::SeqCst);
         if stored_time.is_ok() {
-            self.tell(
-                time,
-                if self.mode == ConsoleMode::Apart {
-                    "\n"
-                } else {
-                    ""
-                },
-            );
+            let end = if self.mode == ConsoleMode::Apart {
+                "\n"
+            } else {
+                ""
+            };
+            self.tell(time, end);
         }
     }
 

@@ -1,9 +1,9 @@
 //! The meaning of the arguments of a command line, one after another.
-ghost use Rattle.std.specs.Prelude.{◌≡◌, ◌<◌, ◌≤◌, ◌↔◌, IfOk, codes, map, option_map, true};
+ghost use Rattle.std.specs.Prelude.{◌≡◌, ◌<◌, ◌↔◌, IfOk, codes, map, option_map, true};
 ghost use Rattle.std.specs.List.{count_by};
 ghost use Rattle.named_sources.specs.Naming as naming;
-ghost use Rattle.command_line.specs.Requests.{group_of, role_after, setting_of, value_role, asks, asks_in, files_in, given_after, has_prefix, is_file, is_help, prefix_of, setting_text, setting_text_in};
-ghost use Rattle.command_line.specs.Requests.{AreValid, fit_from, fits, is_condition, is_count_option, is_drawing, is_layout_option, is_of, is_of_with, is_option, is_option_of, is_outer, is_pick_option, is_use, may_end, uses_in};
+ghost use Rattle.command_line.specs.Requests.{group_of, role_after, setting_of, asks, asks_in, files_in, given_after, has_prefix, is_file, is_help, prefix_of, setting_text, setting_text_in};
+ghost use Rattle.command_line.specs.Requests.{AreValid, fit_from, fits, is_condition, is_drawing, is_of, is_of_with, is_option, is_option_of, is_outer, is_run_option, is_use, may_end, uses_in};
 ghost use Rattle.command_line.specs.declared.reading.Role.{Role};
 
 use named_sources::is_input;
@@ -72,7 +72,10 @@ impl Role {
         match self {
             Role::Command => Role::Any(group_of(word)),
             Role::Any(_) if word == "--" => Role::File,
-            Role::Any(group) => value_role(group, setting_of(group, word)),
+            Role::Any(group) => match setting_of(group, word) {
+                Some(setting) => Role::Value(group, setting),
+                None => Role::Any(group),
+            },
             Role::Value(group, _) => Role::Any(group),
             Role::File => Role::File,
         }
@@ -187,16 +190,6 @@ fn setting_of(group: Group, word: &str) -> Option<Setting>
     }
 }
 
-/// The role of the argument after one that is the name of this option, or of none.
-fn value_role(group: Group, setting: Option<Setting>) -> Role
-    ensures { result ≡ value_role group setting }
-{
-    match setting {
-        Some(setting) => Role::Value(group, setting),
-        None => Role::Any(group),
-    }
-}
-
 /// What an argument begins with that has this option and its value.
 fn prefix_of(setting: Setting) -> &'static str
     ensures { result.now ≡ prefix_of setting }
@@ -244,36 +237,22 @@ fn is_option_of(command: Keyword, word: &str) -> bool
     ensures { result ≡ is_option_of command word.now }
 {
     match command {
-        Keyword::Layout => is_layout_option(word),
+        Keyword::Layout => is_run_option(word)
+            || word == "--json"
+            || is_of("--waiting", word)
+            || is_drawing_option(word),
         Keyword::Check => word == "--json" || word == "--faces",
-        Keyword::Pick => is_pick_option(word),
-        Keyword::Count => is_count_option(word),
+        Keyword::Pick => is_run_option(word) || is_of("--waiting", word) || is_condition(word),
+        Keyword::Count => is_run_option(word) || is_of("--by", word) || is_condition(word),
         _ => false,
     }
 }
 
-/// Whether an argument is an option of `pick`.
-fn is_pick_option(word: &str) -> bool
-    ensures { result ≡ is_pick_option word.now }
+/// Whether an argument is an option of each of `layout`, `pick` and `count`.
+fn is_run_option(word: &str) -> bool
+    ensures { result ≡ is_run_option word.now }
 {
-    match word {
-        _ if word == "--progress" => true,
-        _ if is_of("--lanes", word) => true,
-        _ if is_of("--waiting", word) => true,
-        _ => is_outer_option(word) || is_condition(word),
-    }
-}
-
-/// Whether an argument is an option of `count`.
-fn is_count_option(word: &str) -> bool
-    ensures { result ≡ is_count_option word.now }
-{
-    match word {
-        _ if word == "--progress" => true,
-        _ if is_of("--lanes", word) => true,
-        _ if is_of("--by", word) => true,
-        _ => is_outer_option(word) || is_condition(word),
-    }
+    word == "--progress" || is_of("--lanes", word) || is_outer_option(word)
 }
 
 /// Whether an argument is an option that sets a condition, or asks for the other graphs.
@@ -287,19 +266,6 @@ fn is_condition(word: &str) -> bool
         _ if is_of("--faces", word) => true,
         _ if is_of("--bends", word) => true,
         _ => is_of("--rule", word),
-    }
-}
-
-/// Whether an argument is an option of `layout`.
-fn is_layout_option(word: &str) -> bool
-    ensures { result ≡ is_layout_option word.now }
-{
-    match word {
-        _ if word == "--json" => true,
-        _ if word == "--progress" => true,
-        _ if is_of("--lanes", word) => true,
-        _ if is_of("--waiting", word) => true,
-        _ => is_outer_option(word) || is_drawing_option(word),
     }
 }
 
@@ -337,18 +303,18 @@ pub fn are_valid(command: Keyword, words: &[String]) -> bool
     ensures { (result ≡ true) ↔ AreValid command words.now }
 {
     all_fit(command, words)
-        && is_once("--lanes", words)
-        && is_once("--waiting", words)
-        && is_once("--outer", words)
-        && is_once("--drawing", words)
-        && is_once("--json", words)
-        && is_once("--faces", words)
-        && is_once("--vertices", words)
-        && is_once("--edges", words)
-        && is_once("--bends", words)
-        && is_once("--rule", words)
-        && is_once("--by", words)
-        && is_once("--not", words)
+        && uses("--lanes", words) <= 1
+        && uses("--waiting", words) <= 1
+        && uses("--outer", words) <= 1
+        && uses("--drawing", words) <= 1
+        && uses("--json", words) <= 1
+        && uses("--faces", words) <= 1
+        && uses("--vertices", words) <= 1
+        && uses("--edges", words) <= 1
+        && uses("--bends", words) <= 1
+        && uses("--rule", words) <= 1
+        && uses("--by", words) <= 1
+        && uses("--not", words) <= 1
 }
 
 /// Whether each argument fits this command, and no value is missing after them.
@@ -364,13 +330,6 @@ fn all_fit(command: Keyword, words: &[String]) -> bool
         role = role.role_after(text);
     }
     role.may_end()
-}
-
-/// Whether the option with this name is used at most once.
-fn is_once(name: &str, words: &[String]) -> bool
-    ensures { (result ≡ true) ↔ (uses_in name.now words.now ≤ 1) }
-{
-    uses(name, words) <= 1
 }
 
 /// How often arguments use the option with this name.

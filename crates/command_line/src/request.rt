@@ -1,12 +1,13 @@
 //! Parsing of the command line.
-ghost use Rattle.std.specs.Prelude.{◌≡◌, ◌≢◌, ◌<◌, ◌≤◌, ◌↔◌, ◌∷◌, [], ◌||◌, Err, IfErr, IfOk, IfNone, IfSome, length, map, option_map, true, false};
+ghost use Rattle.std.specs.Prelude.{◌≡◌, ◌≢◌, ◌<◌, ◌≤◌, ◌↔◌, ◌||◌, ℕ, Err, IfErr, IfOk, IfNone, IfSome, length, map, option_map, true, false};
 ghost use Rattle.std.specs.List.{count_by};
 ghost use Rattle.common.specs.declared.choice.Choice.{Choice};
 ghost use Rattle.streams.specs.declared.form.Form.{Form};
 ghost use Rattle.command_line.specs.declared.reading.Keyword.{Keyword};
 ghost use Rattle.command_line.specs.declared.request.ParseFault.{ParseFault};
+ghost use Rattle.command_line.specs.declared.request.RunRequest.{RunRequest};
 ghost use Rattle.named_sources.specs.Naming as naming;
-ghost use Rattle.command_line.specs.Requests.{AreLanesIn, AsksNothing, HasWaiting, IsAskedBy, IsNumberOf, IsWaiting, IsWaitingIn, asks_in, drawing_in, files_in};
+ghost use Rattle.command_line.specs.Requests.{AreValid, AsksNothing, AsksRun, HasWaiting, IsAskedBy, IsNumberOf, IsWaiting, IsWaitingIn, asks_in, drawing_in, files_in};
 
 use crate::descriptions::describe;
 use crate::progress::Progress;
@@ -36,21 +37,27 @@ pub enum Request<'a> {
     Count(CountRequest<'a>),
 }
 
-/// The options and files of the command `layout`.
+/// The files of a run, and the options that each run has.
 #[derive(Drop)]
-pub struct LayoutRequest<'a> {
+pub struct RunRequest<'a> {
     /// The files, in order.
     pub names: Vec<&'a str>,
     /// The number of lanes that work on them.
     pub lanes: u32,
-    /// The limit on buffered text of later files, in megabytes, from which on their reading pauses.
-    pub waiting: u32,
     /// The rule by which the outer face of each plane is chosen.
     pub choice: Choice,
-    /// The output format, and the kind of its drawings.
-    pub style: Style,
     /// Whether and where progress is shown.
     pub progress: Progress,
+}
+
+/// The options and files of the command `layout`.
+#[derive(Drop)]
+pub struct LayoutRequest<'a> {
+    pub run: RunRequest<'a>,
+    /// The limit on buffered text of later files, in megabytes, from which on their reading pauses.
+    pub waiting: u32,
+    /// The output format, and the kind of its drawings.
+    pub style: Style,
 }
 
 /// The options and files of the command `check`.
@@ -69,35 +76,21 @@ pub struct CheckRequest<'a> {
 /// The options and files of the command `pick`.
 #[derive(Drop)]
 pub struct PickRequest<'a> {
-    /// The files, in order.
-    pub names: Vec<&'a str>,
-    /// The number of lanes that work on them.
-    pub lanes: u32,
+    pub run: RunRequest<'a>,
     /// The limit on buffered records of later files, in megabytes, from which on their reading pauses.
     pub waiting: u32,
-    /// The rule by which the outer face of each plane is chosen.
-    pub choice: Choice,
     /// The graphs that are selected.
     pub selection: Selection,
-    /// Whether and where progress is shown.
-    pub progress: Progress,
 }
 
 /// The options and files of the command `count`.
 #[derive(Drop)]
 pub struct CountRequest<'a> {
-    /// The files, in order.
-    pub names: Vec<&'a str>,
-    /// The number of lanes that work on them.
-    pub lanes: u32,
-    /// The rule by which the outer face of each plane is chosen.
-    pub choice: Choice,
+    pub run: RunRequest<'a>,
     /// The graphs that are selected.
     pub selection: Selection,
     /// The columns of the table.
     pub columns: Columns,
-    /// Whether and where progress is shown.
-    pub progress: Progress,
 }
 
 /// The reason why the arguments make no request.
@@ -177,7 +170,7 @@ fn why(alloc: Global, words: &[String]) -> Result<Option<Error>, Error> {
     if let Some(message) = value_fault(alloc, words)? {
         return Ok(Some(program.error(ErrorKind::ValueValidation, message.as_str())?));
     }
-    if !is_waiting(waiting_of(words)) {
+    if waiting_of(words).is_none() {
         return Ok(None);
     }
     // Clap refuses all other arguments that make no request, except some that ask for help.
@@ -222,9 +215,9 @@ fn frames_of<'a>(words: &[String], files: &[&'a str]) -> Option<Request<'a>>
     if !are_valid(Keyword::Frames, words) {
         return None;
     }
-    match only_file(files) {
-        Some(name) => Some(Request::Frames { name }),
-        None => None,
+    match files {
+        [name] => Some(Request::Frames { name: *name }),
+        _ => None,
     }
 }
 
@@ -242,14 +235,14 @@ fn check_of<'a>(words: &[String], files: &[&'a str]) -> Option<Request<'a>>
     if !has_files(files) {
         return None;
     }
-    match two_files(files) {
-        Some((graphs, lines)) => Some(Request::Check(CheckRequest {
-            graphs,
-            lines,
+    match files {
+        [graphs, lines] => Some(Request::Check(CheckRequest {
+            graphs: *graphs,
+            lines: *lines,
             form: form_of(words),
             faces: asks(Keyword::Faces, words),
         })),
-        None => None,
+        _ => None,
     }
 }
 
@@ -261,29 +254,18 @@ fn layout_of<'a>(words: &[String], files: Vec<&'a str>) -> Option<Request<'a>>
     ensures some { IfSome result (IsAskedBy words.now) }
     ensures none { IfNone result (AsksNothing words.now) }
 {
-    if !are_valid(Keyword::Layout, words) {
-        return None;
-    }
-    if !has_files(files.as_slice()) {
-        return None;
-    }
-    let waiting = waiting_of(words);
-    if !is_waiting(waiting) {
-        return None;
-    }
+    let run = run_of(Keyword::Layout, words, files)?;
+    let waiting = waiting_of(words)?;
     if lacks_json(words) {
         return None;
     }
     Some(Request::Layout(LayoutRequest {
-        names: files,
-        lanes: lanes_of(words),
+        run,
         waiting,
-        choice: choice_of(words),
         style: Style {
             form: form_of(words),
             drawing_kind: drawing_of(words),
         },
-        progress: Progress::of_count(uses("--progress", words)),
     }))
 }
 
@@ -295,24 +277,13 @@ fn pick_of<'a>(words: &[String], files: Vec<&'a str>) -> Option<Request<'a>>
     ensures some { IfSome result (IsAskedBy words.now) }
     ensures none { IfNone result (AsksNothing words.now) }
 {
-    if !are_valid(Keyword::Pick, words) {
-        return None;
-    }
-    if !has_files(files.as_slice()) {
-        return None;
-    }
-    let waiting = waiting_of(words);
-    if !is_waiting(waiting) {
-        return None;
-    }
+    let run = run_of(Keyword::Pick, words, files)?;
+    let waiting = waiting_of(words)?;
     let selection = selection_of(words)?;
     Some(Request::Pick(PickRequest {
-        names: files,
-        lanes: lanes_of(words),
+        run,
         waiting,
-        choice: choice_of(words),
         selection,
-        progress: Progress::of_count(uses("--progress", words)),
     }))
 }
 
@@ -324,22 +295,37 @@ fn count_of<'a>(words: &[String], files: Vec<&'a str>) -> Option<Request<'a>>
     ensures some { IfSome result (IsAskedBy words.now) }
     ensures none { IfNone result (AsksNothing words.now) }
 {
-    if !are_valid(Keyword::Count, words) {
+    let run = run_of(Keyword::Count, words, files)?;
+    let selection = selection_of(words)?;
+    let columns = columns_of(setting_text(Setting::By, words))?;
+    Some(Request::Count(CountRequest {
+        run,
+        selection,
+        columns,
+    }))
+}
+
+/// The run over these files that arguments for this command ask for; `None` if they are not valid, or the files are none
+/// or have standard input twice.
+fn run_of<'a>(command: Keyword, words: &[String], files: Vec<&'a str>) -> Option<RunRequest<'a>>
+    requires no_help { asks_in Keyword.Help words.now ≡ false }
+    requires files { map (λ file. file.now) files.items ≡ files_in words.now }
+    ensures valid { IfSome result (λ _. AreValid command words.now) }
+    ensures asked { IfSome result (AsksRun words.now) }
+    ensures none { IfNone result (AreValid command words.now → (run : RunRequest) → ¬ AsksRun words.now run) }
+{
+    if !are_valid(command, words) {
         return None;
     }
     if !has_files(files.as_slice()) {
         return None;
     }
-    let selection = selection_of(words)?;
-    let columns = columns_of(setting_text(Setting::By, words))?;
-    Some(Request::Count(CountRequest {
+    Some(RunRequest {
         names: files,
-        lanes: lanes_of(words),
+        lanes: number_or(1, setting_text(Setting::Lanes, words)),
         choice: choice_of(words),
-        selection,
-        columns,
         progress: Progress::of_count(uses("--progress", words)),
-    }))
+    })
 }
 
 /// Whether there are files, of which at most one is standard input.
@@ -349,47 +335,17 @@ fn has_files(files: &[&str]) -> bool
     !files.is_empty() && inputs_among(files) <= 1
 }
 
-/// Whether this limit on buffered text is in range.
-fn is_waiting(waiting: u32) -> bool
-    ensures { (result ≡ true) ↔ IsWaiting waiting }
+/// The limit on buffered text that the arguments ask for, in megabytes; `None` if it is not in range.
+fn waiting_of(words: &[String]) -> Option<u32>
+    ensures asked { IfSome result (IsWaitingIn words.now) }
+    ensures in_range { IfSome result IsWaiting }
+    ensures none { IfNone result ((waiting : ℕ) → IsWaitingIn words.now waiting → ¬ IsWaiting waiting) }
 {
-    1 <= waiting && waiting <= GREATEST_WAITING
-}
-
-/// The only one of these files; `None` if their number is not 1.
-fn only_file<'a>(files: &[&'a str]) -> Option<&'a str>
-    ensures one { IfSome result (λ name. map (λ file. file.now) files.now ≡ name.now ∷ []) }
-    ensures none { IfNone result (length files.now ≢ 1) }
-{
-    match files {
-        [name] => Some(*name),
-        _ => None,
+    let waiting = number_or(64, setting_text(Setting::Waiting, words));
+    if 1 <= waiting && waiting <= GREATEST_WAITING {
+        return Some(waiting);
     }
-}
-
-/// The two files, if these are two; otherwise `None`.
-fn two_files<'a>(files: &[&'a str]) -> Option<(&'a str, &'a str)>
-    ensures two { IfSome result (λ both. map (λ file. file.now) files.now ≡ both.0.now ∷ both.1.now ∷ []) }
-    ensures none { IfNone result (length files.now ≢ 2) }
-{
-    match files {
-        [first, second] => Some((*first, *second)),
-        _ => None,
-    }
-}
-
-/// The number of lanes that the arguments ask for; 0 if it is not a number.
-fn lanes_of(words: &[String]) -> u32
-    ensures { AreLanesIn words.now result }
-{
-    number_or(1, setting_text(Setting::Lanes, words))
-}
-
-/// The limit on buffered text that the arguments ask for, in megabytes; 0 if it is not a number.
-fn waiting_of(words: &[String]) -> u32
-    ensures { IsWaitingIn words.now result }
-{
-    number_or(64, setting_text(Setting::Waiting, words))
+    None
 }
 
 /// The number that `text` contains, 0 if it is not a number; `otherwise` if there is no text.
@@ -402,13 +358,6 @@ fn number_or(otherwise: u32, text: Option<&str>) -> u32
     }
 }
 
-/// Whether the arguments name a kind of drawing.
-fn names_drawing(words: &[String]) -> bool
-    ensures { result ≡ (asks_in Keyword.ShortDrawing words.now || asks_in Keyword.QuickDrawing words.now) }
-{
-    asks(Keyword::ShortDrawing, words) || asks(Keyword::QuickDrawing, words)
-}
-
 /// Whether the arguments name a kind of drawing, and do not ask for JSON Lines.
 fn lacks_json(words: &[String]) -> bool
     ensures lacks { result ≡ true
@@ -416,7 +365,8 @@ fn lacks_json(words: &[String]) -> bool
     ensures has { result ≡ false
         → (asks_in Keyword.ShortDrawing words.now || asks_in Keyword.QuickDrawing words.now) ≡ true → asks_in Keyword.Json words.now ≡ true }
 {
-    names_drawing(words) && !asks(Keyword::Json, words)
+    let names_drawing = asks(Keyword::ShortDrawing, words) || asks(Keyword::QuickDrawing, words);
+    names_drawing && !asks(Keyword::Json, words)
 }
 
 /// The choice of the outer face that the arguments ask for.
@@ -445,11 +395,8 @@ fn form_of(words: &[String]) -> Form
 fn drawing_of(words: &[String]) -> DrawingKind
     ensures { result ≡ drawing_in words.now }
 {
-    if asks(Keyword::ShortDrawing, words) {
-        DrawingKind::Short
-    } else if asks(Keyword::QuickDrawing, words) {
-        DrawingKind::Quick
-    } else if asks(Keyword::Json, words) {
+    let is_quick = asks(Keyword::QuickDrawing, words) || !asks(Keyword::Json, words);
+    if asks(Keyword::ShortDrawing, words) || !is_quick {
         DrawingKind::Short
     } else {
         DrawingKind::Quick

@@ -15,18 +15,13 @@ pub(crate) fn selection_of(words: &[String]) -> Option<Selection>
     ensures some { IfSome result (IsSelectedBy words.now) }
     ensures none { IfNone result ((selection : Selection) → ¬ IsSelectedBy words.now selection) }
 {
-    let vertices = range_of(setting_text(Setting::Vertices, words))?;
-    let edges = range_of(setting_text(Setting::Edges, words))?;
-    let faces = range_of(setting_text(Setting::Faces, words))?;
-    let bends = range_of(setting_text(Setting::Bends, words))?;
-    let rule = rule_of(setting_text(Setting::Rule, words))?;
     Some(Selection {
         conditions: Conditions {
-            vertices,
-            edges,
-            faces,
-            bends,
-            rule,
+            vertices: range_of(setting_text(Setting::Vertices, words))?,
+            edges: range_of(setting_text(Setting::Edges, words))?,
+            faces: range_of(setting_text(Setting::Faces, words))?,
+            bends: range_of(setting_text(Setting::Bends, words))?,
+            rule: rule_of(setting_text(Setting::Rule, words))?,
         },
         others: asks(Keyword::Others, words),
     })
@@ -53,10 +48,7 @@ fn rule_of(text: Option<&str>) -> Option<Option<RuleCondition>>
 {
     match text {
         None => Some(None),
-        Some(text) => match RuleCondition::parse(text) {
-            Some(rule) => Some(Some(rule)),
-            None => None,
-        },
+        Some(text) => Some(Some(RuleCondition::parse(text)?)),
     }
 }
 

@@ -1,7 +1,7 @@
 -- The status of what was refused or failed.
-use Rattle.std.proofs.Common.{rules, ◌≡◌, ◌<◌, ◌⊎◌, ◌↔◌, ℕ, Bool, true, false, List, Option, Result, Err, IfErr, arith, inl, inr, refl, ap, subst, sym, ◌∙◌, true≢false}
+use Rattle.std.proofs.Common.{rules, ◌≡◌, ◌<◌, ◌≤◌, ◌⊎◌, ◌↔◌, ℕ, Bool, ltb, Decides, ⊎_elim, true, false, List, Option, Result, Err, IfOk, IfErr, OnErr, arith, inl, inr, refl, ap, subst, sym, ◌∙◌, true≢false}
+use Rattle.std.proofs.lemmas.Bool.Decides.{Decides-ltb}
 use Rattle.streams.specs.declared.faults.BatchFault.TheVariants.{TooManyFiles, BadLanes}
-use Rattle.streams.specs.declared.faults.BatchFault.TheVariants as batch
 use Rattle.streams.specs.declared.faults.WriteFault.{WriteFault}
 use Rattle.streams.specs.declared.faults.WriteFault.TheVariants as write
 use Rattle.streams.specs.declared.output.SinkFault.{SinkFault}
@@ -13,11 +13,13 @@ use Rattle.lanes.specs.Opening.{Meaning}
 use Rattle.streams.specs.declared.form.Form.{Form}
 use Rattle.ruled_lanes.specs.declared.limits.TheConstants.{LANES}
 use Rattle.reports.specs.declared.limits.TheConstants.{MAX_FILES}
-use Rattle.collector.specs.Whole.{IsBegun}
+use Rattle.collector.specs.Whole.{IsAllWritten, IsBegun}
+use Rattle.collector.proofs.Ordering.{begun_none}
 use Rattle.file_order.specs.Writing.{GivesUp}
 use Rattle.command_line.specs.declared.faults.Fault.{Fault}
 use Rattle.command_line.specs.Faults.{fault_of}
 use Rattle.command_line.specs.Refusals.{IsMisuse}
+use Rattle.commands.specs.Statuses.{IsTooMuch}
 use Rattle.commands.specs.TextRuns.{HasFailedBy, IsOfTextRun, IsStreamed}
 
 err_same : (a b : Fault) (answer : Result ℕ Fault) → answer ≡ Err a → answer ≡ Err b → a ≡ b
@@ -35,18 +37,23 @@ not_two status (inr is) two = omega (arith, is, two)
 pub ends_else : (fault : Fault) (status : ℕ) → (IsMisuse fault → status ≡ 2) → ((IsMisuse fault → ⊥) → status ≡ 1) → (status ≡ 0) ⊎ (status ≡ 3) → ⊥
 ends_else fault status refused failed either = not_one status either (failed (λ refusal. not_two status either (refused refusal)))
 
--- a run that is refused is one of too many files, or of bad lanes
-pub refusable_run : {P Q : Type 0} (fault : Fault) → IsOfTextRun fault → (fault ≡ Fault.Run TooManyFiles → P) → (fault ≡ Fault.Run BadLanes → Q) → IsMisuse fault → P ⊎ Q
-refusable_run (Fault.Run TooManyFiles) of many lanes is = inl (many refl)
-refusable_run (Fault.Run BadLanes) of many lanes is = inr (lanes refl)
-refusable_run (Fault.Run batch.Memory) of many lanes is = absurd is
-refusable_run (Fault.Run batch.LaneLost) of many lanes is = absurd is
-refusable_run (Fault.Run batch.Thread) of many lanes is = absurd is
-refusable_run (Fault.Write fault) of many lanes is = absurd is
-refusable_run Fault.Memory of many lanes is = absurd is
-refusable_run (Fault.NotText argument) of many lanes is = absurd of
-refusable_run Fault.BadWaiting of many lanes is = absurd of
-refusable_run Fault.Terminal of many lanes is = absurd of
+pub few_or_many : (files : ℕ) (more : Bool) → Decides more (MAX_FILES < files) → (files ≤ MAX_FILES) ⊎ (MAX_FILES < files)
+few_or_many files true decides = inr (decides.0 refl)
+few_or_many files false decides = let never : (MAX_FILES < files) → ⊥ = λ more. true≢false (sym (decides.1 more)) in inl (omega (arith, never))
+
+-- a run that is too much is refused for the number of its files, or for its lanes
+refusal : (files lanes : ℕ) (fault : Fault) → IsTooMuch files lanes → (MAX_FILES < files → fault ≡ Fault.Run TooManyFiles)
+    → (((lanes ≡ 0) ⊎ (LANES < lanes)) × (files ≤ MAX_FILES) → fault ≡ Fault.Run BadLanes) → (fault ≡ Fault.Run TooManyFiles) ⊎ (fault ≡ Fault.Run BadLanes)
+refusal files lanes fault (inl more) many bad = inl (many more)
+refusal files lanes fault (inr wrong) many bad = ⊎_elim (λ few. inr (bad (wrong, few))) (λ more. inl (many more)) (few_or_many files (ltb MAX_FILES files) (Decides-ltb MAX_FILES files))
+
+refused_of_run : (fault : Fault) → (fault ≡ Fault.Run TooManyFiles) ⊎ (fault ≡ Fault.Run BadLanes) → IsOfTextRun fault
+refused_of_run fault (inl is) = subst IsOfTextRun (sym is) tt
+refused_of_run fault (inr is) = subst IsOfTextRun (sym is) tt
+
+refused_unwritten : (fault : Fault) → (fault ≡ Fault.Run TooManyFiles) ⊎ (fault ≡ Fault.Run BadLanes) → fault ≡ Fault.Write write.Write → ⊥
+refused_unwritten fault (inl is) written = cc
+refused_unwritten fault (inr is) written = cc
 
 -- lanes fail for nothing that was asked of the run
 pub asked_well : (fault : RunFault SinkFault) → IsMisuse (fault_of fault) → ⊥
@@ -115,4 +122,21 @@ module _ {S : Type 0} (choice : Choice) (meaning : ℕ → Meaning) (form : Form
         refused = λ misuse. absurd (asked_well of misuse);
         failed = (λ same. write_failed (fails new) of has (err_same _ _ _ refl same), λ failure. ap Err (failed_write (fails new) of has failure));
         only = of_text_run of;
+      })
+
+  -- the run was too much, and was refused
+  pub refused_stream : (answer size : Result ℕ Fault) (fault of : Fault) → answer ≡ Err fault → fault ≡ of → size ≡ Err of → fails old ≡ false → IsTooMuch files lanes
+      → (MAX_FILES < files) ↔ (size ≡ Err (Fault.Run TooManyFiles)) → (((lanes ≡ 0) ⊎ (LANES < lanes)) × (files ≤ MAX_FILES)) ↔ (size ≡ Err (Fault.Run BadLanes))
+      → IsStreamed choice meaning form files lanes taken fails old old answer
+  refused_stream answer size fault of is made was stands much many bad =
+      let why = refusal files lanes of much (λ more. err_same _ _ _ was (many.0 more)) (λ wrong. err_same _ _ _ was (bad.0 wrong)) in
+      subst (IsStreamed choice meaning form files lanes taken fails old old) (was ∙ sym (is ∙ ap Err made)) (record {
+        written = subst (λ r. IfOk r (IsAllWritten choice meaning form files (taken old) (taken old))) (sym was) tt;
+        status = subst (λ r. IfOk r (λ status. (status ≡ 0) ⊎ (status ≡ 3))) (sym was) tt;
+        begun = subst (λ r. OnErr r ∥ IsBegun choice meaning form files (taken old) (taken old) ∥₁) (sym was) (begun_none choice meaning form files (taken old));
+        too_many = many;
+        bad_lanes = bad;
+        refused = subst (λ r. IfErr r (λ f. IsMisuse f → old ≡ old)) (sym was) (λ misuse. refl);
+        failed = (λ same. absurd (refused_unwritten of why (err_same _ _ _ was same)), λ failure. absurd (true≢false (sym failure ∙ stands)));
+        only = subst (λ r. IfErr r IsOfTextRun) (sym was) (refused_of_run of why);
       })

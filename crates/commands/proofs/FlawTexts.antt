@@ -12,6 +12,7 @@ use Rattle.streams.specs.Sink.{Writes}
 use Rattle.streams.specs.Text.{word_of}
 use Rattle.streams.proofs.Sinks.{added_both}
 use Rattle.collector.specs.declared.flaws.Flaws.{Flaws}
+use Rattle.named_sources.specs.Reasons.{IsWhy}
 use Rattle.commands.specs.FlawLines.{AreFlawLines, incomplete_line, lines_of_file, mark_line, memory_line, pieces_text}
 
 -- a sink that refused a text has failed
@@ -55,12 +56,12 @@ names_of names = map (λ name. name.now) names
 abbrev pub IsLinesUpTo : List (Bor (List ℕ)) → List Flaws → ℕ → List ℕ → Type 0
 IsLinesUpTo names flaws i front = (rest : List ℕ) → AreFlawLines (names_of (drop i names)) (drop i flaws) rest → AreFlawLines (names_of names) flaws (front ++ rest)
 
-pub lines_next : (names : List (Bor (List ℕ))) (flaws : List Flaws) (i : ℕ) (name : Bor (List ℕ)) (lacking : Flaws) (why front : List ℕ)
+pub lines_next : (names : List (Bor (List ℕ))) (flaws : List Flaws) (i : ℕ) (name : Bor (List ℕ)) (lacking : Flaws) (why front : List ℕ) → IsWhy why
     → drop i names ≡ name ∷ drop (i + 1) names → drop i flaws ≡ lacking ∷ drop (i + 1) flaws
     → IsLinesUpTo names flaws i front → IsLinesUpTo names flaws (i + 1) (front ++ lines_of_file name.now lacking why)
-lines_next names flaws i name lacking why front first also before rest told =
+lines_next names flaws i name lacking why front is first also before rest told =
     let own = lines_of_file name.now lacking why in
-    let here : AreFlawLines (name.now ∷ names_of (drop (i + 1) names)) (lacking ∷ drop (i + 1) flaws) (own ++ rest) = (why, rest, refl, told) in
+    let here : AreFlawLines (name.now ∷ names_of (drop (i + 1) names)) (lacking ∷ drop (i + 1) flaws) (own ++ rest) = (why, is, rest, refl, told) in
     subst (AreFlawLines (names_of names) flaws) (sym (append_assoc front own rest))
     (before (own ++ rest)
     (subst (λ (ns : List (Bor (List ℕ))). AreFlawLines (names_of ns) (drop i flaws) (own ++ rest)) (sym first)

@@ -1,62 +1,23 @@
--- A layout of the files that a request names, whole or begun.
-use Rattle.std.proofs.Common.{◌≡◌, ◌≢◌, ◌<◌, ◌⊎◌, ℕ, Bool, true, false, List, Option, Result, Ok, Err, OnErr, IfOk, IfErr, Bor, refl, ap, inl, inr, subst, sym, ◌∙◌}
-use Rattle.streams.specs.declared.faults.BatchFault.TheVariants.{TooManyFiles, BadLanes}
-use Rattle.ruled_lanes.specs.declared.limits.TheConstants.{LANES}
-use Rattle.reports.specs.declared.limits.TheConstants.{MAX_FILES}
-use Rattle.command_line.specs.declared.faults.Fault.{Fault}
-use Rattle.command_line.specs.Refusals.{IsMisuse}
+-- A layout of the files that a request names.
+use Rattle.std.proofs.Common.{◌≡◌, ◌≢◌, ◌⊎◌, ℕ, Bool, false, List, Option, inl, inr}
 use Rattle.common.specs.declared.choice.Choice.{Choice}
 use Rattle.lanes.specs.Opening.{Meaning}
 use Rattle.streams.specs.declared.form.Form.{Form}
-use Rattle.commands.specs.TextRuns.{IsBegun, IsStreamed}
-use Rattle.commands.specs.Statuses.{IsTextOfBooks, IsBegunTextOfBooks}
-use Rattle.commands.proofs.FaultStatus.{refusable_run}
-
-module _ (meaning : List (Bor (List ℕ)) → ℕ → Meaning) (choice : Choice) (form : Form) (names listed : List (Bor (List ℕ))) (files count : ℕ) (old new : Option (List ℕ))
-    (same : listed ≡ names) (many : files ≡ count) where
-  pub begun_to_lay_out : ∥ IsBegun choice (meaning listed) form files old new ∥₁ → IsBegunTextOfBooks choice form (meaning names) count old new
-  begun_to_lay_out begun =
-      subst (λ n. IsBegunTextOfBooks choice form (meaning names) n old new) many (subst (λ xs. IsBegunTextOfBooks choice form (meaning xs) files old new) same begun)
-
-  pub laid_out : (failed : Bool) (status : ℕ) → IsTextOfBooks choice form (meaning listed) files old new failed status → IsTextOfBooks choice form (meaning names) count old new failed status
-  laid_out failed status is =
-      subst (λ n. IsTextOfBooks choice form (meaning names) n old new failed status) many (subst (λ xs. IsTextOfBooks choice form (meaning xs) files old new failed status) same is)
-
-  pub laid_out_if : (failed : Bool) (answer : Result ℕ Fault) → IfOk answer (IsTextOfBooks choice form (meaning listed) files old new failed)
-      → IfOk answer (IsTextOfBooks choice form (meaning names) count old new failed)
-  laid_out_if failed answer is =
-      subst (λ n. IfOk answer (IsTextOfBooks choice form (meaning names) n old new failed)) many
-      (subst (λ xs. IfOk answer (IsTextOfBooks choice form (meaning xs) files old new failed)) same is)
-
-  pub begun_if : (answer : Result ℕ Fault) → OnErr answer ∥ IsBegun choice (meaning listed) form files old new ∥₁
-      → OnErr answer (IsBegunTextOfBooks choice form (meaning names) count old new)
-  begun_if answer is =
-      subst (λ n. OnErr answer (IsBegunTextOfBooks choice form (meaning names) n old new)) many
-      (subst (λ xs. OnErr answer (IsBegunTextOfBooks choice form (meaning xs) files old new)) same is)
-
-not_true : (b : Bool) → (b ≡ true → ⊥) → b ≡ false
-not_true true never = absurd (never refl)
-not_true false never = refl
+use Rattle.collector.specs.Whole.{IsAllWritten}
+use Rattle.commands.specs.Statuses.{IsTextOfBooks}
 
 either_else : (status : ℕ) → (status ≡ 0) ⊎ (status ≡ 3) → status ≢ 0 → status ≡ 3
 either_else status (inl is) never = absurd (never is)
 either_else status (inr is) never = is
 
--- what a run leaves in a sink: the whole text, or why its request is refused
-module _ {S : Type 0} (choice : Choice) (meaning : ℕ → Meaning) (form : Form) (files lanes : ℕ) (taken : S → Option (List ℕ)) (fails : S → Bool) (old new : S) where
-  pub told_whole : (answer : Result ℕ Fault) → IsStreamed choice meaning form files lanes taken fails old new answer
-      → IfOk answer (IsTextOfBooks choice form meaning files (taken old) (taken new) (fails new))
-  told_whole (Ok status) is = record {
-    books = is.written.books;
-    of_files = is.written.of_files;
-    text = is.written.text;
-    written = not_true (fails new) (λ failed. let other = is.failed.1 failed in cc);
-    flawless = (is.written.flawless.1, is.written.flawless.0);
-    other = either_else status is.status;
-  }
-  told_whole (Err fault) is = tt
-
-  pub refusable_if : (answer : Result ℕ Fault) → IsStreamed choice meaning form files lanes taken fails old new answer
-      → IfErr answer (λ fault. IsMisuse fault → (MAX_FILES < files) ⊎ ((lanes ≡ 0) ⊎ (LANES < lanes)))
-  refusable_if (Ok status) is = tt
-  refusable_if (Err fault) is = λ misuse. refusable_run fault is.only (λ same. is.too_many.1 (ap Err same)) (λ same. (is.bad_lanes.1 (ap Err same)).0) misuse
+-- what a run leaves in a sink that has not failed
+pub laid_out : (choice : Choice) (meaning : ℕ → Meaning) (form : Form) (files : ℕ) (old new : Option (List ℕ)) (failed : Bool) (status : ℕ)
+    → IsAllWritten choice meaning form files old new status → failed ≡ false → (status ≡ 0) ⊎ (status ≡ 3) → IsTextOfBooks choice form meaning files old new failed status
+laid_out choice meaning form files old new failed status is stands other = record {
+  books = is.books;
+  of_files = is.of_files;
+  text = is.text;
+  written = stands;
+  flawless = (is.flawless.1, is.flawless.0);
+  other = either_else status other;
+}

@@ -1,3 +1,4 @@
+pub mod Named
 pub mod NoFlaws
 pub mod PickFaults
 pub mod FlawTexts

@@ -1,38 +1,16 @@
 -- What runs that pick and count leave, for the files that a request names.
-use Rattle.std.proofs.Common.{◌≡◌, ◌≢◌, ◌⊎◌, ◌↔◌, ◌∙◌, inl, inr, ℕ, Bool, true, false, List, [], ◌∷◌, Option, Result, Err, Bor, All, map, refl, ap, sym, subst}
+use Rattle.std.proofs.Common.{◌≡◌, ◌≢◌, ◌⊎◌, ◌↔◌, inl, inr, ℕ, Bool, false, List, [], ◌∷◌, Option, All, map, sym, subst}
 use Rattle.std.proofs.lemmas.List.Elements.{All-nil, All-cons, All-head, All-tail}
-use Rattle.common.specs.declared.choice.Choice.{Choice}
 use Rattle.lanes.specs.Opening.{Meaning}
 use Rattle.named_sources.specs.Naming.{meanings_in}
 use Rattle.command_line.specs.declared.request.PickRequest.{PickRequest}
 use Rattle.command_line.specs.declared.request.CountRequest.{CountRequest}
-use Rattle.graph_facts.specs.declared.selecting.Selection.{Selection}
-use Rattle.graph_facts.specs.declared.combination.Columns.{Columns}
 use Rattle.collector.specs.declared.flaws.Flaws.{Flaws}
 use Rattle.collector.specs.FactBooks.{FactBook, IsFlawless, IsFlawlessFacts, flaws_of}
-use Rattle.collector.specs.Picked.{IsAllPicked, IsPickBegun}
-use Rattle.collector.specs.Counted.{IsAllCounted}
-use Rattle.graph_facts.specs.Tables.{TableModel, table_text}
+use Rattle.collector.specs.Picked.{IsAllPicked}
 use Rattle.commands.proofs.NoFlaws.{flawless_flaws}
 use Rattle.commands.specs.Statuses.{AreCountsWritten, ErrorOutput, IsTextOfCounted, IsTextOfPicked, TellsFlaws}
 use Rattle.std.specs.Prelude.{vec_len}
-
--- files that are listed otherwise, and counted otherwise
-module _ (meaning : List (Bor (List ℕ)) → ℕ → Meaning) (selection : Selection) (choice : Choice) (names listed : List (Bor (List ℕ))) (files count : ℕ)
-    (same : listed ≡ names) (many : files ≡ count) where
-  pub picked_as : (old new : Option (List ℕ)) (flaws : List Flaws) → IsAllPicked selection choice (meaning listed) files old new flaws
-      → IsAllPicked selection choice (meaning names) count old new flaws
-  picked_as old new flaws is =
-      subst (λ n. IsAllPicked selection choice (meaning names) n old new flaws) many (subst (λ xs. IsAllPicked selection choice (meaning xs) files old new flaws) same is)
-
-  pub begun_as : (old new : Option (List ℕ)) → ∥ IsPickBegun selection choice (meaning listed) files old new ∥₁ → ∥ IsPickBegun selection choice (meaning names) count old new ∥₁
-  begun_as old new is =
-      subst (λ n. ∥ IsPickBegun selection choice (meaning names) n old new ∥₁) many (subst (λ xs. ∥ IsPickBegun selection choice (meaning xs) files old new ∥₁) same is)
-
-  pub counted_as : (columns : Columns) (flaws : List Flaws) (table : TableModel) → IsAllCounted selection columns choice (meaning listed) files flaws table
-      → IsAllCounted selection columns choice (meaning names) count flaws table
-  counted_as columns flaws table is =
-      subst (λ n. IsAllCounted selection columns choice (meaning names) n flaws table) many (subst (λ xs. IsAllCounted selection columns choice (meaning xs) files flaws table) same is)
 
 -- all books are flawless if their flaws are none
 all_flawless : (books : List FactBook) → All IsFlawless (map flaws_of books) → All IsFlawlessFacts books
@@ -59,8 +37,8 @@ module _ (files : List ℕ → Meaning) (err : ErrorOutput) (old new : Option (L
     (λ zero. all_flawless books (subst (All IsFlawless) are (flawless.0 zero))),
   )
 
-  pub text_of_picked : (asked : PickRequest) → IsAllPicked asked.selection asked.choice (meanings_in files asked.names.items) (vec_len asked.names) old new flaws
-      → TellsFlaws err asked.names.items flaws → IsTextOfPicked files asked err old new failed status
+  pub text_of_picked : (asked : PickRequest) → IsAllPicked asked.selection asked.run.choice (meanings_in files asked.run.names.items) (vec_len asked.run.names) old new flaws
+      → TellsFlaws err asked.run.names.items flaws → IsTextOfPicked files asked err old new failed status
   text_of_picked asked is told = record {
     books = is.books;
     of_files = is.of_files;
@@ -68,11 +46,11 @@ module _ (files : List ℕ → Meaning) (err : ErrorOutput) (old new : Option (L
     written = stands;
     flawless = status_is is.books is.flaws_are;
     other = either_else status other;
-    told = subst (TellsFlaws err asked.names.items) is.flaws_are told;
+    told = subst (TellsFlaws err asked.run.names.items) is.flaws_are told;
   }
 
-  pub text_of_counted : (asked : CountRequest) → AreCountsWritten asked.selection asked.columns asked.choice (meanings_in files asked.names.items) (vec_len asked.names) old new flaws
-      → TellsFlaws err asked.names.items flaws → IsTextOfCounted files asked err old new failed status
+  pub text_of_counted : (asked : CountRequest) → AreCountsWritten asked.selection asked.columns asked.run.choice (meanings_in files asked.run.names.items) (vec_len asked.run.names) old new flaws
+      → TellsFlaws err asked.run.names.items flaws → IsTextOfCounted files asked err old new failed status
   text_of_counted asked is told = record {
     books = is.1.books;
     of_files = is.1.of_files;
@@ -83,5 +61,5 @@ module _ (files : List ℕ → Meaning) (err : ErrorOutput) (old new : Option (L
     written = stands;
     flawless = status_is is.1.books is.1.flaws_are;
     other = either_else status other;
-    told = subst (TellsFlaws err asked.names.items) is.1.flaws_are told;
+    told = subst (TellsFlaws err asked.run.names.items) is.1.flaws_are told;
   }

@@ -9,6 +9,7 @@ use Rattle.streams.specs.declared.frames.Mark.{Mark}
 use Rattle.streams.specs.declared.frames.Mark.TheVariants.{Ended, Io}
 use Rattle.streams.specs.Text.{word_of}
 use Rattle.collector.specs.declared.flaws.Flaws.{Flaws}
+use Rattle.named_sources.specs.Reasons.{IsWhy}
 
 -- texts one after another
 abbrev pub pieces_text : List (Bor (List ℕ)) → List ℕ
@@ -37,10 +38,10 @@ memory_line name flaws =
 abbrev pub lines_of_file : List ℕ → Flaws → List ℕ → List ℕ
 lines_of_file name flaws why = incomplete_line name flaws.mark why ++ memory_line name flaws
 
--- the text is that of the lines about files with these names, of which this is lacking, each for some reason
+-- the text is that of the lines about files with these names, of which this is lacking, each for some reason or none
 abbrev pub AreFlawLines : List (List ℕ) → List Flaws → List ℕ → Type 0
 AreFlawLines (name ∷ names) (flaws ∷ more) text =
-    (why : List ℕ) × (rest : List ℕ) × (text ≡ lines_of_file name flaws why ++ rest) × AreFlawLines names more rest
+    (why : List ℕ) × IsWhy why × (rest : List ℕ) × (text ≡ lines_of_file name flaws why ++ rest) × AreFlawLines names more rest
 AreFlawLines _ _ text = text ≡ []
 
 -- these lines were added to standard error

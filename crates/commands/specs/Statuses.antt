@@ -133,23 +133,23 @@ TellsFlaws err names flaws = err.failed ≡ false → IsTold (map (λ name. name
 -- Standard error tells what is lacking.
 pub record IsTextOfPicked (files : List ℕ → Meaning) (asked : PickRequest) (err : ErrorOutput) (old new : Option (List ℕ)) (failed : Bool) (status : ℕ) : Type 0 where
   pub books : List FactBook
-  pub of_files : AreAllFactBooks asked.choice (meanings_in files asked.names.items) (vec_len asked.names) books
+  pub of_files : AreAllFactBooks asked.run.choice (meanings_in files asked.run.names.items) (vec_len asked.run.names) books
   pub text : Appends old new (picked_text asked.selection books)
   pub written : failed ≡ false
   pub flawless : All IsFlawlessFacts books ↔ (status ≡ 0)
   pub other : status ≢ 0 → status ≡ 3
-  pub told : TellsFlaws err asked.names.items (map flaws_of books)
+  pub told : TellsFlaws err asked.run.names.items (map flaws_of books)
 
 -- a prefix of such a text was added, where each file may also end `memory`
 abbrev pub IsBegunTextOfPicked : (List ℕ → Meaning) → PickRequest → Option (List ℕ) → Option (List ℕ) → Type 0
-IsBegunTextOfPicked files asked old new = ∥ IsPickBegun asked.selection asked.choice (meanings_in files asked.names.items) (vec_len asked.names) old new ∥₁
+IsBegunTextOfPicked files asked old new = ∥ IsPickBegun asked.selection asked.run.choice (meanings_in files asked.run.names.items) (vec_len asked.run.names) old new ∥₁
 
 -- The text of the table of the selected graphs of all files was added to the output, where the file with a name means
 -- what `files` says; and the status says whether each file ended complete and memory ran out for no graph. Standard error
 -- tells what is lacking.
 pub record IsTextOfCounted (files : List ℕ → Meaning) (asked : CountRequest) (err : ErrorOutput) (old new : Option (List ℕ)) (failed : Bool) (status : ℕ) : Type 0 where
   pub books : List FactBook
-  pub of_files : AreAllFactBooks asked.choice (meanings_in files asked.names.items) (vec_len asked.names) books
+  pub of_files : AreAllFactBooks asked.run.choice (meanings_in files asked.run.names.items) (vec_len asked.run.names) books
   pub table : TableModel
   pub columns : table.columns ≡ asked.columns
   pub counted : IsTable (chosen_in asked.selection books) table
@@ -157,7 +157,7 @@ pub record IsTextOfCounted (files : List ℕ → Meaning) (asked : CountRequest)
   pub written : failed ≡ false
   pub flawless : All IsFlawlessFacts books ↔ (status ≡ 0)
   pub other : status ≢ 0 → status ≡ 3
-  pub told : TellsFlaws err asked.names.items (map flaws_of books)
+  pub told : TellsFlaws err asked.run.names.items (map flaws_of books)
 
 -- the table of the selected graphs of this many files, which mean this, was added; this is lacking in them
 abbrev pub AreCountsWritten : Selection → Columns → Choice → (ℕ → Meaning) → ℕ → Option (List ℕ) → Option (List ℕ) → List Flaws → Type 0
@@ -166,21 +166,23 @@ AreCountsWritten selection columns choice meaning files old new flaws =
 
 -- a prefix of the text of such a table was added
 pub record AreCountsBegun (selection : Selection) (columns : Columns) (choice : Choice) (meaning : ℕ → Meaning) (files : ℕ) (old new : Option (List ℕ)) : Type 0 where
-  pub flaws : List Flaws
+  pub books : List FactBook
+  pub of_files : AreAllFactBooks choice meaning files books
   pub table : TableModel
-  pub counted : IsAllCounted selection columns choice meaning files flaws table
+  pub columns_are : table.columns ≡ columns
+  pub counted : IsTable (chosen_in selection books) table
   pub text : AppendsPrefix old new (table_text table)
 
 abbrev pub IsBegunTextOfCounted : (List ℕ → Meaning) → CountRequest → Option (List ℕ) → Option (List ℕ) → Type 0
 IsBegunTextOfCounted files asked old new =
-    AreCountsBegun asked.selection asked.columns asked.choice (meanings_in files asked.names.items) (vec_len asked.names) old new
+    AreCountsBegun asked.selection asked.columns asked.run.choice (meanings_in files asked.run.names.items) (vec_len asked.run.names) old new
 
 -- the whole text that a request asks for, where the file with a name means what `files` says, was added to the output,
 -- with this status and this standard error
 abbrev pub IsDone : (List ℕ → Meaning) → Request → ErrorOutput → Option (List ℕ) → Option (List ℕ) → Bool → ℕ → Type 0
 IsDone files (Frames name) err old new failed status = IsTextOfRecords (files name.now) old new failed status
 IsDone files (Layout asked) err old new failed status =
-    IsTextOfBooks asked.choice asked.style.form (meanings_in files asked.names.items) (vec_len asked.names) old new failed status
+    IsTextOfBooks asked.run.choice asked.style.form (meanings_in files asked.run.names.items) (vec_len asked.run.names) old new failed status
 IsDone files (Check asked) err old new failed status = IsTextOfChecked files asked old new failed status
 IsDone files (Pick asked) err old new failed status = IsTextOfPicked files asked err old new failed status
 IsDone files (Count asked) err old new failed status = IsTextOfCounted files asked err old new failed status
@@ -195,7 +197,7 @@ IsJudged files _ old new failed = ⊥
 abbrev pub IsBegunToBeDone : (List ℕ → Meaning) → Request → Option (List ℕ) → Option (List ℕ) → Type 0
 IsBegunToBeDone files (Frames name) old new = IsBegunTextOfRecords (files name.now) old new
 IsBegunToBeDone files (Layout asked) old new =
-    IsBegunTextOfBooks asked.choice asked.style.form (meanings_in files asked.names.items) (vec_len asked.names) old new
+    IsBegunTextOfBooks asked.run.choice asked.style.form (meanings_in files asked.run.names.items) (vec_len asked.run.names) old new
 IsBegunToBeDone files (Check asked) old new = IsBegunTextOfChecked files asked old new
 IsBegunToBeDone files (Pick asked) old new = IsBegunTextOfPicked files asked old new
 IsBegunToBeDone files (Count asked) old new = IsBegunTextOfCounted files asked old new
@@ -230,9 +232,9 @@ IsTooMuch files lanes = (MAX_FILES < files) ⊎ ((lanes ≡ 0) ⊎ (LANES < lane
 abbrev pub IsRefusable : Bool → Request → Type 0
 IsRefusable terminal (Frames name) = ⊥
 IsRefusable terminal (Check asked) = ⊥
-IsRefusable terminal (Layout asked) = IsTooMuch (vec_len asked.names) asked.lanes
-IsRefusable terminal (Pick asked) = (terminal ≡ true) ⊎ IsTooMuch (vec_len asked.names) asked.lanes
-IsRefusable terminal (Count asked) = IsTooMuch (vec_len asked.names) asked.lanes
+IsRefusable terminal (Layout asked) = IsTooMuch (vec_len asked.run.names) asked.run.lanes
+IsRefusable terminal (Pick asked) = (terminal ≡ true) ⊎ IsTooMuch (vec_len asked.run.names) asked.run.lanes
+IsRefusable terminal (Count asked) = IsTooMuch (vec_len asked.run.names) asked.run.lanes
 
 -- The outcome of a command line, where the file with a name means what `files` says: the output was `old` and is `new`,
 -- of which these bytes are taken and which may have failed, and may be a terminal; this is known of standard error, and the
@@ -242,6 +244,7 @@ pub record IsOutcome {S : Type 0} (files : List ℕ → Meaning) (words : List (
   pub failed_write : failed new ≡ true → status ≡ 1
   pub refused : status ≡ 2 → new ≡ old
   pub refusable : status ≡ 2 → (request : Request) → IsAskedBy words request → IsRefusable terminal request
+  pub too_much : (request : Request) → IsAskedBy words request → IsRefusable terminal request → (new ≡ old) × ((status ≡ 1) ⊎ (status ≡ 2))
   pub for_terminal : terminal ≡ true → asks_in Keyword.Pick words ≡ true → asks_in Keyword.Help words ≡ false
       → (new ≡ old) × ((status ≡ 1) ⊎ (status ≡ 2))
   pub version : asks_in Keyword.Version words ≡ true → IsPrinted version_text (taken old) (taken new) (failed new) status

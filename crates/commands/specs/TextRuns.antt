@@ -8,7 +8,7 @@ use Rattle.lanes.specs.Opening.{Meaning}
 use Rattle.reports.specs.declared.limits.TheConstants.{MAX_FILES}
 use Rattle.streams.specs.declared.form.Form.{Form}
 pub use Rattle.collector.specs.Whole.{IsBegun}
-pub use Rattle.collector.specs.Written.{HasFailedBy}
+pub use Rattle.file_order.specs.Writing.{HasFailedBy}
 use Rattle.collector.specs.Whole.{IsAllWritten}
 use Rattle.command_line.specs.declared.faults.Fault.{Fault}
 use Rattle.command_line.specs.declared.faults.Fault.TheVariants.{Run, Write}

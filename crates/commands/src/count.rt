@@ -1,77 +1,89 @@
 //! The command `count`.
-ghost use Rattle.std.specs.Prelude.{◌≡◌, ◌⊎◌, false, IfOk, IfErr, OnOk, OnErr, vec_len};
+ghost use Rattle.std.specs.Prelude.{◌≡◌, ◌<◌, ◌≤◌, ◌⊎◌, ◌↔◌, false, Err, IfOk, IfErr, OnOk, OnErr, vec_len};
+ghost use Rattle.streams.specs.declared.faults.BatchFault.{BatchFault};
 ghost use Rattle.command_line.specs.Refusals.{IsMisuse};
-ghost use Rattle.named_sources.specs.Naming.{meanings_in};
-ghost use Rattle.commands.specs.Statuses.{AreCountsBegun, AreCountsWritten, IsTooMuch};
+ghost use Rattle.ruled_lanes.specs.declared.limits.TheConstants.{LANES};
+ghost use Rattle.reports.specs.declared.limits.TheConstants.{MAX_FILES};
+ghost use Rattle.commands.specs.Statuses.{AreCountsBegun, AreCountsWritten, IsTextOfCounted, IsBegunTextOfCounted, IsTooMuch, error_output};
 
-use crate::runs::{CAPACITY, run_size};
-use collector::{Flaws, count_files};
-use command_line::{Console, CountRequest, Fault, Meter};
+use crate::flaw_lines::write_flaws;
+use crate::runs::NamedRun;
+use collector::{Flaws, count_files, status_of_flaws};
+use command_line::{Console, CountRequest, Fault};
 use graph_facts::write_counts;
-use lanes::{Pauses, Run};
-use named_sources::{FileNotes, FileOpener, NamedFiles};
+use lanes::{Gate, Opener, Run};
+use named_sources::NamedFiles;
 use std::sync::Wait;
 use std::thread::Threads;
 use streams::Sink;
 
-/// Writes the table of the graphs that a `count` request selects, once all files are read; returns what is lacking in
-/// each file.
+/// Writes the table of the graphs that a `count` request selects, once all files are read, the progress, and the lines
+/// about files; returns the exit status.
 ///
-/// `files` opens the files that are named. The meter counts files and graphs. How files begin, end and fail is noted in
-/// `notes`.
+/// `files` opens the files that are named.
 ///
 /// # Errors
 ///
-/// `TooManyFiles` if there are more than `MAX_FILES` files, and otherwise `BadLanes` if there are no lanes or more than
-/// `LANES`. Otherwise the fault of the run; or `Write`, and then a prefix of the table is written. In all other cases
-/// nothing is.
+/// `TooManyFiles` exactly if there are more than `MAX_FILES` files, and `BadLanes` exactly if there are no more than
+/// that and no lanes or more than `LANES`. Otherwise the fault of the run; or `Write`, and then a prefix of the table is
+/// written. In all other cases nothing is.
 pub(crate) fn count<
-    'a,
     R: AllocGlobal + Threads + Wait + Sync,
     N: NamedFiles,
     C: Console + Sync,
     S: Sink,
+    E: Sink,
 >(
-    rt: &'a R,
+    rt: &R,
     asked: &CountRequest<'_>,
-    files: &'a N,
-    meter: &'a Meter<'a, C>,
-    notes: &'a FileNotes,
+    files: &N,
+    console: &C,
+    out: &mut S,
+    err: &mut E,
+) -> Result<u8, Fault>
+    requires out_is_intact { S.failed out.old ≡ false }
+    requires err_is_intact { E.failed err.old ≡ false }
+    ensures written { IfOk result (IsTextOfCounted (N.meaning files.now) asked.now (error_output (E.taken err.old) (E.taken err.new) (E.failed err.new))
+        (S.taken out.old) (S.taken out.new) (S.failed out.new)) }
+    ensures begun { OnErr result ((out.new ≡ out.old) ⊎ IsBegunTextOfCounted (N.meaning files.now) asked.now (S.taken out.old) (S.taken out.new)) }
+    ensures unwritten { OnErr result (S.failed out.new ≡ false → out.new ≡ out.old) }
+    ensures too_many { (MAX_FILES < vec_len asked.now.run.names) ↔ (result ≡ Err (Fault.Run BatchFault.TooManyFiles)) }
+    ensures bad_lanes { (((asked.now.run.lanes ≡ 0) ⊎ (LANES < asked.now.run.lanes)) × (vec_len asked.now.run.names ≤ MAX_FILES))
+        ↔ (result ≡ Err (Fault.Run BatchFault.BadLanes)) }
+    ensures refused { IfErr result (λ fault. IsMisuse fault → out.new ≡ out.old) }
+    ensures refusable { IfErr result (λ fault. IsMisuse fault → IsTooMuch (vec_len asked.now.run.names) asked.now.run.lanes) }
+    ensures intact { OnErr result (E.failed err.new ≡ false) }
+{
+    let named = NamedRun::new(rt, &asked.run, files, console)?;
+    let opener = named.opener();
+    let run = named.over(&opener);
+    let outcome = write_table(&run, asked, out);
+    named.meter.finish();
+    let flaws = outcome?;
+    let flaws = flaws.as_slice();
+    write_flaws(rt.alloc(), named.names, flaws, &named.notes, err);
+    Ok(status_of_flaws(flaws))
+}
+
+/// Writes the table of the graphs of a run that a `count` request selects; returns what is lacking in each file.
+fn write_table<R: Threads + Wait + Sync, O: Opener, G: Gate, S: Sink>(
+    run: &Run<'_, R, O, G>,
+    asked: &CountRequest<'_>,
     out: &mut S,
 ) -> Result<Vec<Flaws>, Fault>
-    requires { S.failed out.old ≡ false }
-    ensures written { IfOk result (λ flaws. AreCountsWritten asked.now.selection asked.now.columns asked.now.choice
-        (meanings_in (N.meaning files.now) asked.now.names.items) (vec_len asked.now.names)
-        (S.taken out.old) (S.taken out.new) flaws.items) }
+    requires stands { S.failed out.old ≡ false }
+    requires few_files { run.now.files ≤ MAX_FILES }
+    requires some { 0 < run.now.lanes }
+    requires few { run.now.lanes ≤ LANES }
+    ensures written { IfOk result (λ flaws. AreCountsWritten asked.now.selection asked.now.columns run.now.choice
+        (O.meaning run.now.opener.now) run.now.files (S.taken out.old) (S.taken out.new) flaws.items) }
     ensures stands { OnOk result (S.failed out.new ≡ false) }
-    ensures begun { OnErr result ((out.new ≡ out.old) ⊎ AreCountsBegun asked.now.selection asked.now.columns asked.now.choice
-        (meanings_in (N.meaning files.now) asked.now.names.items) (vec_len asked.now.names)
-        (S.taken out.old) (S.taken out.new)) }
+    ensures begun { OnErr result ((out.new ≡ out.old) ⊎ AreCountsBegun asked.now.selection asked.now.columns run.now.choice
+        (O.meaning run.now.opener.now) run.now.files (S.taken out.old) (S.taken out.new)) }
     ensures unwritten { OnErr result (S.failed out.new ≡ false → out.new ≡ out.old) }
-    ensures refused { IfErr result (λ fault. IsMisuse fault → out.new ≡ out.old) }
-    ensures refusable { IfErr result (λ fault. IsMisuse fault → IsTooMuch (vec_len asked.now.names) asked.now.lanes) }
+    ensures asked_well { IfErr result (λ fault. ¬ IsMisuse fault) }
 {
-    let names = asked.names.as_slice();
-    let files_count = run_size(names.len(), asked.lanes)?;
-    let opener = FileOpener {
-        files,
-        names,
-        opened: meter.opened(),
-        notes,
-    };
-    let pauses = Pauses::none();
-    let run = Run {
-        rt,
-        alloc: rt.alloc(),
-        opener: &opener,
-        pauses: &pauses,
-        gate: meter,
-        files: files_count,
-        lanes: asked.lanes,
-        capacity: CAPACITY,
-        choice: asked.choice,
-    };
-    let counted = count_files(&run, asked.selection, asked.columns)?;
+    let counted = count_files(run, asked.selection, asked.columns)?;
     write_counts(&counted.counts, out)?;
     Ok(counted.flaws)
 }

@@ -1,31 +1,25 @@
 //! The command `layout`.
 ghost use Rattle.std.specs.Prelude.{◌≡◌, ◌<◌, ◌≤◌, ◌⊎◌, ◌↔◌, false, Err, IfOk, IfErr, OnErr, vec_len};
+ghost use Rattle.streams.specs.declared.faults.BatchFault.{BatchFault};
 ghost use Rattle.command_line.specs.Refusals.{IsMisuse};
 ghost use Rattle.ruled_lanes.specs.declared.limits.TheConstants.{LANES};
 ghost use Rattle.reports.specs.declared.limits.TheConstants.{MAX_FILES};
 ghost use Rattle.named_sources.specs.Naming.{meanings_in};
-ghost use Rattle.commands.specs.Statuses.{IsTextOfBooks, IsBegunTextOfBooks};
+ghost use Rattle.commands.specs.Statuses.{IsTextOfBooks, IsBegunTextOfBooks, IsTooMuch};
 
-use crate::text::TextRun;
-use command_line::{Console, Fault, LayoutRequest, Meter};
-use lanes::{Pauses, Run};
-use named_sources::{FileNotes, FileOpener, NamedFiles};
-use ruled_lanes::MAX_CAPACITY;
+use crate::runs::{NamedRun, bytes_of};
+use crate::text::write_text;
+use command_line::{Console, Fault, LayoutRequest};
+use named_sources::NamedFiles;
 use std::sync::Wait;
 use std::thread::Threads;
-use streams::{BatchFault, Sink};
+use streams::Sink;
 
-/// The maximum number of messages that wait between two threads of a run.
-const CAPACITY: u32 = MAX_CAPACITY;
-
-/// The number of bytes of a megabyte.
-const MEGABYTE: usize = 1_000_000;
-
-/// Writes the answers that a `layout` request asks for; returns the exit status.
+/// Writes the answers that a `layout` request asks for, the progress, and the lines about files; returns the exit status
+/// of the answers.
 ///
-/// They are written while the files are read. `files` opens the files that are named. The meter counts files and
-/// graphs. How files begin, end and fail is noted in `notes`. Later files pause once `waiting` megabytes of their text
-/// are buffered.
+/// They are written while the files are read. `files` opens the files that are named. Later files pause once `waiting`
+/// megabytes of their text are buffered.
 ///
 /// # Errors
 ///
@@ -34,58 +28,39 @@ const MEGABYTE: usize = 1_000_000;
 /// then a prefix of the text is written: that of books of the first files, of which any may end `memory`, and the lines
 /// of the next one, which has no last line. If no bytes of a file are known, as of a real one, they are those of some
 /// bytes.
-pub fn layout<
-    'a,
+pub(crate) fn layout<
     R: AllocGlobal + Threads + Wait + Sync,
     N: NamedFiles,
     C: Console + Sync,
     S: Sink,
+    E: Sink,
 >(
-    rt: &'a R,
+    rt: &R,
     asked: &LayoutRequest<'_>,
-    files: &'a N,
-    meter: &'a Meter<'a, C>,
-    notes: &'a FileNotes,
+    files: &N,
+    console: &C,
     out: &mut S,
+    err: &mut E,
 ) -> Result<u8, Fault>
-    requires { S.failed out.old ≡ false }
-    ensures written { IfOk result (IsTextOfBooks asked.now.choice asked.now.style.form (meanings_in (N.meaning files.now) asked.now.names.items)
-        (vec_len asked.now.names) (S.taken out.old) (S.taken out.new) (S.failed out.new)) }
-    ensures begun { OnErr result (IsBegunTextOfBooks asked.now.choice asked.now.style.form (meanings_in (N.meaning files.now) asked.now.names.items)
-        (vec_len asked.now.names) (S.taken out.old) (S.taken out.new)) }
-    ensures too_many { (MAX_FILES < vec_len asked.now.names) ↔ (result ≡ Err (Fault.Run BatchFault.TooManyFiles)) }
-    ensures bad_lanes { (((asked.now.lanes ≡ 0) ⊎ (LANES < asked.now.lanes)) × (vec_len asked.now.names ≤ MAX_FILES))
+    requires out_is_intact { S.failed out.old ≡ false }
+    requires err_is_intact { E.failed err.old ≡ false }
+    ensures written { IfOk result (IsTextOfBooks asked.now.run.choice asked.now.style.form (meanings_in (N.meaning files.now) asked.now.run.names.items)
+        (vec_len asked.now.run.names) (S.taken out.old) (S.taken out.new) (S.failed out.new)) }
+    ensures begun { OnErr result ((out.new ≡ out.old) ⊎ IsBegunTextOfBooks asked.now.run.choice asked.now.style.form
+        (meanings_in (N.meaning files.now) asked.now.run.names.items) (vec_len asked.now.run.names) (S.taken out.old) (S.taken out.new)) }
+    ensures too_many { (MAX_FILES < vec_len asked.now.run.names) ↔ (result ≡ Err (Fault.Run BatchFault.TooManyFiles)) }
+    ensures bad_lanes { (((asked.now.run.lanes ≡ 0) ⊎ (LANES < asked.now.run.lanes)) × (vec_len asked.now.run.names ≤ MAX_FILES))
         ↔ (result ≡ Err (Fault.Run BatchFault.BadLanes)) }
     ensures refused { IfErr result (λ fault. IsMisuse fault → out.new ≡ out.old) }
-    ensures refusable { IfErr result (λ fault. IsMisuse fault
-        → (MAX_FILES < vec_len asked.now.names) ⊎ ((asked.now.lanes ≡ 0) ⊎ (LANES < asked.now.lanes))) }
+    ensures refusable { IfErr result (λ fault. IsMisuse fault → IsTooMuch (vec_len asked.now.run.names) asked.now.run.lanes) }
+    ensures intact { OnErr result (E.failed err.new ≡ false) }
 {
-    let names = asked.names.as_slice();
-    let opener = FileOpener {
-        files,
-        names,
-        opened: meter.opened(),
-        notes,
-    };
-    let Ok(count) = u32::try_from(names.len()) else {
-        return Err(Fault::Run(BatchFault::TooManyFiles));
-    };
-    let pauses = Pauses::none();
-    let run = Run {
-        rt,
-        alloc: rt.alloc(),
-        opener: &opener,
-        pauses: &pauses,
-        gate: meter,
-        files: count,
-        lanes: asked.lanes,
-        capacity: CAPACITY,
-        choice: asked.choice,
-    };
-    let text_run = TextRun {
-        run,
-        style: asked.style,
-        waiting: (asked.waiting as usize).saturating_mul(MEGABYTE),
-    };
-    text_run.write(out)
+    let named = NamedRun::new(rt, &asked.run, files, console)?;
+    let opener = named.opener();
+    let run = named.over(&opener);
+    let outcome = write_text(&run, asked.style, bytes_of(asked.waiting), out);
+    named.meter.finish();
+    let status = outcome?;
+    named.notes.write(rt.alloc(), named.names, err);
+    Ok(status)
 }

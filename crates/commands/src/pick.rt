@@ -1,76 +1,73 @@
 //! The command `pick`.
-ghost use Rattle.std.specs.Prelude.{◌≡◌, ◌⊎◌, false, IfOk, IfErr, OnOk, OnErr, vec_len};
+ghost use Rattle.std.specs.Prelude.{◌≡◌, ◌<◌, ◌≤◌, ◌⊎◌, ◌↔◌, false, true, Err, IfOk, IfErr, OnErr, vec_len};
+ghost use Rattle.streams.specs.declared.faults.BatchFault.{BatchFault};
 ghost use Rattle.command_line.specs.Refusals.{IsMisuse};
-ghost use Rattle.named_sources.specs.Naming.{meanings_in};
-ghost use Rattle.collector.specs.Picked.{IsAllPicked, IsPickBegun};
-ghost use Rattle.commands.specs.Statuses.{IsTooMuch};
+ghost use Rattle.ruled_lanes.specs.declared.limits.TheConstants.{LANES};
+ghost use Rattle.reports.specs.declared.limits.TheConstants.{MAX_FILES};
+ghost use Rattle.commands.specs.Statuses.{IsTextOfPicked, IsBegunTextOfPicked, IsTooMuch, error_output};
 
-use crate::runs::{CAPACITY, MEGABYTE, run_size};
-use collector::{Flaws, pick_files};
-use command_line::{Console, Fault, Meter, PickRequest};
-use lanes::{Pauses, Run};
-use named_sources::{FileNotes, FileOpener, NamedFiles};
+use crate::flaw_lines::write_flaws;
+use crate::runs::{NamedRun, bytes_of};
+use collector::{pick_files, status_of_flaws};
+use command_line::{Console, Fault, PickRequest};
+use named_sources::NamedFiles;
 use std::sync::Wait;
 use std::thread::Threads;
 use streams::Sink;
 
-/// Writes the header and the records that a `pick` request selects; returns what is lacking in each file.
+/// Writes the header and the records that a `pick` request selects, the progress, and the lines about files; returns the
+/// exit status.
 ///
-/// They are written while the files are read. `files` opens the files that are named. The meter counts files and
-/// graphs. How files begin, end and fail is noted in `notes`. Later files pause once `waiting` megabytes of their
-/// records are buffered.
+/// They are written while the files are read. `files` opens the files that are named. Later files pause once `waiting`
+/// megabytes of their records are buffered.
 ///
 /// # Errors
 ///
-/// `TooManyFiles` if there are more than `MAX_FILES` files, and otherwise `BadLanes` if there are no lanes or more than
-/// `LANES`; nothing is then written. Otherwise the fault of a run or of the writing; then a prefix is written of what
-/// would be, if each file may end `memory`.
+/// `Terminal` if the output is a terminal. Otherwise `TooManyFiles` exactly if there are more than `MAX_FILES` files,
+/// and `BadLanes` exactly if there are no more than that and no lanes or more than `LANES`; nothing is then written.
+/// Otherwise the fault of a run or of the writing; then a prefix is written of what would be, if each file may end
+/// `memory`.
 pub(crate) fn pick<
-    'a,
     R: AllocGlobal + Threads + Wait + Sync,
     N: NamedFiles,
     C: Console + Sync,
     S: Sink,
+    E: Sink,
 >(
-    rt: &'a R,
+    rt: &R,
     asked: &PickRequest<'_>,
-    files: &'a N,
-    meter: &'a Meter<'a, C>,
-    notes: &'a FileNotes,
+    files: &N,
+    console: &C,
     out: &mut S,
-) -> Result<Vec<Flaws>, Fault>
-    requires { S.failed out.old ≡ false }
-    ensures written { IfOk result (λ flaws. IsAllPicked asked.now.selection asked.now.choice
-        (meanings_in (N.meaning files.now) asked.now.names.items) (vec_len asked.now.names)
-        (S.taken out.old) (S.taken out.new) flaws.items) }
-    ensures stands { OnOk result (S.failed out.new ≡ false) }
-    ensures begun { OnErr result ((out.new ≡ out.old) ⊎ ∥ IsPickBegun asked.now.selection asked.now.choice
-        (meanings_in (N.meaning files.now) asked.now.names.items) (vec_len asked.now.names)
-        (S.taken out.old) (S.taken out.new) ∥₁) }
+    err: &mut E,
+) -> Result<u8, Fault>
+    requires out_is_intact { S.failed out.old ≡ false }
+    requires err_is_intact { E.failed err.old ≡ false }
+    ensures written { IfOk result (IsTextOfPicked (N.meaning files.now) asked.now (error_output (E.taken err.old) (E.taken err.new) (E.failed err.new))
+        (S.taken out.old) (S.taken out.new) (S.failed out.new)) }
+    ensures begun { OnErr result ((out.new ≡ out.old) ⊎ IsBegunTextOfPicked (N.meaning files.now) asked.now (S.taken out.old) (S.taken out.new)) }
+    ensures for_terminal { C.has_terminal console.now ≡ true → result ≡ Err Fault.Terminal }
+    ensures unopened { C.has_terminal console.now ≡ true → out.new ≡ out.old }
+    ensures too_many { C.has_terminal console.now ≡ false
+        → (MAX_FILES < vec_len asked.now.run.names) ↔ (result ≡ Err (Fault.Run BatchFault.TooManyFiles)) }
+    ensures bad_lanes { C.has_terminal console.now ≡ false
+        → (((asked.now.run.lanes ≡ 0) ⊎ (LANES < asked.now.run.lanes)) × (vec_len asked.now.run.names ≤ MAX_FILES))
+        ↔ (result ≡ Err (Fault.Run BatchFault.BadLanes)) }
     ensures refused { IfErr result (λ fault. IsMisuse fault → out.new ≡ out.old) }
-    ensures refusable { IfErr result (λ fault. IsMisuse fault → IsTooMuch (vec_len asked.now.names) asked.now.lanes) }
+    ensures refusable { IfErr result (λ fault. IsMisuse fault
+        → (C.has_terminal console.now ≡ true) ⊎ IsTooMuch (vec_len asked.now.run.names) asked.now.run.lanes) }
+    ensures intact { OnErr result (E.failed err.new ≡ false) }
 {
-    let names = asked.names.as_slice();
-    let count = run_size(names.len(), asked.lanes)?;
-    let opener = FileOpener {
-        files,
-        names,
-        opened: meter.opened(),
-        notes,
-    };
-    let pauses = Pauses::none();
-    let run = Run {
-        rt,
-        alloc: rt.alloc(),
-        opener: &opener,
-        pauses: &pauses,
-        gate: meter,
-        files: count,
-        lanes: asked.lanes,
-        capacity: CAPACITY,
-        choice: asked.choice,
-    };
-    let waiting = (asked.waiting as usize).saturating_mul(MEGABYTE);
-    let flaws = pick_files(&run, asked.selection, waiting, out)?;
-    Ok(flaws)
+    if console.out_is_terminal() {
+        return Err(Fault::Terminal);
+    }
+    let named = NamedRun::new(rt, &asked.run, files, console)?;
+    let opener = named.opener();
+    let run = named.over(&opener);
+    let outcome = pick_files(&run, asked.selection, bytes_of(asked.waiting), out);
+    named.meter.finish();
+    let flaws = outcome?;
+    let flaws = flaws.as_slice();
+    write_flaws(rt.alloc(), named.names, flaws, &named.notes, err);
+    Ok(status_of_flaws(flaws))
 }

@@ -1,35 +1,22 @@
 //! The program as a function of its arguments.
-ghost use Rattle.std.specs.Prelude.{◌≡◌, ◌<◌, ◌≤◌, ◌⊎◌, ℕ, List, length, vec_len, true, false, Err, IfOk, IfErr, OnErr};
-ghost use Rattle.std.specs.Borrow.{Bor};
-ghost use Rattle.common.specs.declared.choice.Choice.{Choice};
-ghost use Rattle.streams.specs.declared.form.Form.{Form};
+ghost use Rattle.std.specs.Prelude.{◌≡◌, ◌≤◌, ◌⊎◌, true, false, IfOk, IfErr, OnErr};
 ghost use Rattle.command_line.specs.Refusals.{IsMisuse};
-ghost use Rattle.reports.specs.declared.limits.TheConstants.{MAX_FILES};
-ghost use Rattle.ruled_lanes.specs.declared.limits.TheConstants.{LANES};
-ghost use Rattle.named_sources.specs.Naming.{meanings_in};
 ghost use Rattle.clap.specs.Words.{kind_of};
 ghost use Rattle.clap.specs.declared.error.kind.ErrorKind.{ErrorKind};
 ghost use Rattle.command_line.specs.declared.reading.Keyword.{Keyword};
 ghost use Rattle.command_line.specs.declared.request.Request.{Request};
-ghost use Rattle.command_line.specs.declared.request.CheckRequest.{CheckRequest};
-ghost use Rattle.command_line.specs.declared.request.PickRequest.{PickRequest};
-ghost use Rattle.command_line.specs.declared.request.CountRequest.{CountRequest};
-ghost use Rattle.commands.specs.Statuses.{IsTextOfPicked, IsTextOfCounted, IsBegunTextOfPicked, IsBegunTextOfCounted, IsOfRecords, IsTooMuch, error_output};
-ghost use Rattle.commands.specs.Statuses.{IsTextOfRecords, IsTextOfBooks, IsTextOfChecked, IsDone, IsDoneFor, IsBegunTextOfBooks, IsBegunTextOfRecords, IsBegunToBeDone, IsJudged, IsJudgedFor, IsHelped, IsPrinted, IsRefusable, version_text};
+ghost use Rattle.commands.specs.Statuses.{IsTextOfRecords, IsDone, IsDoneFor, IsBegunTextOfRecords, IsBegunToBeDone, IsJudged, IsJudgedFor, IsHelped, IsOfRecords, IsPrinted, IsRefusable, error_output, version_text};
 ghost use Rattle.command_line.specs.Requests.{IsAskedBy, asks_in};
 
 use crate::check_run::check;
 use crate::count::count;
-use crate::flaw_lines::write_flaws;
 use crate::layout::layout;
 use crate::pick::pick;
 use crate::version::VERSION;
 use clap::Error;
 use clap::error::ErrorKind;
-use collector::status_of_flaws;
 use command_line::{
-    Console, CountRequest, Fault, Keyword, LayoutRequest, Meter, ParseFault, PickRequest, Request,
-    asks, help_text, parse, write_fault,
+    Console, Fault, Keyword, ParseFault, Request, asks, help_text, parse, write_fault,
 };
 use named_sources::{FileNotes, KeepsReason, NamedFiles, Reason, open_source};
 use reports::status_of;
@@ -64,26 +51,13 @@ pub fn command<
     ensures refused { result ≡ 2 → out.new ≡ out.old }
     ensures refusable { result ≡ 2 → (request : Request) → IsAskedBy words.now request → IsRefusable (C.has_terminal console.now) request }
 
+    // Each such request is refused, unless memory for the arguments ran out.
+    ensures too_much { (request : Request) → IsAskedBy words.now request → IsRefusable (C.has_terminal console.now) request
+        → (out.new ≡ out.old) × ((result ≡ 1) ⊎ (result ≡ 2)) }
+
     // No records are written to a terminal.
     ensures for_terminal { C.has_terminal console.now ≡ true → asks_in Keyword.Pick words.now ≡ true
         → asks_in Keyword.Help words.now ≡ false → (out.new ≡ out.old) × ((result ≡ 1) ⊎ (result ≡ 2)) }
-
-    // With status 3 the text is whole: of a file that does not end complete, or of files of which one does not or lacks
-    // an answer because memory ran out, or of verdicts that are not about all graphs and lines.
-    ensures written { result ≡ 3
-        → ((name : List ℕ)
-        × IsTextOfRecords (N.meaning files.now name) (S.taken out.old) (S.taken out.new) (S.failed out.new) 3)
-        ⊎ ((choice : Choice) × (form : Form) × (names : List (Bor (List ℕ)))
-        × IsTextOfBooks choice form (meanings_in (N.meaning files.now) names) (length names)
-        (S.taken out.old) (S.taken out.new) (S.failed out.new) 3)
-        ⊎ ((asked : CheckRequest)
-        × IsTextOfChecked (N.meaning files.now) asked (S.taken out.old) (S.taken out.new) (S.failed out.new) 3)
-        ⊎ ((asked : PickRequest)
-        × IsTextOfPicked (N.meaning files.now) asked (error_output (E.taken err.old) (E.taken err.new) (E.failed err.new))
-        (S.taken out.old) (S.taken out.new) (S.failed out.new) 3)
-        ⊎ ((asked : CountRequest)
-        × IsTextOfCounted (N.meaning files.now) asked (error_output (E.taken err.old) (E.taken err.new) (E.failed err.new))
-        (S.taken out.old) (S.taken out.new) (S.failed out.new) 3) }
 
     // If the first argument is `--version`, the version is printed.
     ensures version { asks_in Keyword.Version words.now ≡ true
@@ -145,6 +119,7 @@ fn perform<
     ensures failed_write { S.failed out.new ≡ true → result ≡ 1 }
     ensures refused { result ≡ 2 → out.new ≡ out.old }
     ensures refusable { result ≡ 2 → IsRefusable (C.has_terminal console.now) request.entry }
+    ensures too_much { IsRefusable (C.has_terminal console.now) request.entry → result ≡ 2 }
     ensures for_terminal { C.has_terminal console.now ≡ true → IsOfRecords request.entry
         → (out.new ≡ out.old) × (result ≡ 2) }
     ensures done { (result ≡ 0) ⊎ (result ≡ 3)
@@ -158,130 +133,15 @@ fn perform<
 {
     let outcome = match request {
         Request::Frames { name } => frames(rt, name, files, out, err),
-        Request::Layout(asked) => lay_out(rt, &asked, files, console, out, err),
+        Request::Layout(asked) => layout(rt, &asked, files, console, out, err),
         Request::Check(asked) => check(rt, asked, files, out, err),
-        Request::Pick(asked) => pick_records(rt, &asked, files, console, out, err),
-        Request::Count(asked) => count_graphs(rt, &asked, files, console, out, err),
+        Request::Pick(asked) => pick(rt, &asked, files, console, out, err),
+        Request::Count(asked) => count(rt, &asked, files, console, out, err),
     };
     match outcome {
         Ok(status) => status,
         Err(fault) => end_by(fault, out.reason(), err),
     }
-}
-
-/// Writes the answers that are asked for, the progress, and the lines about files. Returns the exit status of the
-/// answers.
-fn lay_out<
-    R: AllocGlobal + Threads + Wait + Sync,
-    N: NamedFiles,
-    C: Console + Sync,
-    S: Sink,
-    E: Sink,
->(
-    rt: &R,
-    asked: &LayoutRequest<'_>,
-    files: &N,
-    console: &C,
-    out: &mut S,
-    err: &mut E,
-) -> Result<u8, Fault>
-    requires out_is_intact { S.failed out.old ≡ false }
-    requires err_is_intact { E.failed err.old ≡ false }
-    ensures written { IfOk result (IsTextOfBooks asked.now.choice asked.now.style.form (meanings_in (N.meaning files.now) asked.now.names.items)
-        (vec_len asked.now.names) (S.taken out.old) (S.taken out.new) (S.failed out.new)) }
-    ensures begun { OnErr result ((out.new ≡ out.old) ⊎ IsBegunTextOfBooks asked.now.choice asked.now.style.form
-        (meanings_in (N.meaning files.now) asked.now.names.items) (vec_len asked.now.names) (S.taken out.old) (S.taken out.new)) }
-    ensures refusable { IfErr result (λ fault. IsMisuse fault
-        → (MAX_FILES < vec_len asked.now.names) ⊎ ((asked.now.lanes ≡ 0) ⊎ (LANES < asked.now.lanes))) }
-    ensures refused { IfErr result (λ fault. IsMisuse fault → out.new ≡ out.old) }
-    ensures intact { OnErr result (E.failed err.new ≡ false) }
-{
-    let names = asked.names.as_slice();
-    let notes = FileNotes::new(rt.alloc(), names.len())?;
-    let meter = Meter::new(console, asked.progress, names.len());
-    let outcome = layout(rt, asked, files, &meter, &notes, out);
-    meter.finish();
-    let status = outcome?;
-    notes.write(rt.alloc(), names, err);
-    Ok(status)
-}
-
-/// Writes the records that are selected, the progress, and the lines about files, unless the output is a terminal. Returns
-/// the exit status.
-fn pick_records<
-    R: AllocGlobal + Threads + Wait + Sync,
-    N: NamedFiles,
-    C: Console + Sync,
-    S: Sink,
-    E: Sink,
->(
-    rt: &R,
-    asked: &PickRequest<'_>,
-    files: &N,
-    console: &C,
-    out: &mut S,
-    err: &mut E,
-) -> Result<u8, Fault>
-    requires out_is_intact { S.failed out.old ≡ false }
-    requires err_is_intact { E.failed err.old ≡ false }
-    ensures written { IfOk result (IsTextOfPicked (N.meaning files.now) asked.now (error_output (E.taken err.old) (E.taken err.new) (E.failed err.new))
-        (S.taken out.old) (S.taken out.new) (S.failed out.new)) }
-    ensures begun { OnErr result ((out.new ≡ out.old) ⊎ IsBegunTextOfPicked (N.meaning files.now) asked.now (S.taken out.old) (S.taken out.new)) }
-    ensures refusable { IfErr result (λ fault. IsMisuse fault
-        → (C.has_terminal console.now ≡ true) ⊎ IsTooMuch (vec_len asked.now.names) asked.now.lanes) }
-    ensures for_terminal { C.has_terminal console.now ≡ true → result ≡ Err Fault.Terminal }
-    ensures unopened { C.has_terminal console.now ≡ true → out.new ≡ out.old }
-    ensures refused { IfErr result (λ fault. IsMisuse fault → out.new ≡ out.old) }
-    ensures intact { OnErr result (E.failed err.new ≡ false) }
-{
-    if console.out_is_terminal() {
-        return Err(Fault::Terminal);
-    }
-    let names = asked.names.as_slice();
-    let notes = FileNotes::new(rt.alloc(), names.len())?;
-    let meter = Meter::new(console, asked.progress, names.len());
-    let outcome = pick(rt, asked, files, &meter, &notes, out);
-    meter.finish();
-    let flaws = outcome?;
-    let flaws = flaws.as_slice();
-    write_flaws(rt.alloc(), names, flaws, &notes, err);
-    Ok(status_of_flaws(flaws))
-}
-
-/// Writes the table of the graphs that are selected, the progress, and the lines about files. Returns the exit status.
-fn count_graphs<
-    R: AllocGlobal + Threads + Wait + Sync,
-    N: NamedFiles,
-    C: Console + Sync,
-    S: Sink,
-    E: Sink,
->(
-    rt: &R,
-    asked: &CountRequest<'_>,
-    files: &N,
-    console: &C,
-    out: &mut S,
-    err: &mut E,
-) -> Result<u8, Fault>
-    requires out_is_intact { S.failed out.old ≡ false }
-    requires err_is_intact { E.failed err.old ≡ false }
-    ensures written { IfOk result (IsTextOfCounted (N.meaning files.now) asked.now (error_output (E.taken err.old) (E.taken err.new) (E.failed err.new))
-        (S.taken out.old) (S.taken out.new) (S.failed out.new)) }
-    ensures begun { OnErr result ((out.new ≡ out.old) ⊎ IsBegunTextOfCounted (N.meaning files.now) asked.now (S.taken out.old) (S.taken out.new)) }
-    ensures refusable { IfErr result (λ fault. IsMisuse fault → IsTooMuch (vec_len asked.now.names) asked.now.lanes) }
-    ensures unwritten { OnErr result (S.failed out.new ≡ false → out.new ≡ out.old) }
-    ensures refused { IfErr result (λ fault. IsMisuse fault → out.new ≡ out.old) }
-    ensures intact { OnErr result (E.failed err.new ≡ false) }
-{
-    let names = asked.names.as_slice();
-    let notes = FileNotes::new(rt.alloc(), names.len())?;
-    let meter = Meter::new(console, asked.progress, names.len());
-    let outcome = count(rt, asked, files, &meter, &notes, out);
-    meter.finish();
-    let flaws = outcome?;
-    let flaws = flaws.as_slice();
-    write_flaws(rt.alloc(), names, flaws, &notes, err);
-    Ok(status_of_flaws(flaws))
 }
 
 /// Writes the message of a fault, and returns its exit status. The reason is that of the output, if it failed.

@@ -9,18 +9,18 @@ ghost use Rattle.lanes.specs.Accepting.{AcceptsFiles};
 ghost use Rattle.collector.specs.Whole.{IsAllWritten, IsBegun};
 ghost use Rattle.commands.specs.TextRuns.{HasFailedBy, IsStreamed};
 
+use crate::runs::run_size;
 use collector::{Lines, Texts, line_lanes};
 use command_line::Fault;
 use common::Choice;
 use file_order::{KnownFiles, Pace};
 use lanes::{Consumer, Gate, LaneKind, Opener, Pauses, Run, RunFault, run_lanes};
-use reports::{MAX_FILES, Style};
-use ruled_lanes::LANES;
+use reports::Style;
 use std::alloc::Global;
 use std::marker::Brand;
 use std::sync::Wait;
 use std::thread::Threads;
-use streams::{BatchFault, Sink, SinkFault};
+use streams::{Sink, SinkFault};
 
 /// Answers all records of the first `files` files, streams the text to `sink`, and returns the exit status of the run.
 ///
@@ -62,6 +62,7 @@ pub fn write_batch<'r, R: Threads + Wait + Sync, O: Opener, G: Gate, S: Sink>(
     requires stands { S.failed sink.old ≡ false }
     ensures { IsStreamed choice (O.meaning opener.now) style.form files lanes S.taken S.failed sink.old sink.new result }
 {
+    run_size(files as usize, lanes)?;
     let pauses = Pauses::none();
     let run = Run {
         rt,
@@ -74,43 +75,31 @@ pub fn write_batch<'r, R: Threads + Wait + Sync, O: Opener, G: Gate, S: Sink>(
         capacity,
         choice,
     };
-    let text_run = TextRun {
-        run,
-        style,
-        waiting,
+    Ok(write_text(&run, style, waiting, sink)?)
+}
+
+/// Writes the text of a run in this style; the reading of later files pauses from `waiting` buffered bytes on.
+pub(crate) fn write_text<R: Threads + Wait + Sync, O: Opener, G: Gate, S: Sink>(
+    run: &Run<'_, R, O, G>,
+    style: Style,
+    waiting: usize,
+    sink: &mut S,
+) -> Result<u8, RunFault<SinkFault>>
+    requires stands { S.failed sink.old ≡ false }
+    requires few_files { run.now.files ≤ MAX_FILES }
+    requires some { 0 < run.now.lanes }
+    requires few { run.now.lanes ≤ LANES }
+    ensures written { IfOk result (IsAllWritten run.now.choice (O.meaning run.now.opener.now) style.form run.now.files (S.taken sink.old) (S.taken sink.new)) }
+    ensures begun { OnErr result ∥ IsBegun run.now.choice (O.meaning run.now.opener.now) style.form run.now.files (S.taken sink.old) (S.taken sink.new) ∥₁ }
+    ensures status { IfOk result (λ status. (status ≡ 0) ⊎ (status ≡ 3)) }
+    ensures stands { OnOk result (S.failed sink.new ≡ false) }
+    ensures failed { IfErr result (HasFailedBy (S.failed sink.new)) }
+{
+    let pace = Pace {
+        pauses: run.pauses,
+        most: waiting,
     };
-    text_run.write(sink)
-}
-
-/// A run whose output is streamed.
-#[derive(Drop)]
-pub(crate) struct TextRun<'r, R, O, G> {
-    pub(crate) run: Run<'r, R, O, G>,
-    /// The format of the lines, and the kind of their drawings.
-    pub(crate) style: Style,
-    /// The limit on buffered text of later files, in bytes, from which on their reading pauses.
-    pub(crate) waiting: usize,
-}
-
-impl<R: Threads + Wait + Sync, O: Opener, G: Gate> TextRun<'_, R, O, G> {
-    /// Streams the text of the run as `write_batch` does, and returns the exit status.
-    pub(crate) fn write<S: Sink>(&self, sink: &mut S) -> Result<u8, Fault>
-        requires stands { S.failed sink.old ≡ false }
-        ensures { IsStreamed self.now.run.choice (O.meaning self.now.run.opener.now) self.now.style.form self.now.run.files self.now.run.lanes
-            S.taken S.failed sink.old sink.new result }
-    {
-        if self.run.files > MAX_FILES {
-            return Err(Fault::Run(BatchFault::TooManyFiles));
-        }
-        if self.run.lanes == 0 || self.run.lanes > LANES {
-            return Err(Fault::Run(BatchFault::BadLanes));
-        }
-        let pace = Pace {
-            pauses: self.run.pauses,
-            most: self.waiting,
-        };
-        Ok(write_files::<Brand, _, _, _, _>(&self.run, self.style, pace, sink)?)
-    }
+    write_files::<Brand, _, _, _, _>(run, style, pace, sink)
 }
 
 /// Writes the text of a run in this style and at this pace. The type `J` represents what the files mean.

@@ -1,4 +1,5 @@
 pub mod Naming
 pub mod Readers
+pub mod Reasons
 pub mod Refused
 pub mod Sources

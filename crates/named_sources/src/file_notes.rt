@@ -1,5 +1,6 @@
 //! Notes on the files of a run while they are read: why a file failed, how it ended and its first bytes.
 ghost use Rattle.std.specs.Prelude.{◌≡◌, false, OnOk};
+ghost use Rattle.named_sources.specs.Reasons.{IsWhy};
 
 use crate::hints::{ending_of, hint_of, number_of};
 use crate::reason::Reason;
@@ -82,15 +83,19 @@ impl FileNote {
         hint_of(ending, front.as_slice())
     }
 
-    /// Why the file failed, or what format it has, after `: `; empty if nothing is known of that.
-    fn why(&self, alloc: Global) -> ShortLine {
+    /// Why the file failed, or what format it has, after `: `, in one line; empty if nothing is known of that.
+    fn why(&self, alloc: Global) -> ShortLine
+        ensures { IsWhy result.bytes }
+    {
         let mut why = ShortLine::new();
         if let Some(reason) = reason_of(self.failure.load(Ordering::SeqCst)) {
             let _ = write!(why, ": {reason}");
         } else if let Some(hint) = self.hint(alloc) {
             let _ = write!(why, ": {hint}");
         }
-        why
+        let text = why.as_str().as_bytes();
+        let is_one_line = text.starts_with(b": ") && !text.contains(&b'\n');
+        if is_one_line { why } else { ShortLine::new() }
     }
 }
 
@@ -140,8 +145,11 @@ impl FileNotes {
         }
     }
 
-    /// Why the file with this number, from 0, failed, or what format it has, after `: `; empty if that is not known.
-    pub fn why(&self, alloc: Global, file: usize) -> ShortLine {
+    /// Why the file with this number, from 0, failed, or what format it has, after `: `, in one line; empty if that is
+    /// not known.
+    pub fn why(&self, alloc: Global, file: usize) -> ShortLine
+        ensures { IsWhy result.bytes }
+    {
         match self.notes.get(file) {
             Some(note) => note.why(alloc),
             None => ShortLine::new(),

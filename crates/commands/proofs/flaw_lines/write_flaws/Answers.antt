@@ -2,6 +2,7 @@ use Rattle.std.proofs.Common.{◌≡◌, ◌≤◌, ◌∷◌, ◌++◌, ◌+◌
 use Rattle.std.proofs.lemmas.List.{drop_more}
 use Rattle.streams.proofs.Sinks.{added_both, added_none}
 use Rattle.collector.specs.declared.flaws.Flaws.{Flaws}
+use Rattle.named_sources.specs.Reasons.{IsWhy}
 use Rattle.commands.specs.FlawLines.{lines_of_file}
 use Rattle.commands.proofs.FlawTexts.{flaws_end, lines_next, names_end}
 use Rattle.commands.proofs.flaw_lines.write_flaws.Goals as goal
@@ -28,7 +29,7 @@ loop-name-preserved g c =
       told = (
         before.0 ++ lines_of_file name.now lacking c.as_str.result.now,
         added_both _ _ _ _ _ before.1 c.in-Ok.ensures.added,
-        lines_next names flaws i name lacking c.as_str.result.now before.0 (drop_more names i d c.loop-name-test.true)
+        lines_next names flaws i name lacking c.as_str.result.now before.0 (subst IsWhy (sym c.as_str.ensures.value) c.why-why.ensures) (drop_more names i d c.loop-name-test.true)
             (subst (λ (k : ℕ). drop k flaws ≡ lacking ∷ drop (k + 1) flaws) c.loop-name.invariant.place here) before.2,
       );
     }

@@ -15,6 +15,7 @@ returns-in-Ok-clause-outcome g c =
             failed_write = is.failed_write;
             refused = is.refused;
             refusable = is.refusable;
+            too_much = is.too_much;
             for_terminal = is.for_terminal;
             version = is.version;
             help = is.help;

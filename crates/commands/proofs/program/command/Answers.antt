@@ -1,8 +1,7 @@
-use Rattle.std.proofs.Common.{◌∙◌, ℕ, inr, sym, refl, subst, codes, true≢false}
+use Rattle.std.proofs.Common.{◌∙◌, inr, sym, refl, codes, true≢false}
 use Rattle.command_line.proofs.Asking.{no_help_asked, one_beginning, pick_begins, version_begins}
-use Rattle.commands.specs.Statuses.{IsDone, error_output}
-use Rattle.commands.proofs.Judged.{judged_for, written_of}
-use Rattle.commands.proofs.Refusing.{each_refusable, of_records}
+use Rattle.commands.proofs.Judged.{judged_for}
+use Rattle.commands.proofs.Refusing.{each_refusable, no_request, of_records}
 use Rattle.commands.proofs.program.command.Goals as goal
 
 pub returns-in-Ok-clause-judged : goal.returns-in-Ok-clause-judged
@@ -24,9 +23,11 @@ returns-in-Ok-clause-for_terminal g c = λ terminal pick help.
     let both = c.perform.ensures.for_terminal terminal (of_records _ c.in-Ok.request pick c.in-Ok.ensures.asked) in
     (both.0, inr both.1)
 
-pub returns-in-Ok-clause-written : goal.returns-in-Ok-clause-written
-returns-in-Ok-clause-written g c = λ three.
-    let err = error_output (g.E.Sink.taken c.args.err.now) (g.E.Sink.taken c.perform.new.err) (g.E.Sink.failed c.perform.new.err) in
-    written_of (g.N.NamedFiles.meaning c.args.files.now) c.in-Ok.request err (g.S.Sink.taken c.args.out.now) (g.S.Sink.taken c.perform.new.out) (g.S.Sink.failed c.perform.new.out)
-    (subst (λ (s : ℕ). IsDone (g.N.NamedFiles.meaning c.args.files.now) c.in-Ok.request err (g.S.Sink.taken c.args.out.now) (g.S.Sink.taken c.perform.new.out) (g.S.Sink.failed c.perform.new.out) s)
-    three (c.perform.ensures.done (inr three)))
+pub returns-then-asks-clause-too_much : goal.returns-then-asks-clause-too_much
+returns-then-asks-clause-too_much g c = λ request asked refusable.
+    absurd (no_request c.args.words.now (sym c.asks.ensures ∙ c.if-asks.true) request asked)
+
+pub returns-in-Ok-clause-too_much : goal.returns-in-Ok-clause-too_much
+returns-in-Ok-clause-too_much g c = λ request asked refusable.
+    let two = c.perform.ensures.too_much (each_refusable _ _ request c.in-Ok.request asked refusable c.in-Ok.ensures.asked) in
+    (c.perform.ensures.refused two, inr two)
