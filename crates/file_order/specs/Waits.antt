@@ -22,6 +22,12 @@ pub record GetsLine (line : List ℕ) (before after : Waiting) : Type 0 where
   pub count : after.count ≡ before.count
   pub mark : after.mark ≡ before.mark
 
+-- one more entry is counted, and this text of it is buffered
+pub record TakesIn (text : List ℕ) (before after : Waiting) : Type 0 where
+  pub lines : after.lines ≡ before.lines ++ text
+  pub count : after.count ≡ before.count + 1
+  pub mark : after.mark ≡ before.mark
+
 -- there was no mark, and now it is this one; and this many entries have arrived
 pub record GetsMark (many : ℕ) (given : Mark) (before after : Waiting) : Type 0 where
   pub lines : after.lines ≡ before.lines
