@@ -21,7 +21,6 @@ mod read_message;
 mod run;
 mod run_lines;
 mod texts;
-mod writing;
 
 pub use answers::{Answer, Cause, Entry, answer};
 pub use common::{Choice, DrawingKind};

@@ -175,7 +175,7 @@ impl<S: Sink, J: KnownFiles + Send + Sync> Consumer<FoundFacts<J>, KnownEnd<J>>
 
     fn item(&mut self, item: FoundFacts<J>) -> Result<(), RunFault<SinkFault>> {
         let taken = self.picks.item(self.alloc, self.sink, item);
-        self.picks.keep_pace(&self.pace, taken.is_ok());
+        self.picks.order.keep_pace(&self.pace, taken.is_ok());
         taken
     }
 
@@ -186,17 +186,17 @@ impl<S: Sink, J: KnownFiles + Send + Sync> Consumer<FoundFacts<J>, KnownEnd<J>>
         known: KnownEnd<J>,
     ) -> Result<(), RunFault<SinkFault>> {
         let taken = self.picks.end(self.alloc, self.sink, file, mark, known);
-        self.picks.keep_pace(&self.pace, taken.is_ok());
+        self.picks.order.keep_pace(&self.pace, taken.is_ok());
         taken
     }
 
     fn is_flushed(&self) -> bool {
-        self.picks.is_flushed()
+        self.picks.order.is_flushed()
     }
 
     fn flush(&mut self) -> Result<(), RunFault<SinkFault>> {
         let flushed = self.picks.flush(self.sink);
-        self.picks.keep_pace(&self.pace, flushed.is_ok());
+        self.picks.order.keep_pace(&self.pace, flushed.is_ok());
         flushed
     }
 

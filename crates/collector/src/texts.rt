@@ -94,7 +94,7 @@ impl<S: Sink, J: KnownFiles + Send + Sync> Consumer<Printed<J>, KnownEnd<J>>
 
     fn item(&mut self, item: Printed<J>) -> Result<(), RunFault<SinkFault>> {
         let taken = self.lines.line(self.alloc, self.sink, item);
-        self.lines.keep_pace(&self.pace, taken.is_ok());
+        self.lines.order.keep_pace(&self.pace, taken.is_ok());
         taken
     }
 
@@ -105,17 +105,17 @@ impl<S: Sink, J: KnownFiles + Send + Sync> Consumer<Printed<J>, KnownEnd<J>>
         known: KnownEnd<J>,
     ) -> Result<(), RunFault<SinkFault>> {
         let taken = self.lines.end(self.alloc, self.sink, file, mark, known);
-        self.lines.keep_pace(&self.pace, taken.is_ok());
+        self.lines.order.keep_pace(&self.pace, taken.is_ok());
         taken
     }
 
     fn is_flushed(&self) -> bool {
-        self.lines.is_flushed()
+        self.lines.order.is_flushed()
     }
 
     fn flush(&mut self) -> Result<(), RunFault<SinkFault>> {
         let flushed = self.lines.flush(self.sink);
-        self.lines.keep_pace(&self.pace, flushed.is_ok());
+        self.lines.order.keep_pace(&self.pace, flushed.is_ok());
         flushed
     }
 

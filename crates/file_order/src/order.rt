@@ -6,7 +6,7 @@ ghost use Rattle.streams.specs.Sink.{AppendsPrefix};
 ghost use Rattle.lanes.specs.Opening.{IsEndAt};
 ghost use Rattle.file_order.specs.declared.waiting.Waiting.{Waiting};
 ghost use Rattle.file_order.specs.FileOrder.{HasEnd, IsBegun, StaysAt, goes_on, is_kept};
-ghost use Rattle.file_order.specs.Waits.{ChangesAt, GetsMark, IsNext, IsTaken, TakesIn};
+ghost use Rattle.file_order.specs.Waits.{ChangesAt, GetsMark, IsNext, IsTaken, IsUnmarked, TakesIn};
 ghost use Rattle.file_order.specs.Writing.{GoesOn, IsPartlyAdded, TellsFailure};
 
 use crate::known_files::{KnownEnd, KnownFiles};
@@ -77,7 +77,7 @@ impl FileOrder {
         if goes_on {
             pace.keep(self.held, self.current, self.waiting.as_slice());
         } else {
-            pace.give_up();
+            pace.pauses.lift();
         }
     }
 
@@ -136,7 +136,8 @@ impl FileOrder {
     ///
     /// # Errors
     ///
-    /// `LaneLost` if it has ended, or if `known` is not its end with this mark after the entries that have arrived.
+    /// `LaneLost` if it has ended, or if `known` is not its end with this mark after the entries that have arrived. There
+    /// is no other error.
     pub fn keep_end<J: KnownFiles>(
         &mut self,
         file: u32,
@@ -145,6 +146,8 @@ impl FileOrder {
     ) -> Result<(), RunFault<SinkFault>>
         ensures open { OnOk result ((self.old.current ≤ file) × (file < length self.old.waiting)) }
         ensures kept { OnOk result (ChangesAt file (GetsMark known.count mark) self.old.waiting self.new.waiting) }
+        ensures due { known.file ≡ file → known.mark ≡ mark → self.old.current ≤ file → file < length self.old.waiting
+            → ((other : Waiting) → IsUnmarked known.count (slice_index_or self.old.waiting file other)) → result ≡ Ok tt }
         ensures is_end { OnOk result ∥ IsEndAt (J.meaning file) known.count mark ∥₁ }
         ensures astray { IfErr result (λ fault. fault ≡ RunFault.LaneLost) }
         ensures same { self.new ≡ record self.old { waiting = self.new.waiting } }
@@ -153,11 +156,7 @@ impl FileOrder {
         if known.file != file || known.mark != mark || !self.is_to_come(file) {
             return Err(RunFault::LaneLost);
         }
-        if keep_mark(&mut self.waiting, file, known.count, mark) {
-            Ok(())
-        } else {
-            Err(RunFault::LaneLost)
-        }
+        keep_mark(&mut self.waiting, file, known.count, mark)
     }
 
     /// The end of the current file, if it has ended.
@@ -167,18 +166,12 @@ impl FileOrder {
         ensures unended { result ≡ None → (other : Waiting) → self.now.current < length self.now.waiting
             → (slice_index_or self.now.waiting self.now.current other).mark ≡ None }
     {
-        let place = self.current as usize;
-        if place >= self.waiting.len() {
-            return None;
-        }
-        let here = &self.waiting[place];
-        match here.mark {
-            Some(mark) => Some(SourceEnd {
-                count: here.count,
-                mark,
-            }),
-            None => None,
-        }
+        let here = self.waiting.get(self.current as usize)?;
+        let mark = here.mark?;
+        Some(SourceEnd {
+            count: here.count,
+            mark,
+        })
     }
 
     /// Moves on to the next file, and returns whether it is one of the run.

@@ -1,5 +1,5 @@
 //! Buffered lines of files that are not current yet.
-ghost use Rattle.std.specs.Prelude.{◌≡◌, ◌<◌, IfOk, IfErr, OnOk, All, length, IsTrue, slice_index_or};
+ghost use Rattle.std.specs.Prelude.{◌≡◌, ◌<◌, IfOk, IfErr, OnOk, All, length, slice_index_or};
 ghost use Rattle.file_order.specs.Waits.{ChangesAt, IsNothing, IsCountedOne, GetsLine, GetsMark, IsTaken, IsUnmarked};
 
 use crate::chunks::Chunks;
@@ -20,7 +20,7 @@ pub struct Waiting {
 }
 
 /// The state of each of `files` files, of which nothing has arrived.
-pub fn none_come(alloc: Global, files: u32) -> Result<Vec<Waiting>, AllocError>
+pub(crate) fn none_come(alloc: Global, files: u32) -> Result<Vec<Waiting>, AllocError>
     ensures count { IfOk result (λ waiting. length waiting.items ≡ files) }
     ensures empty { IfOk result (λ waiting. All IsNothing waiting.items) }
 {
@@ -36,7 +36,7 @@ pub fn none_come(alloc: Global, files: u32) -> Result<Vec<Waiting>, AllocError>
 }
 
 /// Counts one more entry of a file. `LaneLost` if there are too many to count.
-pub fn count_one(waiting: &mut Vec<Waiting>, file: u32) -> Result<(), RunFault<SinkFault>>
+pub(crate) fn count_one(waiting: &mut Vec<Waiting>, file: u32) -> Result<(), RunFault<SinkFault>>
     requires { file < length waiting.old.items }
     ensures count { length waiting.new.items ≡ length waiting.old.items }
     ensures counted { OnOk result (ChangesAt file IsCountedOne waiting.old.items waiting.new.items) }
@@ -53,7 +53,7 @@ pub fn count_one(waiting: &mut Vec<Waiting>, file: u32) -> Result<(), RunFault<S
 }
 
 /// Buffers a line of a file, and returns how many bytes of memory that took. `Memory` if there is no memory for it.
-pub fn keep_line(
+pub(crate) fn keep_line(
     alloc: Global,
     waiting: &mut Vec<Waiting>,
     file: u32,
@@ -65,29 +65,32 @@ pub fn keep_line(
     ensures memory { IfErr result (λ fault. fault ≡ RunFault.Memory) }
 {
     let here = &mut waiting[file as usize];
-    match here.lines.push(alloc, line) {
-        Ok(more) => Ok(more),
-        Err(_) => Err(RunFault::Memory),
-    }
+    Ok(here.lines.push(alloc, line)?)
 }
 
-/// Keeps the mark of a file, and returns true, if it has none yet and `count` of its entries have arrived.
-pub fn keep_mark(waiting: &mut Vec<Waiting>, file: u32, count: u32, mark: Mark) -> bool
+/// Keeps the mark of a file. `LaneLost` if it has one, or if not `count` of its entries have arrived.
+pub(crate) fn keep_mark(
+    waiting: &mut Vec<Waiting>,
+    file: u32,
+    count: u32,
+    mark: Mark,
+) -> Result<(), RunFault<SinkFault>>
     requires { file < length waiting.old.items }
     ensures count { length waiting.new.items ≡ length waiting.old.items }
-    ensures kept { IsTrue result → ChangesAt file (GetsMark count mark) waiting.old.items waiting.new.items }
-    ensures due { ((other : Waiting) → IsUnmarked count (slice_index_or waiting.old.items file other)) → IsTrue result }
+    ensures kept { OnOk result (ChangesAt file (GetsMark count mark) waiting.old.items waiting.new.items) }
+    ensures due { ((other : Waiting) → IsUnmarked count (slice_index_or waiting.old.items file other)) → result ≡ Ok tt }
+    ensures astray { IfErr result (λ fault. fault ≡ RunFault.LaneLost) }
 {
     let here = &mut waiting[file as usize];
     if here.mark.is_some() || here.count != count {
-        return false;
+        return Err(RunFault::LaneLost);
     }
     here.mark = Some(mark);
-    true
+    Ok(())
 }
 
 /// Takes out the buffered lines of a file.
-pub fn take_lines(alloc: Global, waiting: &mut Vec<Waiting>, file: u32) -> Chunks
+pub(crate) fn take_lines(alloc: Global, waiting: &mut Vec<Waiting>, file: u32) -> Chunks
     requires { file < length waiting.old.items }
     ensures count { length waiting.new.items ≡ length waiting.old.items }
     ensures lines { (other : Waiting) → result ≡ (slice_index_or waiting.old.items file other).lines }

@@ -25,6 +25,6 @@ returns-in_err-step-clause-partial g c =
     let inv = c.loop-alloc.invariant in
     let new = g.S.Sink.taken c.step.new.sink in
     err_any c.from_residual.result (λ start arrived was.
-    subst (λ s. IsPartOfPicked s start new (length self.waiting.items) arrived) inv.same.selection
+    subst (λ s. IsPartOfPicked s start new (length self.order.waiting) arrived) inv.same.selection
     (subst (λ n. IsPartOfPicked at.selection start new n arrived) inv.same.files
     (c.in_err-step.ensures.partial start arrived (inv.written start arrived was))))

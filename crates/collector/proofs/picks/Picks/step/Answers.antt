@@ -1,35 +1,33 @@
-use Rattle.std.proofs.Common.{◌≡◌, ◌+◌, ◌<◌, ◌≤◌, length, rules, arith}
-use Rattle.file_order.proofs.SucceedsOrFails.{ok_then, err_then}
-use Rattle.file_order.proofs.Waits.{some_waiting}
+use Rattle.std.proofs.Common.{◌+◌, ◌≤◌, length}
+use Rattle.file_order.proofs.SucceedsOrFails.{ok_then, err_then, err_any}
+use Rattle.collector.proofs.Moving.{no_more}
 use Rattle.collector.proofs.PickedText.{picked_next, picked_over, part_here, part_next}
 use Rattle.collector.proofs.picks.Picks.step.Goals as goal
+
+pub returns-in_err-go_on-clause-partial : goal.returns-in_err-go_on-clause-partial
+returns-in_err-go_on-clause-partial g c =
+    let self = c.args.self.now in
+    err_any c.from_residual.result (λ start arrived was.
+    part_here self.selection start (g.S.Sink.taken c.args.sink.now) self.order.buffer self.order.current self.order.waiting arrived was)
+
+pub returns-then-not-branch-clause-written : goal.returns-then-not-branch-clause-written
+returns-then-not-branch-clause-written g c =
+    let self = c.args.self.now in
+    let past : length self.order.waiting ≤ self.order.current + 1 =
+    no_more c.in_ok-go_on.field-0 (self.order.current + 1) (length self.order.waiting) c.if-not-branch.true c.in_ok-go_on.ensures.more in
+    λ start arrived was.
+    picked_over self.selection start (g.S.Sink.taken c.args.sink.now) self.order c.go_on.new.self arrived c.in_ok-go_on.ensures.next c.requires.below past was
 
 pub returns-clause-written : goal.returns-clause-written
 returns-clause-written g c =
     let self = c.args.self.now in
-    let next_is : c.in-Some.next ≡ self.current + 1 = search rules in
-    let below : c.in-Some.next < length self.waiting.items = search rules in
-    ok_then c.put.result c.put.ensures.put (λ goes start arrived was.
-    picked_next self.selection start (g.S.Sink.taken c.args.sink.now) (g.S.Sink.taken c.put.new.sink) self.buffer c.put.new.buffer self.current c.in-Some.next self.waiting.items c.take_lines-lines.new.waiting.items
-    arrived c.take_lines-lines.result next_is below c.take_lines-lines.ensures.lines c.take_lines-lines.ensures.taken goes (some_waiting self.waiting.items c.in-Some.next below) was)
-
-pub returns-then-next-len-clause-written : goal.returns-then-next-len-clause-written
-returns-then-next-len-clause-written g c = λ start arrived was.
-    let self = c.args.self.now in
-    let next_is : c.in-Some.next ≡ self.current + 1 = search rules in
-    let past : length self.waiting.items ≤ c.in-Some.next = search rules in
-    picked_over self.selection start (g.S.Sink.taken c.args.sink.now) self.buffer self.current c.in-Some.next self.waiting.items arrived next_is c.requires.below past was
-
-pub returns-in_default-clause-partial : goal.returns-in_default-clause-partial
-returns-in_default-clause-partial g c = λ start arrived was.
-    let self = c.args.self.now in
-    part_here self.selection start (g.S.Sink.taken c.args.sink.now) self.buffer self.current self.waiting.items arrived was
+    ok_then c.begin.result c.begin.ensures.goes_on (λ gone start arrived was.
+    picked_next self.selection start (g.S.Sink.taken c.args.sink.now) (g.S.Sink.taken c.begin.new.sink) self.order c.go_on.new.self c.begin.new.self arrived
+    c.in_ok-go_on.ensures.next (c.in_ok-go_on.ensures.more.0 c.if-not-branch.false) c.begin.ensures.taken gone c.begin.ensures.current was)
 
 pub returns-clause-partial : goal.returns-clause-partial
 returns-clause-partial g c =
     let self = c.args.self.now in
-    let next_is : c.in-Some.next ≡ self.current + 1 = search rules in
-    let below : c.in-Some.next < length self.waiting.items = search rules in
-    err_then c.put.result c.put.ensures.partial (λ breaks start arrived was.
-    part_next self.selection start (g.S.Sink.taken c.args.sink.now) (g.S.Sink.taken c.put.new.sink) self.buffer self.current c.in-Some.next self.waiting.items
-    arrived c.take_lines-lines.result next_is below c.take_lines-lines.ensures.lines breaks (some_waiting self.waiting.items c.in-Some.next below) was)
+    err_then c.begin.result c.begin.ensures.partial (λ partial start arrived was.
+    part_next self.selection start (g.S.Sink.taken c.args.sink.now) (g.S.Sink.taken c.begin.new.sink) self.order c.go_on.new.self arrived
+    c.in_ok-go_on.ensures.next (c.in_ok-go_on.ensures.more.0 c.if-not-branch.false) partial was)
