@@ -16,6 +16,7 @@ use Rattle.streams.specs.declared.form.Form.{Form}
 use Rattle.streams.specs.declared.form.Form.TheVariants.{Report, Json}
 use Rattle.collector.specs.FormLines.{preamble_in}
 use Rattle.file_order.specs.declared.waiting.Waiting.{Waiting}
+use Rattle.file_order.specs.FileOrder.{OrderModel}
 use Rattle.collector.specs.declared.run_lines.Lines.{Lines}
 use Rattle.collector.specs.Came.{Came, HasEntryMore, HasMarkMore, IsFlawlessSoFar, nothing}
 use Rattle.file_order.specs.Waits.{IsNothing}
@@ -238,7 +239,7 @@ in_transit_put start old new buffer text put way = record {
   added = added_both start old new way.sent buffer way.added put;
 }
 
-pub held_flushed : (choice : Choice) (meaning : ℕ → Meaning) (form : Form) (start old new : Option (List ℕ)) (buffer : List ℕ) (current : ℕ) (waiting : List Waiting) (flawless : Bool) (ns : List Note)
+held_flushed : (choice : Choice) (meaning : ℕ → Meaning) (form : Form) (start old new : Option (List ℕ)) (buffer : List ℕ) (current : ℕ) (waiting : List Waiting) (flawless : Bool) (ns : List Note)
     → Appends old new buffer → HoldsNotes choice meaning form start old buffer current waiting flawless ns → HoldsNotes choice meaning form start new [] current waiting flawless ns
 held_flushed choice meaning form start old new buffer current waiting flawless ns put held =
     let was = held.written in
@@ -257,3 +258,16 @@ held_flushed choice meaning form start old new buffer current waiting flawless n
       unended = held.unended;
       all_flawless = held.all_flawless;
     }
+
+-- what was in transit was put into the sink
+pub flushed_lines : (meaning : ℕ → Meaning) (start old new : Option (List ℕ)) (lines : Lines) (order : OrderModel) (ns : List Note) → Appends old new lines.order.buffer → order ≡ record lines.order { buffer = [] }
+    → LinesHold meaning start old lines ns → LinesHold meaning start new (record lines { order = order }) ns
+flushed_lines meaning start old new lines order ns put flushed held =
+    subst (λ o. LinesHold meaning start new (record lines { order = o }) ns) (sym flushed)
+    (held_flushed lines.choice meaning lines.form start old new lines.order.buffer lines.order.current lines.order.waiting lines.flawless ns put held)
+
+pub left_off_flushed : (meaning : ℕ → Meaning) (start old new : Option (List ℕ)) (lines : Lines) (order : OrderModel) (ns : List Note) → length order.waiting ≡ length lines.order.waiting
+    → AppendsPrefix old new lines.order.buffer → LinesHold meaning start old lines ns → ArePartialLines meaning start new (record lines { order = order }) ns
+left_off_flushed meaning start old new lines order ns files put held =
+    let after : Lines = record lines { order = order } in
+    left_off_as meaning start new lines after ns (record { form = refl; choice = refl; files = files }) (left_off_finish meaning start old new lines ns put held)

@@ -10,9 +10,19 @@ use Rattle.file_order.specs.declared.waiting.Waiting.{Waiting}
 use Rattle.collector.specs.Came.{Came, HasMark}
 use Rattle.file_order.specs.FileOrder.{HasEnd, OrderModel}
 use Rattle.file_order.specs.Waits.{ChangesAt, IsTaken}
-use Rattle.collector.specs.Written.{begun, last_in, ended, ended_texts, IsCounted, AreWritten, AreRemaining}
+use Rattle.collector.specs.Written.{begun, last_in, ended, ended_texts, IsCounted, AreWritten}
 use Rattle.file_order.specs.Writing.{GoesOn}
 use Rattle.file_order.proofs.Waits.{after_change, some_waiting}
+
+-- The texts of the files before the current file are in transit, and nothing of the current file: what has arrived of
+-- it is still buffered, as is what has arrived of the files after it.
+pub record AreRemaining (form : Form) (start now : Option (List ℕ)) (buffer : List ℕ) (current : ℕ) (waiting : List Waiting) (came : ℕ → Came) : Type 0 where
+  pub within : current ≤ length waiting
+  pub marked : (file : ℕ) → file < current → HasMark (came file)
+  pub counted : (file : ℕ) (other : Waiting) → current ≤ file → file < length waiting → IsCounted (get_or waiting file other) (came file)
+  pub lines : (file : ℕ) (other : Waiting) → current ≤ file → file < length waiting
+      → (get_or waiting file other).lines ≡ lines_in form (came file).entries
+  pub text : IsInTransit start now buffer (ended_texts form came current)
 
 -- where a test says that there is no file more
 pub no_more : (more : Bool) (m n : ℕ) → more ≡ false → (IsTrue more ↔ (m < n)) → n ≤ m

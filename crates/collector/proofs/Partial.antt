@@ -1,28 +1,21 @@
 -- What was added to a sink where the text was left off.
-use Rattle.std.proofs.Common.{◌≡◌, ℕ, ◌+◌, ◌==◌, ◌<◌, ◌≤◌, List, [], ◌++◌, length, Option, Some, inl, inr, refl, sym, ap, subst, ◌∙◌, arith, append_assoc, append-nil, get_or, Bool, true, false, Err, ◌⊎◌, if◌then◌else◌}
+use Rattle.std.proofs.Common.{◌≡◌, ℕ, ◌+◌, ◌<◌, ◌≤◌, List, [], ◌++◌, length, Option, inl, inr, refl, sym, ap, subst, ◌∙◌, arith, append_assoc, append-nil, get_or, Bool, ◌⊎◌, if◌then◌else◌}
 use Rattle.std.proofs.lemmas.Bool.{cases_lt, cases_eq, eq-eqb, ne_eqb}
-use Rattle.streams.specs.Sink.{AppendsPrefix, IsInTransit, Writes}
+use Rattle.streams.specs.Sink.{AppendsPrefix, IsInTransit}
 use Rattle.streams.specs.FrameLines.{added_both}
-use Rattle.streams.specs.declared.faults.WriteFault.{WriteFault}
-use Rattle.streams.specs.declared.faults.WriteFault.TheVariants.{Write, Memory}
 use Rattle.reports.specs.declared.entry.Entry.{Entry}
 use Rattle.streams.specs.declared.form.Form.{Form}
 use Rattle.collector.specs.FormLines.{line_in, preamble_in, lines_in, end_in}
 use Rattle.streams.specs.declared.reading.SourceEnd.{SourceEnd}
 use Rattle.file_order.specs.declared.waiting.Waiting.{Waiting}
 use Rattle.collector.specs.Came.{Came, HasMark, HasEntryMore}
-use Rattle.collector.specs.Written.{begun, ended_texts, AreWritten, AreRemaining, IsPartialText}
+use Rattle.collector.specs.Written.{begun, ended_texts, AreWritten, IsPartialText}
 use Rattle.file_order.specs.FileOrder.{HasEnd, OrderModel, goes_on}
 use Rattle.file_order.specs.Writing.{GoesOn, IsPartlyAdded}
 use Rattle.file_order.proofs.Waits.{some_waiting}
 use Rattle.file_order.proofs.Prefixes.{appends_longer, way_front}
 use Rattle.collector.proofs.Adding.{current_more}
-use Rattle.collector.proofs.Moving.{marked_next, current_told, ended_more}
-
--- where a write failed
-pub writes_front : (A : Type 0) (old new : Option (List ℕ)) (text : List ℕ) (failed : Bool) (e : WriteFault) → Writes {A = A} old new failed text (Err e) → AppendsPrefix old new text
-writes_front A old new text failed Write writes = writes.1
-writes_front A old new text failed Memory writes = absurd writes
+use Rattle.collector.proofs.Moving.{AreRemaining, marked_next, current_told, ended_more}
 
 -- of the files below this one all was on its way, and they have ended
 pub partial_at : (form : Form) (start now : Option (List ℕ)) (came : ℕ → Came) (n files : ℕ) → n ≤ files → ((k : ℕ) → k < n → HasMark (came k))

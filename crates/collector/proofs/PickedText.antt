@@ -7,7 +7,6 @@ use Rattle.planar_code.specs.declared.TheConstants.{HEADER}
 use Rattle.streams.specs.declared.frames.Mark.{Mark}
 use Rattle.streams.specs.Sink.{AppendsPrefix, IsInTransit}
 use Rattle.streams.specs.FrameLines.{added_none, added_both}
-use Rattle.reports.specs.declared.entry.Entry.{Entry}
 use Rattle.file_order.specs.declared.waiting.Waiting.{Waiting}
 use Rattle.collector.specs.Came.{Came}
 use Rattle.file_order.specs.FileOrder.{OrderModel, StaysAt, goes_on, is_kept}
@@ -20,7 +19,7 @@ use Rattle.file_order.proofs.Waits.{after_change, some_waiting}
 use Rattle.graph_facts.specs.declared.selecting.Selection.{Selection}
 use Rattle.collector.specs.FactBooks.{FactEntry}
 use Rattle.collector.specs.Picked.{picked_in, picked_of}
-use Rattle.collector.specs.Arrived.{Arrived, none_arrived, HasEntryMore, HasEndMore, record_of, records_of, picked_up_to}
+use Rattle.collector.specs.Arrived.{Arrived, none_arrived, HasEntryMore, HasEndMore, record_of, picked_up_to}
 use Rattle.collector.specs.PicksHolding.{ArePicked, IsPartOfPicked}
 use Rattle.collector.proofs.Arriving.{all_records, records_more, records_ended}
 

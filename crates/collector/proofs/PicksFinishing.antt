@@ -1,5 +1,5 @@
 -- What is held of all notes of a run are the books of its files; and of some notes, a beginning of them.
-use Rattle.std.proofs.Common.{◌≡◌, ◌≢◌, ℕ, zero, suc, ◌+◌, ◌<◌, ◌≤◌, List, [], ◌∷◌, ◌++◌, map, length, get_or, Option, None, Some, inl, inr, refl, sym, ap, subst, ◌∙◌, arith, append_assoc, append-nil, length-append}
+use Rattle.std.proofs.Common.{◌≡◌, ℕ, zero, suc, ◌+◌, ◌<◌, ◌≤◌, List, [], ◌∷◌, ◌++◌, map, length, get_or, Option, Some, inl, inr, refl, sym, ap, subst, ◌∙◌, arith, append-nil, length-append}
 use Rattle.std.proofs.Math.Logic.{∥∥₁_map}
 use Rattle.std.proofs.lemmas.Bool.{cases_lt}
 use Rattle.std.proofs.lemmas.Grind.{merely}
@@ -8,16 +8,15 @@ use Rattle.std.proofs.lemmas.List.Concat.{flat_map-append}
 use Rattle.std.specs.Io.KnownBytes.{Appends}
 use Rattle.std.specs.List.{flat_map}
 use Rattle.planar_code.specs.declared.TheConstants.{HEADER}
-use Rattle.streams.specs.declared.frames.Mark.{Mark}
 use Rattle.streams.specs.FrameLines.{added_both, added_none}
 use Rattle.streams.specs.Sink.{AppendsPrefix}
 use Rattle.common.specs.declared.choice.Choice.{Choice}
-use Rattle.lanes.specs.Notes.{About, Note, numbered}
+use Rattle.lanes.specs.Notes.{Note}
 use Rattle.lanes.specs.Opening.{Meaning, IsFoundAt}
 use Rattle.lanes.specs.Files.{HasFile, AreToldWhole}
 use Rattle.reports.specs.declared.entry.Entry.{Entry}
 use Rattle.reports.specs.Abouts as reported
-use Rattle.collector.specs.Came.{Came, IsToldByNotes, mark_or_memory}
+use Rattle.collector.specs.Came.{IsToldByNotes, mark_or_memory}
 use Rattle.collector.specs.Orders.{IsInOrder}
 use Rattle.collector.proofs.Finishing.{book_told, mark_told}
 use Rattle.collector.proofs.Ordering.{found_come, order_none}

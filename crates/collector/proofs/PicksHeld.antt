@@ -1,28 +1,27 @@
 -- What picks hold after one message more.
-use Rattle.std.proofs.Common.{◌≡◌, ◌≢◌, ℕ, suc, ◌+◌, ◌<◌, ◌≤◌, List, [], ◌∷◌, ◌++◌, length, get_or, Option, None, All, inl, inr, refl, sym, ap, subst, ◌∙◌, arith, append-nil}
+use Rattle.std.proofs.Common.{◌≡◌, ◌≢◌, ℕ, ◌+◌, ◌<◌, List, [], ◌∷◌, ◌++◌, length, get_or, Option, None, All, inl, inr, refl, sym, ap, subst, ◌∙◌, arith, append-nil}
 use Rattle.std.proofs.lemmas.Bool.{cases_eq}
 use Rattle.std.proofs.lemmas.List.{length-map}
 use Rattle.std.specs.Io.KnownBytes.{Appends}
 use Rattle.planar_code.specs.declared.TheConstants.{HEADER}
 use Rattle.streams.specs.declared.frames.Mark.{Mark}
 use Rattle.streams.specs.FrameLines.{added_both}
-use Rattle.streams.specs.Sink.{AppendsPrefix, IsInTransit}
+use Rattle.streams.specs.Sink.{AppendsPrefix}
 use Rattle.common.specs.declared.choice.Choice.{Choice}
 use Rattle.lanes.specs.Notes.{Note, Item, End}
 use Rattle.lanes.specs.Opening.{Meaning, IsEndAt}
 use Rattle.answers.specs.Spelt.{IsSpelt}
 use Rattle.file_order.specs.declared.waiting.Waiting.{Waiting}
+use Rattle.file_order.specs.FileOrder.{OrderModel}
 use Rattle.collector.specs.Orders.{IsKnownAt, IsInOrder}
 use Rattle.file_order.specs.Waits.{IsNext}
-use Rattle.file_order.specs.Waits.{ChangesAt, GetsMark, IsNothing}
+use Rattle.file_order.specs.Waits.{IsNothing}
 use Rattle.file_order.proofs.Waits.{some_waiting}
-use Rattle.graph_facts.specs.declared.selecting.Selection.{Selection}
 use Rattle.collector.specs.declared.flaws.Flaws.{Flaws}
 use Rattle.collector.specs.declared.picks.Picks.{Picks}
 use Rattle.collector.specs.FactBooks.{FactEntry, flaws_of}
-use Rattle.collector.specs.Picked.{picked_of}
-use Rattle.collector.specs.Arrived.{Arrived, none_arrived, HasEntryMore, HasEndMore, book_so_far, record_of, records_of, flaws_with, picked_up_to}
-use Rattle.collector.specs.PicksHolding.{AreArrived, ArePicked, ArePicksOf, IsPartOfPicked, IsPartlyPicked, PicksHold, PicksPartly, PicksWrite, files_of}
+use Rattle.collector.specs.Arrived.{Arrived, none_arrived, HasEntryMore, HasEndMore, book_so_far, record_of, records_of, flaws_with}
+use Rattle.collector.specs.PicksHolding.{AreArrived, ArePicked, ArePicksOf, IsPartOfPicked, PicksHold, PicksPartly, PicksWrite, files_of}
 use Rattle.collector.proofs.Arriving.{ComesNext, entry_more, has_entry_more, end_more, has_end_more, ordered_item, ordered_end, arrived_item, arrived_end, arrived_none}
 use Rattle.collector.proofs.PickedText.{part_here, part_flushed, picked_none}
 
@@ -58,7 +57,7 @@ left_off_flushed meaning start old new before after ns same put held =
     (part_flushed before.selection start old new before.order.buffer before.order.current before.order.waiting held.arrived put held.picked)
 
 -- what waited in the buffer was put
-pub held_flushed : (meaning : ℕ → Meaning) (start old new : Option (List ℕ)) (picks : Picks) (ns : List Note) → Appends old new picks.order.buffer
+held_flushed : (meaning : ℕ → Meaning) (start old new : Option (List ℕ)) (picks : Picks) (ns : List Note) → Appends old new picks.order.buffer
     → PicksHold meaning start old picks ns → PicksHold meaning start new (record picks { order = record { buffer = []; current = picks.order.current; waiting = picks.order.waiting } }) ns
 held_flushed meaning start old new picks ns put held =
     let way = held.picked.text in
@@ -78,6 +77,11 @@ held_flushed meaning start old new picks ns put held =
       };
       unended = held.unended;
     }
+
+pub flushed_picks : (meaning : ℕ → Meaning) (start old new : Option (List ℕ)) (picks : Picks) (order : OrderModel) (ns : List Note) → Appends old new picks.order.buffer → order ≡ record picks.order { buffer = [] }
+    → PicksHold meaning start old picks ns → PicksHold meaning start new (record picks { order = order }) ns
+flushed_picks meaning start old new picks order ns put flushed held =
+    subst (λ o. PicksHold meaning start new (record picks { order = o }) ns) (sym flushed) (held_flushed meaning start old new picks ns put held)
 
 -- nothing is told
 pub held_none : (meaning : ℕ → Meaning) (start : Option (List ℕ)) (picks : Picks) → picks.order.current ≡ 0 → All IsNothing picks.order.waiting → picks.order.buffer ≡ HEADER

@@ -8,7 +8,7 @@ use Rattle.file_order.specs.declared.waiting.Waiting.{Waiting}
 use Rattle.collector.specs.declared.run_lines.Lines.{Lines}
 use Rattle.collector.specs.Came.{Came, IsToldByNotes, IsFlawlessSoFar}
 use Rattle.collector.specs.Orders.{IsInOrder}
-use Rattle.collector.specs.Written.{AreWritten, AreRemaining, IsPartialText}
+use Rattle.collector.specs.Written.{AreWritten, IsPartialText}
 
 -- What the notes say of each file, which means this, is in order, and is written or buffered. The current file, the
 -- first that has not ended, has no mark. And it is known whether all is flawless so far.
@@ -45,10 +45,6 @@ IsFlushed lines = lines.order.buffer ≡ []
 abbrev pub LinesWrite : Option (List ℕ) → Option (List ℕ) → Lines → (ℕ → Came) → Type 0
 LinesWrite start now lines came = AreWritten lines.form start now lines.order.buffer lines.order.current lines.order.waiting came
 
--- this holds before anything of the first file that has not ended was written
-abbrev pub LinesRemain : Option (List ℕ) → Option (List ℕ) → Lines → (ℕ → Came) → Type 0
-LinesRemain start now lines came = AreRemaining lines.form start now lines.order.buffer lines.order.current lines.order.waiting came
-
 -- what the notes say of files that mean this is written or buffered
 abbrev pub LinesHold : (ℕ → Meaning) → Option (List ℕ) → Option (List ℕ) → Lines → List Note → Type 0
 LinesHold meaning start now lines ns = HoldsNotes lines.choice meaning lines.form start now lines.order.buffer lines.order.current lines.order.waiting lines.flawless ns
@@ -67,9 +63,3 @@ pub record AreLinesOf (before after : Lines) : Type 0 where
   pub form : after.form ≡ before.form
   pub choice : after.choice ≡ before.choice
   pub files : length after.order.waiting ≡ length before.order.waiting
-
--- the first file that has not ended, and whether all is flawless so far, are unchanged, too
-pub record StandAt (before after : Lines) : Type 0 where
-  pub same : AreLinesOf before after
-  pub current : after.order.current ≡ before.order.current
-  pub flawless : after.flawless ≡ before.flawless

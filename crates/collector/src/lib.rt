@@ -32,7 +32,7 @@ pub use found_facts::FoundFacts;
 pub use frames_run::run_frames;
 pub use lanes::{Gate, MemOpener, OpenFault, OpenGate, Opener, Stage};
 pub use line::Line;
-pub use picking::{PickTexts, pick_files};
+pub use picking::pick_files;
 pub use picks::Picks;
 pub use plain::run_plain;
 pub use print_lines::{PrintLines, line_lanes};

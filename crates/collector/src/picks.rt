@@ -1,16 +1,14 @@
 //! The chosen records of a run on their way to a sink, in the order of files.
-ghost use Rattle.std.specs.Prelude.{◌≡◌, ◌≢◌, ◌+◌, ◌<◌, ◌≤◌, ◌↔◌, ◌∷◌, ◌++◌, ℕ, List, [], Option, None, false, true, IfOk, IfErr, OnOk, OnErr, IsTrue, length, slice_index_or};
+ghost use Rattle.std.specs.Prelude.{◌≡◌, ◌+◌, ◌<◌, ◌∷◌, ◌++◌, ℕ, List, [], Option, None, false, IfOk, OnOk, OnErr, slice_index_or};
 ghost use Rattle.common.specs.declared.choice.Choice.{Choice};
 ghost use Rattle.lanes.specs.Notes.{Note, Item, End};
 ghost use Rattle.lanes.specs.Opening.{Meaning};
 ghost use Rattle.lanes.specs.Files.{AreToldWhole};
 ghost use Rattle.file_order.specs.declared.waiting.Waiting.{Waiting};
-ghost use Rattle.file_order.specs.Waits.{IsNext};
 ghost use Rattle.file_order.specs.Writing.{TellsFailure};
-ghost use Rattle.collector.specs.Arrived.{Arrived, HasEntryMore};
-ghost use Rattle.collector.specs.FactBooks.{FactEntry};
-ghost use Rattle.collector.specs.Picked.{IsAllPicked, picked_of};
-ghost use Rattle.collector.specs.PicksHolding.{ArePicksOf, IsFlushed, IsPartOfPicked, PicksHold, PicksPartly, PicksWrite, files_of, flaws_in};
+ghost use Rattle.collector.specs.Arrived.{Arrived};
+ghost use Rattle.collector.specs.Picked.{IsAllPicked};
+ghost use Rattle.collector.specs.PicksHolding.{ArePicksOf, IsPartOfPicked, PicksHold, PicksPartly, PicksWrite, files_of, flaws_in};
 
 use crate::flaws::{Flaws, add_flaw, no_flaws, set_mark};
 use crate::found_facts::FoundFacts;
@@ -118,24 +116,6 @@ impl Picks {
         self.order.keep_end(file, mark, known)?;
         set_mark(&mut self.flaws, file, mark);
         self.advance(alloc, sink)
-    }
-
-    /// Writes the buffered text to the sink.
-    ///
-    /// # Errors
-    ///
-    /// `Refused` exactly if the sink has then failed. There is no other error.
-    pub(crate) fn flush<S: Sink>(&mut self, sink: &mut S) -> Result<(), RunFault<SinkFault>>
-        requires { S.failed sink.old ≡ false }
-        ensures held { OnOk result ((meaning : ℕ → Meaning) (start : Option (List ℕ)) (ns : List Note)
-            → PicksHold meaning start (S.taken sink.old) self.old ns → PicksHold meaning start (S.taken sink.new) self.new ns) }
-        ensures partial { OnErr result ((meaning : ℕ → Meaning) (start : Option (List ℕ)) (ns : List Note)
-            → PicksHold meaning start (S.taken sink.old) self.old ns → PicksPartly meaning start (S.taken sink.new) self.new) }
-        ensures flushed { OnOk result (IsFlushed self.new) }
-        ensures stands { TellsFailure (S.failed sink.new) result }
-        ensures same { ArePicksOf self.old self.new }
-    {
-        self.order.flush(sink)
     }
 
     /// Writes the buffered text to the sink, and returns what is lacking in each file.

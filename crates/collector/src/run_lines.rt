@@ -1,19 +1,17 @@
 //! The lines of a run on their way to a sink, in the order of files.
-ghost use Rattle.std.specs.Prelude.{◌≡◌, ◌+◌, ◌<◌, ◌≤◌, ◌≢◌, ◌↔◌, ◌∷◌, ◌++◌, ℕ, List, [], Option, None, Some, Err, true, false, IfOk, OnOk, IsTrue, IsSome, slice_index_or, length, OnErr, ◌⊎◌};
+ghost use Rattle.std.specs.Prelude.{◌≡◌, ◌+◌, ◌<◌, ◌≤◌, ◌≢◌, ◌↔◌, ◌∷◌, ◌++◌, ℕ, List, [], Option, None, Some, Err, true, false, IfOk, OnOk, IsTrue, slice_index_or, OnErr, ◌⊎◌};
 ghost use Rattle.streams.specs.declared.frames.Mark.{Mark};
 ghost use Rattle.common.specs.declared.choice.Choice.{Choice};
 ghost use Rattle.lanes.specs.Notes.{Note, Item, End};
 ghost use Rattle.lanes.specs.Opening.{Meaning};
 ghost use Rattle.reports.specs.declared.entry.Entry.{Entry};
 ghost use Rattle.reports.specs.declared.answer.Answer.{Answer};
-ghost use Rattle.collector.specs.FormLines.{line_in};
 ghost use Rattle.file_order.specs.declared.waiting.Waiting.{Waiting};
 ghost use Rattle.collector.specs.Came.{Came, HasEntryMore};
-ghost use Rattle.file_order.specs.Waits.{IsNext};
 ghost use Rattle.collector.specs.Written.{IsPartialText};
 ghost use Rattle.file_order.specs.FileOrder.{HasEnd};
 ghost use Rattle.file_order.specs.Writing.{TellsFailure};
-ghost use Rattle.collector.specs.Holding.{form_of, choice_of, files_of, IsFlushed, LinesWrite, LinesRemain, LinesHold, ArePartialLines, ArePartialLinesAt, AreLinesOf, StandAt};
+ghost use Rattle.collector.specs.Holding.{form_of, choice_of, files_of, LinesWrite, LinesHold, ArePartialLines, ArePartialLinesAt, AreLinesOf};
 ghost use Rattle.collector.specs.Whole.{HaveFiles, IsAllWritten};
 
 use crate::lines::{end_text, lacking_text, preamble_line};
@@ -128,24 +126,6 @@ impl Lines {
         self.order.keep_end(file, mark, known)?;
         self.flawless = is_flawless_with(self.flawless, mark);
         self.advance(alloc, sink)
-    }
-
-    /// Writes the buffered text to the sink.
-    ///
-    /// # Errors
-    ///
-    /// `Refused` exactly if the sink has then failed. There is no other error.
-    pub(crate) fn flush<S: Sink>(&mut self, sink: &mut S) -> Result<(), RunFault<SinkFault>>
-        requires { S.failed sink.old ≡ false }
-        ensures held { OnOk result ((meaning : ℕ → Meaning) (start : Option (List ℕ)) (ns : List Note)
-            → LinesHold meaning start (S.taken sink.old) self.old ns → LinesHold meaning start (S.taken sink.new) self.new ns) }
-        ensures partial { OnErr result ((meaning : ℕ → Meaning) (start : Option (List ℕ)) (ns : List Note)
-            → LinesHold meaning start (S.taken sink.old) self.old ns → ArePartialLines meaning start (S.taken sink.new) self.new ns) }
-        ensures flushed { OnOk result (IsFlushed self.new) }
-        ensures stands { TellsFailure (S.failed sink.new) result }
-        ensures same { AreLinesOf self.old self.new }
-    {
-        self.order.flush(sink)
     }
 
     /// Writes the buffered text to the sink, and returns the exit status of the run: 0 if each file ended complete and

@@ -1,4 +1,4 @@
-use Rattle.std.proofs.Common.{◌≡◌, ◌∙◌, ℕ, length, get_or, ap, refl, subst}
+use Rattle.std.proofs.Common.{◌∙◌, length, get_or, ap, refl, subst}
 use Rattle.file_order.proofs.SucceedsOrFails.{ok_both, err_then, err_any}
 use Rattle.collector.specs.declared.picks.Picks.{Picks}
 use Rattle.collector.specs.PicksHolding.{ArePicksOf, IsPartOfPicked}

@@ -1,8 +1,7 @@
-use Rattle.std.proofs.Common.{◌≡◌, ◌≢◌, ◌<◌, ◌≤◌, ◌∙◌, ℕ, length, get_or, ap, refl, rules}
+use Rattle.std.proofs.Common.{◌≡◌, ◌<◌, ◌≤◌, length, get_or, refl, rules}
 use Rattle.file_order.specs.declared.waiting.Waiting.{Waiting}
 use Rattle.file_order.specs.Waits.{IsNext}
 use Rattle.file_order.proofs.SucceedsOrFails.{ok_both, err_then, err_any}
-use Rattle.collector.specs.declared.flaws.Flaws.{Flaws}
 use Rattle.collector.specs.declared.picks.Picks.{Picks}
 use Rattle.collector.specs.FactBooks.{FactEntry}
 use Rattle.collector.specs.Picked.{picked_of}

@@ -1,4 +1,4 @@
-use Rattle.std.proofs.Common.{◌≡◌, ◌≤◌, ◌<◌, ℕ, length, get_or, refl, sym, subst, inl}
+use Rattle.std.proofs.Common.{get_or, refl, sym, subst, inl}
 use Rattle.lanes.specs.Opening.{IsEndAt}
 use Rattle.file_order.specs.declared.waiting.Waiting.{Waiting}
 use Rattle.file_order.proofs.SucceedsOrFails.{ok_both, err_then, err_any}

@@ -1,4 +1,4 @@
-use Rattle.std.proofs.Common.{◌≡◌, ◌+◌, ◌≤◌, ◌<◌, ◌∙◌, ℕ, length, ap, subst, sym}
+use Rattle.std.proofs.Common.{◌≡◌, ◌+◌, ◌≤◌, ◌<◌, ◌∙◌, length, ap, subst, sym}
 use Rattle.file_order.specs.FileOrder.{OrderModel}
 use Rattle.file_order.specs.Writing.{GoesOn, IsPartlyAdded}
 use Rattle.file_order.proofs.SucceedsOrFails.{ok_then, err_then, err_any}

@@ -8,7 +8,7 @@ use Rattle.collector.proofs.Partial.{partial_more}
 use Rattle.collector.specs.FormLines.{IsLineOf, line_in}
 use Rattle.collector.specs.Came.{IsFlawlessSoFar}
 use Rattle.collector.proofs.Held.{comes_next, held_item, lacking}
-use Rattle.file_order.proofs.SucceedsOrFails.{ok_then, ok_both}
+use Rattle.file_order.proofs.SucceedsOrFails.{ok_both}
 use Rattle.collector.proofs.FlawlessBooks.{flawless_item, whole_lacking}
 use Rattle.collector.proofs.Held.{left_off_held, left_off_item}
 use Rattle.file_order.proofs.SucceedsOrFails.{err_then}

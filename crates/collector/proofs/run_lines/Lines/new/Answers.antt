@@ -1,4 +1,4 @@
-use Rattle.std.proofs.Common.{◌≡◌, ◌+◌, ◌≤◌, ◌∙◌, [], true, length, ap, arith, subst, sym}
+use Rattle.std.proofs.Common.{◌≡◌, ◌+◌, ◌∙◌, [], true, length, ap, arith, subst, sym}
 use Rattle.collector.specs.FormLines.{preamble_in}
 use Rattle.collector.specs.Holding.{HoldsNotes}
 use Rattle.collector.proofs.Held.{held_none, preamble_short}

@@ -1,5 +1,5 @@
 use Rattle.file_order.proofs.SucceedsOrFails.{ok_both, err_both}
-use Rattle.collector.proofs.picking.PickTextsPicksConsumerFoundFactsKnownEnd.end.Goals as goal
+use Rattle.collector.proofs.picking.TextsPicksConsumerFoundFactsKnownEnd.end.Goals as goal
 
 pub end-taken-requires-clause-even : goal.end-taken-requires-clause-even
 end-taken-requires-clause-even g c = c.requires.1.1.are.flaws_count

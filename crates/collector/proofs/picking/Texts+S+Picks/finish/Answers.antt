@@ -1,6 +1,6 @@
 use Rattle.std.proofs.lemmas.Result.{IfOk-weaker}
 use Rattle.file_order.proofs.SucceedsOrFails.{err_then}
-use Rattle.collector.proofs.picking.PickTexts+S+Picks.finish.Goals as goal
+use Rattle.collector.proofs.picking.Texts+S+Picks.finish.Goals as goal
 
 pub returns-clause-written : goal.returns-clause-written
 returns-clause-written g c =

@@ -1,5 +1,5 @@
 use Rattle.file_order.proofs.SucceedsOrFails.{ok_both, err_both}
-use Rattle.collector.proofs.picking.PickTextsPicksConsumerFoundFactsKnownEnd.item.Goals as goal
+use Rattle.collector.proofs.picking.TextsPicksConsumerFoundFactsKnownEnd.item.Goals as goal
 
 pub item-taken-requires-clause-even : goal.item-taken-requires-clause-even
 item-taken-requires-clause-even g c = c.requires.1.1.are.flaws_count
