@@ -9,14 +9,16 @@ ghost use Rattle.file_order.specs.FileOrder.{HasEnd, IsBegun, StaysAt, goes_on, 
 ghost use Rattle.file_order.specs.Waits.{ChangesAt, GetsMark, IsNext, IsTaken, IsUnmarked, TakesIn};
 ghost use Rattle.file_order.specs.Writing.{GoesOn, IsPartlyAdded, TellsFailure};
 
+use crate::chunks::Chunks;
 use crate::known_files::{KnownEnd, KnownFiles};
 use crate::pace::Pace;
-use crate::waiting::{Waiting, count_one, keep_line, keep_mark, none_come, take_lines};
+use crate::waiting::{Waiting, none_come};
 use crate::writing::put;
 use lanes::RunFault;
 use planar_code::MAX_RECORDS;
 use std::alloc::{AllocError, Global};
 use std::marker::Model;
+use std::mem;
 use streams::{Mark, Sink, SinkFault, SourceEnd, TextBuffer};
 
 /// A reorder buffer for the texts of the files of a run, since entries of several files arrive mixed.
@@ -123,11 +125,15 @@ impl FileOrder {
         ensures stands { TellsFailure (S.failed sink.new) result }
         ensures same { StaysAt self.old self.new }
     {
-        count_one(&mut self.waiting, file)?;
+        let here = &mut self.waiting[file as usize];
+        let Some(count) = here.count.checked_add(1) else {
+            return Err(RunFault::LaneLost);
+        };
+        here.count = count;
         if file == self.current {
             return put(&mut self.buffer, sink, text);
         }
-        let more = keep_line(alloc, &mut self.waiting, file, text)?;
+        let more = here.lines.push(alloc, text)?;
         self.held = self.held.saturating_add(more);
         Ok(())
     }
@@ -156,7 +162,12 @@ impl FileOrder {
         if known.file != file || known.mark != mark || !self.is_to_come(file) {
             return Err(RunFault::LaneLost);
         }
-        keep_mark(&mut self.waiting, file, known.count, mark)
+        let here = &mut self.waiting[file as usize];
+        if here.mark.is_some() || here.count != known.count {
+            return Err(RunFault::LaneLost);
+        }
+        here.mark = Some(mark);
+        Ok(())
     }
 
     /// The end of the current file, if it has ended.
@@ -210,7 +221,8 @@ impl FileOrder {
         ensures taken { ChangesAt self.old.current IsTaken self.old.waiting self.new.waiting }
         ensures current { self.new.current ≡ self.old.current }
     {
-        let lines = take_lines(alloc, &mut self.waiting, self.current);
+        let here = &mut self.waiting[self.current as usize];
+        let lines = mem::replace(&mut here.lines, Chunks::new(alloc));
         self.held = self.held.saturating_sub(lines.size());
         lines.put(&mut self.buffer, sink)
     }

@@ -3,13 +3,13 @@ use Rattle.std.proofs.lemmas.Bool.{eq-eqb}
 use Rattle.file_order.specs.FileOrder.{OrderModel, goes_on}
 use Rattle.file_order.specs.Writing.{IsPartlyAdded}
 use Rattle.file_order.proofs.Prefixes.{partial_here}
-use Rattle.file_order.proofs.SucceedsOrFails.{err_then, err_any}
+use Rattle.file_order.proofs.SucceedsOrFails.{err_then}
 use Rattle.file_order.proofs.order.FileOrder.add.Goals as goal
 
-pub returns-in_err-count_one-clause-partial : goal.returns-in_err-count_one-clause-partial
-returns-in_err-count_one-clause-partial g c =
+pub returns-in_default-clause-partial : goal.returns-in_default-clause-partial
+returns-in_default-clause-partial g c =
     let self = c.args.self.now in
-    err_any c.from_residual.result (partial_here (g.S.Sink.taken c.args.sink.now) self.buffer (goes_on self.current c.args.file c.args.text.now))
+    partial_here (g.S.Sink.taken c.args.sink.now) self.buffer (goes_on self.current c.args.file c.args.text.now)
 
 pub returns-then-file-self-clause-partial : goal.returns-then-file-self-clause-partial
 returns-then-file-self-clause-partial g c =
