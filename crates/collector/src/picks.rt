@@ -136,7 +136,7 @@ impl Picks {
         Ok(self.flaws)
     }
 
-    /// Moves on past each file that has ended.
+    /// Moves on past each file that has ended, and writes what is buffered of the next one.
     fn advance<S: Sink>(&mut self, alloc: Global, sink: &mut S) -> Result<(), RunFault<SinkFault>>
         requires { S.failed sink.old ≡ false }
         ensures written { OnOk result ((start : Option (List ℕ)) (arrived : ℕ → Arrived)
@@ -151,28 +151,10 @@ impl Picks {
         ensures same { ArePicksOf self.old self.new }
     {
         while self.order.current_end().is_some() {
-            self.step(alloc, sink)?;
+            if self.order.go_on()? {
+                self.order.begin(alloc, sink)?;
+            }
         }
         Ok(())
-    }
-
-    /// Moves on to the next file, and writes what is buffered of it.
-    fn step<S: Sink>(&mut self, alloc: Global, sink: &mut S) -> Result<(), RunFault<SinkFault>>
-        requires stands { S.failed sink.old ≡ false }
-        requires below { self.old.order.current < files_of self.old }
-        ensures written { OnOk result ((start : Option (List ℕ)) (arrived : ℕ → Arrived)
-            → PicksWrite start (S.taken sink.old) self.old arrived → PicksWrite start (S.taken sink.new) self.new arrived) }
-        ensures partial { OnErr result ((start : Option (List ℕ)) (arrived : ℕ → Arrived)
-            → PicksWrite start (S.taken sink.old) self.old arrived
-            → IsPartOfPicked self.old.selection start (S.taken sink.new) (files_of self.old) arrived) }
-        ensures stands { TellsFailure (S.failed sink.new) result }
-        ensures current { OnOk result (self.new.order.current ≡ self.old.order.current + 1) }
-        ensures flaws { self.new.flaws ≡ self.old.flaws }
-        ensures same { ArePicksOf self.old self.new }
-    {
-        if !self.order.go_on()? {
-            return Ok(());
-        }
-        self.order.begin(alloc, sink)
     }
 }
