@@ -1,5 +1,5 @@
 -- What was added to a sink where the text was left off.
-use Rattle.std.proofs.Common.{◌≡◌, ℕ, ◌+◌, ◌<◌, ◌≤◌, List, [], ◌++◌, length, Option, inl, inr, refl, sym, ap, subst, ◌∙◌, arith, append_assoc, append-nil, get_or, Bool, ◌⊎◌, if◌then◌else◌}
+use Rattle.std.proofs.Common.{◌≡◌, ℕ, ◌+◌, ◌<◌, ◌≤◌, List, [], ◌++◌, length, Option, inl, inr, refl, sym, ap, subst, ◌∙◌, arith, append_assoc, append-nil, get_or, ◌⊎◌, if◌then◌else◌}
 use Rattle.std.proofs.lemmas.Bool.{cases_lt, cases_eq, eq-eqb, ne_eqb}
 use Rattle.streams.specs.Sink.{AppendsPrefix, IsInTransit}
 use Rattle.streams.specs.FrameLines.{added_both}

@@ -193,38 +193,15 @@ impl Lines {
         ensures same { AreLinesOf self.old self.new }
     {
         while let Some(end) = self.order.current_end() {
-            self.leave(alloc, sink, end)?;
+            let text = end_text(alloc, self.form, self.order.current(), end.mark, end.count)?;
+            self.order.put(sink, text.as_slice())?;
+            if self.order.go_on()? {
+                let first = preamble_line(self.form, self.order.current());
+                self.order.put(sink, first.as_slice())?;
+                self.order.begin(alloc, sink)?;
+            }
         }
         Ok(())
-    }
-
-    /// Ends the current file, which has this end, and moves on to the next file.
-    fn leave<S: Sink>(
-        &mut self,
-        alloc: Global,
-        sink: &mut S,
-        end: SourceEnd,
-    ) -> Result<(), RunFault<SinkFault>>
-        requires stands { S.failed sink.old ≡ false }
-        requires below { self.old.order.current < files_of self.old }
-        requires ended { (other : Waiting) → HasEnd end (slice_index_or self.old.order.waiting self.old.order.current other) }
-        ensures written { OnOk result ((start : Option (List ℕ)) (came : ℕ → Came)
-            → LinesWrite start (S.taken sink.old) self.old came → LinesWrite start (S.taken sink.new) self.new came) }
-        ensures partial { OnErr result ((start : Option (List ℕ)) (came : ℕ → Came)
-            → LinesWrite start (S.taken sink.old) self.old came → IsPartialText self.old.form start (S.taken sink.new) (files_of self.old) came) }
-        ensures stands { TellsFailure (S.failed sink.new) result }
-        ensures current { OnOk result (self.new.order.current ≡ self.old.order.current + 1) }
-        ensures flawless { self.new.flawless ≡ self.old.flawless }
-        ensures same { AreLinesOf self.old self.new }
-    {
-        let text = end_text(alloc, self.form, self.order.current(), end.mark, end.count)?;
-        self.order.put(sink, text.as_slice())?;
-        if !self.order.go_on()? {
-            return Ok(());
-        }
-        let first = preamble_line(self.form, self.order.current());
-        self.order.put(sink, first.as_slice())?;
-        self.order.begin(alloc, sink)
     }
 }
 

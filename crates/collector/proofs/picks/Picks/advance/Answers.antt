@@ -1,4 +1,4 @@
-use Rattle.std.proofs.Common.{◌≡◌, ◌+◌, ◌<◌, ◌≤◌, ◌∙◌, ap, length, rules, subst}
+use Rattle.std.proofs.Common.{◌+◌, ◌<◌, ◌≤◌, ◌∙◌, ap, length, rules, subst}
 use Rattle.file_order.specs.FileOrder.{OrderModel}
 use Rattle.file_order.proofs.SucceedsOrFails.{err_any}
 use Rattle.collector.specs.PicksHolding.{IsPartOfPicked}
