@@ -1,5 +1,5 @@
 -- What one note more tells of the files of a run, and what is lacking then.
-use Rattle.std.proofs.Common.{◌≡◌, ◌≢◌, ◌+◌, ◌==◌, ◌<◌, ◌≤◌, ℕ, zero, suc, cond, Bool, true, false, List, [], ◌∷◌, ◌++◌, map, length, get_or, Option, None, Some, is_none, count_by, if◌then◌else◌, inl, inr, refl, sym, ap, subst, ◌∙◌, arith, length-append, zero-add, add-zero, All}
+use Rattle.std.proofs.Common.{◌≡◌, ◌≢◌, ◌+◌, ◌==◌, ◌<◌, ℕ, cond, Bool, true, false, List, [], ◌∷◌, ◌++◌, map, length, get_or, Option, None, Some, is_none, inl, inr, refl, sym, ap, subst, ◌∙◌, arith, zero-add, add-zero, All}
 use Rattle.std.proofs.lemmas.Bool.{eq-eqb, ne_eqb, cases_eq}
 use Rattle.std.proofs.lemmas.List.{map-append, length-map}
 use Rattle.std.proofs.lemmas.List.Sums.{sum_by_push, sum_by-cons}
@@ -10,14 +10,14 @@ use Rattle.lanes.specs.Notes.{Note, Item, End}
 use Rattle.lanes.specs.Opening.{Meaning, IsEndAt}
 use Rattle.reports.specs.declared.entry.Entry.{Entry}
 use Rattle.answers.specs.Spelt.{IsSpelt}
-use Rattle.collector.specs.Came.{Came, IsToldByNotes, mark_or_memory}
+use Rattle.collector.specs.Came.{Came, mark_or_memory}
 use Rattle.collector.specs.Came as collected
 use Rattle.collector.specs.Orders.{IsKnownAt, IsInOrder}
 use Rattle.collector.proofs.Notes.{all_told_item, all_told_end}
 use Rattle.collector.proofs.Ordering.{order_none, order_item, order_end, order_but}
 use Rattle.graph_facts.specs.declared.facts.Facts.{Facts}
 use Rattle.collector.specs.declared.flaws.Flaws.{Flaws}
-use Rattle.collector.specs.FactBooks.{FactEntry, about_of, flaws_of, unanswered, first_unanswered}
+use Rattle.collector.specs.FactBooks.{FactEntry, flaws_of, unanswered, first_unanswered}
 use Rattle.collector.specs.Arrived.{Arrived, none_arrived, HasEntryMore, HasEndMore, book_so_far, record_of, records_of, flaws_with}
 use Rattle.collector.specs.PicksHolding.{AreArrived}
 

@@ -16,6 +16,7 @@ use Rattle.streams.specs.declared.form.Form.{Form}
 use Rattle.streams.specs.declared.form.Form.TheVariants.{Report, Json}
 use Rattle.collector.specs.FormLines.{preamble_in}
 use Rattle.file_order.specs.declared.waiting.Waiting.{Waiting}
+use Rattle.file_order.specs.FileOrder.{OrderModel}
 use Rattle.collector.specs.declared.run_lines.Lines.{Lines}
 use Rattle.collector.specs.Came.{Came, HasEntryMore, HasMarkMore, IsFlawlessSoFar, nothing}
 use Rattle.file_order.specs.Waits.{IsNothing}
@@ -65,41 +66,41 @@ comes_next choice made meaning file ordinal waiting entry file_is ordinal_is mad
 }
 
 -- with it, all that has come is in order
-ordered_item : (meaning : ℕ → Meaning) (start now : Option (List ℕ)) (lines : Lines) (ns : List Note) (file : ℕ) (entry : Entry) (next : ℕ → Came) → file < length lines.waiting.items → lines.current ≤ file
-    → ComesNext lines.choice (meaning file) file lines.waiting.items entry → (held : LinesHold meaning start now lines ns) → HasEntryMore file entry held.came next
-    → (k : ℕ) → k < length lines.waiting.items → IsInOrder lines.choice (meaning k) k (next k)
+ordered_item : (meaning : ℕ → Meaning) (start now : Option (List ℕ)) (lines : Lines) (ns : List Note) (file : ℕ) (entry : Entry) (next : ℕ → Came) → file < length lines.order.waiting → lines.order.current ≤ file
+    → ComesNext lines.choice (meaning file) file lines.order.waiting entry → (held : LinesHold meaning start now lines ns) → HasEntryMore file entry held.came next
+    → (k : ℕ) → k < length lines.order.waiting → IsInOrder lines.choice (meaning k) k (next k)
 ordered_item meaning start now lines ns file entry next below from comes held more =
-    let other = some_waiting lines.waiting.items file below in
+    let other = some_waiting lines.order.waiting file below in
     let counted = held.written.counted file other from below in
     let at = comes.next other in
     let here = order_item lines.choice (meaning file) file (held.came file) entry (sym counted.mark ∙ at.unmarked) comes.file_is (sym at.count ∙ counted.count) comes.choice_is comes.spelt comes.placed
     (omega (arith, counted.count, at.count, at.few)) (held.ordered file below) in
-    order_but lines.choice meaning (length lines.waiting.items) file held.came next more.others (subst (IsInOrder lines.choice (meaning file) file) (sym more.here) here) held.ordered
+    order_but lines.choice meaning (length lines.order.waiting) file held.came next more.others (subst (IsInOrder lines.choice (meaning file) file) (sym more.here) here) held.ordered
 
 -- of as many files, under the same choice
-ordered_as : (meaning : ℕ → Meaning) (before after : Lines) (came : ℕ → Came) → AreLinesOf before after → ((k : ℕ) → k < length before.waiting.items → IsInOrder before.choice (meaning k) k (came k))
-    → (k : ℕ) → k < length after.waiting.items → IsInOrder after.choice (meaning k) k (came k)
+ordered_as : (meaning : ℕ → Meaning) (before after : Lines) (came : ℕ → Came) → AreLinesOf before after → ((k : ℕ) → k < length before.order.waiting → IsInOrder before.choice (meaning k) k (came k))
+    → (k : ℕ) → k < length after.order.waiting → IsInOrder after.choice (meaning k) k (came k)
 ordered_as meaning before after came same was k below = subst (λ c. IsInOrder c (meaning k) k (came k)) (sym same.choice) (was k (omega (arith, below, same.files)))
 
 -- one entry more
-pub held_item : (meaning : ℕ → Meaning) (start old new : Option (List ℕ)) (before after : Lines) (ns : List Note) (file : ℕ) (entry : Entry) → AreLinesOf before after → after.current ≡ before.current
-    → file < length before.waiting.items → before.current ≤ file → ComesNext before.choice (meaning file) file before.waiting.items entry
+pub held_item : (meaning : ℕ → Meaning) (start old new : Option (List ℕ)) (before after : Lines) (ns : List Note) (file : ℕ) (entry : Entry) → AreLinesOf before after → after.order.current ≡ before.order.current
+    → file < length before.order.waiting → before.order.current ≤ file → ComesNext before.choice (meaning file) file before.order.waiting entry
     → ((came next : ℕ → Came) → HasEntryMore file entry came next → LinesWrite start old before came → LinesWrite start new after next)
-    → ((came next : ℕ → Came) → HasEntryMore file entry came next → ((before.flawless ≡ true) ↔ ((k : ℕ) → k < length before.waiting.items → IsFlawlessSoFar (came k)))
-    → ((after.flawless ≡ true) ↔ ((k : ℕ) → k < length before.waiting.items → IsFlawlessSoFar (next k))))
+    → ((came next : ℕ → Came) → HasEntryMore file entry came next → ((before.flawless ≡ true) ↔ ((k : ℕ) → k < length before.order.waiting → IsFlawlessSoFar (came k)))
+    → ((after.flawless ≡ true) ↔ ((k : ℕ) → k < length before.order.waiting → IsFlawlessSoFar (next k))))
     → LinesHold meaning start old before ns → LinesHold meaning start new after (ns ++ Item (about_of entry) ∷ [])
 held_item meaning start old new before after ns file entry same current below from comes writes wholes held =
     let next = entry_more file entry held.came in
     let more = has_entry_more file entry held.came in
     record {
       came = next;
-      told = λ k lt. all_told_item (length before.waiting.items) ns file entry held.came next comes.file_is more held.told k (omega (arith, lt, same.files));
+      told = λ k lt. all_told_item (length before.order.waiting) ns file entry held.came next comes.file_is more held.told k (omega (arith, lt, same.files));
       ordered = ordered_as meaning before after next same (ordered_item meaning start old before ns file entry next below from comes held more);
       written = writes held.came next more held.written;
       unended = λ lt.
-          let was : (held.came before.current).mark ≡ None = held.unended (omega (arith, lt, same.files, current)) in
-          same_mark file entry held.came next more after.current ∙ ap (λ k. (held.came k).mark) current ∙ was;
-      all_flawless = as_many (length before.waiting.items) (length after.waiting.items) after.flawless next same.files (wholes held.came next more held.all_flawless);
+          let was : (held.came before.order.current).mark ≡ None = held.unended (omega (arith, lt, same.files, current)) in
+          same_mark file entry held.came next more after.order.current ∙ ap (λ k. (held.came k).mark) current ∙ was;
+      all_flawless = as_many (length before.order.waiting) (length after.order.waiting) after.flawless next same.files (wholes held.came next more held.all_flawless);
     }
 
 -- an entry like this one, without an answer
@@ -107,44 +108,44 @@ abbrev pub lacking : Entry → Entry
 lacking entry = record { file = entry.file; ordinal = entry.ordinal; rec = entry.rec; choice = entry.choice; answer = Answer.NoMemory; answers = merely tt }
 
 -- with a mark that the file may have, all that has come is in order
-ordered_end : (meaning : ℕ → Meaning) (start now : Option (List ℕ)) (lines : Lines) (ns : List Note) (file : ℕ) (mark : Mark) (next : ℕ → Came) → file < length lines.waiting.items → lines.current ≤ file
-    → ((other : Waiting) → ∥ IsEndAt (meaning file) (get_or lines.waiting.items file other).count mark ∥₁) → (held : LinesHold meaning start now lines ns) → HasMarkMore file mark held.came next
-    → (k : ℕ) → k < length lines.waiting.items → IsInOrder lines.choice (meaning k) k (next k)
+ordered_end : (meaning : ℕ → Meaning) (start now : Option (List ℕ)) (lines : Lines) (ns : List Note) (file : ℕ) (mark : Mark) (next : ℕ → Came) → file < length lines.order.waiting → lines.order.current ≤ file
+    → ((other : Waiting) → ∥ IsEndAt (meaning file) (get_or lines.order.waiting file other).count mark ∥₁) → (held : LinesHold meaning start now lines ns) → HasMarkMore file mark held.came next
+    → (k : ℕ) → k < length lines.order.waiting → IsInOrder lines.choice (meaning k) k (next k)
 ordered_end meaning start now lines ns file mark next below from ends held more =
-    let other = some_waiting lines.waiting.items file below in
+    let other = some_waiting lines.order.waiting file below in
     let counted = held.written.counted file other from below in
     let known = subst (λ n. ∥ IsEndAt (meaning file) n mark ∥₁) counted.count (ends other) in
-    order_but lines.choice meaning (length lines.waiting.items) file held.came next more.others
+    order_but lines.choice meaning (length lines.order.waiting) file held.came next more.others
     (subst (IsInOrder lines.choice (meaning file) file) (sym more.here) (order_end lines.choice (meaning file) file (held.came file) mark known (held.ordered file below))) held.ordered
 
 -- one mark more: it is kept first, and then the current file moves on
 pub held_end : (meaning : ℕ → Meaning) (start old new : Option (List ℕ)) (before mid after : Lines) (ns : List Note) (file : ℕ) (mark : Mark) → AreLinesOf mid after → AreLinesOf before mid
-    → file < length before.waiting.items
-    → ((other : Waiting) → (get_or before.waiting.items file other).mark ≡ None)
-    → ((other : Waiting) → ∥ IsEndAt (meaning file) (get_or before.waiting.items file other).count mark ∥₁) → before.current ≤ file
+    → file < length before.order.waiting
+    → ((other : Waiting) → (get_or before.order.waiting file other).mark ≡ None)
+    → ((other : Waiting) → ∥ IsEndAt (meaning file) (get_or before.order.waiting file other).count mark ∥₁) → before.order.current ≤ file
     → ((mid.flawless ≡ true) ↔ ((before.flawless ≡ true) × (mark ≡ Mark.Ended Ending.Complete))) → after.flawless ≡ mid.flawless
     → ((came next : ℕ → Came) → HasMarkMore file mark came next → LinesWrite start old before came → LinesWrite start old mid next)
     → ((came : ℕ → Came) → LinesWrite start old mid came → LinesWrite start new after came)
-    → ((other : Waiting) → after.current < length after.waiting.items → (get_or after.waiting.items after.current other).mark ≡ None)
+    → ((other : Waiting) → after.order.current < length after.order.waiting → (get_or after.order.waiting after.order.current other).mark ≡ None)
     → LinesHold meaning start old before ns → LinesHold meaning start new after (ns ++ End file mark ∷ [])
 held_end meaning start old new before mid after ns file mark went kept below unmarked ends from says flawless keeps moves unended held =
     let next = ended_now file mark held.came in
     let more = has_mark_more file mark held.came in
-    let count : length after.waiting.items ≡ length before.waiting.items = went.files ∙ kept.files in
+    let count : length after.order.waiting ≡ length before.order.waiting = went.files ∙ kept.files in
     let written = moves next (keeps held.came next more held.written) in
-    let other = some_waiting before.waiting.items file below in
+    let other = some_waiting before.order.waiting file below in
     let bare : (held.came file).mark ≡ None = sym (held.written.counted file other from below).mark ∙ unmarked other in
     record {
       came = next;
-      told = λ k lt. all_told_end (length before.waiting.items) ns file mark held.came next more held.told k (omega (arith, lt, count));
+      told = λ k lt. all_told_end (length before.order.waiting) ns file mark held.came next more held.told k (omega (arith, lt, count));
       ordered = ordered_as meaning mid after next went (ordered_as meaning before mid next kept (ordered_end meaning start old before ns file mark next below from ends held more));
       written = written;
       unended = λ lt.
-          let w = some_waiting after.waiting.items after.current lt in
-          sym (written.counted after.current w (omega arith) lt).mark ∙ unended w lt;
-      all_flawless = as_many (length before.waiting.items) (length after.waiting.items) after.flawless next count
-          (subst (λ b. (b ≡ true) ↔ ((k : ℕ) → k < length before.waiting.items → IsFlawlessSoFar (next k))) (sym flawless)
-          (flawless_end (length before.waiting.items) file mark held.came next before.flawless mid.flawless below bare says more held.all_flawless));
+          let w = some_waiting after.order.waiting after.order.current lt in
+          sym (written.counted after.order.current w (omega arith) lt).mark ∙ unended w lt;
+      all_flawless = as_many (length before.order.waiting) (length after.order.waiting) after.flawless next count
+          (subst (λ b. (b ≡ true) ↔ ((k : ℕ) → k < length before.order.waiting → IsFlawlessSoFar (next k))) (sym flawless)
+          (flawless_end (length before.order.waiting) file mark held.came next before.flawless mid.flawless below bare says more held.all_flawless));
     }
 
 -- nothing is told
@@ -175,21 +176,21 @@ left_off_held meaning start now lines ns held = record {
   came = held.came;
   told = held.told;
   ordered = held.ordered;
-  text = partial_written lines.form start now lines.buffer lines.current lines.waiting.items held.came held.written;
+  text = partial_written lines.form start now lines.order.buffer lines.order.current lines.order.waiting held.came held.written;
 }
 
 -- of the same lines later
 pub left_off_as : (meaning : ℕ → Meaning) (start now : Option (List ℕ)) (before after : Lines) (ns : List Note) → AreLinesOf before after → ArePartialLines meaning start now before ns → ArePartialLines meaning start now after ns
 left_off_as meaning start now before after ns same was =
     subst (λ n. ArePartialNotes after.choice meaning after.form n start now ns) (sym same.files)
-    (subst (λ f. ArePartialNotes after.choice meaning f (length before.waiting.items) start now ns) (sym same.form)
-    (subst (λ c. ArePartialNotes c meaning before.form (length before.waiting.items) start now ns) (sym same.choice) was))
+    (subst (λ f. ArePartialNotes after.choice meaning f (length before.order.waiting) start now ns) (sym same.form)
+    (subst (λ c. ArePartialNotes c meaning before.form (length before.order.waiting) start now ns) (sym same.choice) was))
 
 -- where one entry more was to be added
 pub left_off_item : (meaning : ℕ → Meaning) (start old new : Option (List ℕ)) (before after : Lines) (ns : List Note) (file : ℕ) (entry : Entry) → AreLinesOf before after
-    → file < length before.waiting.items → before.current ≤ file → ComesNext before.choice (meaning file) file before.waiting.items entry
+    → file < length before.order.waiting → before.order.current ≤ file → ComesNext before.choice (meaning file) file before.order.waiting entry
     → ((came next : ℕ → Came) → HasEntryMore file entry came next → LinesWrite start old before came
-    → IsPartialText before.form start new (length before.waiting.items) came ⊎ IsPartialText before.form start new (length before.waiting.items) next)
+    → IsPartialText before.form start new (length before.order.waiting) came ⊎ IsPartialText before.form start new (length before.order.waiting) next)
     → LinesHold meaning start old before ns → ArePartialLinesAt meaning start new after ns (Item (about_of entry))
 left_off_item meaning start old new before after ns file entry same below from comes breaks held =
     let next = entry_more file entry held.came in
@@ -198,7 +199,7 @@ left_off_item meaning start old new before after ns file entry same below from c
       | inl text ↦ inl (left_off_as meaning start new before after ns same (record { came = held.came; told = held.told; ordered = held.ordered; text = text }))
       | inr text ↦ inr (left_off_as meaning start new before after (ns ++ Item (about_of entry) ∷ []) same (record {
         came = next;
-        told = all_told_item (length before.waiting.items) ns file entry held.came next comes.file_is more held.told;
+        told = all_told_item (length before.order.waiting) ns file entry held.came next comes.file_is more held.told;
         ordered = ordered_item meaning start old before ns file entry next below from comes held more;
         text = text;
       }))
@@ -206,41 +207,41 @@ left_off_item meaning start old new before after ns file entry same below from c
 
 -- where the current file was to move on after one mark more
 pub left_off_end : (meaning : ℕ → Meaning) (start old new : Option (List ℕ)) (before mid after : Lines) (ns : List Note) (file : ℕ) (mark : Mark) → AreLinesOf mid after → AreLinesOf before mid
-    → file < length before.waiting.items
-    → ((other : Waiting) → ∥ IsEndAt (meaning file) (get_or before.waiting.items file other).count mark ∥₁) → before.current ≤ file
+    → file < length before.order.waiting
+    → ((other : Waiting) → ∥ IsEndAt (meaning file) (get_or before.order.waiting file other).count mark ∥₁) → before.order.current ≤ file
     → ((came next : ℕ → Came) → HasMarkMore file mark came next → LinesWrite start old before came → LinesWrite start old mid next)
-    → ((came : ℕ → Came) → LinesWrite start old mid came → IsPartialText mid.form start new (length mid.waiting.items) came)
+    → ((came : ℕ → Came) → LinesWrite start old mid came → IsPartialText mid.form start new (length mid.order.waiting) came)
     → LinesHold meaning start old before ns → ArePartialLinesAt meaning start new after ns (End file mark)
 left_off_end meaning start old new before mid after ns file mark went kept below ends from keeps breaks held =
     let next = ended_now file mark held.came in
     let more = has_mark_more file mark held.came in
     inr (left_off_as meaning start new mid after (ns ++ End file mark ∷ []) went (record {
       came = next;
-      told = λ k lt. all_told_end (length before.waiting.items) ns file mark held.came next more held.told k (omega (arith, lt, kept.files));
+      told = λ k lt. all_told_end (length before.order.waiting) ns file mark held.came next more held.told k (omega (arith, lt, kept.files));
       ordered = ordered_as meaning before mid next kept (ordered_end meaning start old before ns file mark next below from ends held more);
       text = breaks next (keeps held.came next more held.written);
     }))
 
 -- where what was buffered was to be put
-pub left_off_finish : (meaning : ℕ → Meaning) (start old new : Option (List ℕ)) (lines : Lines) (ns : List Note) → AppendsPrefix old new lines.buffer → LinesHold meaning start old lines ns → ArePartialLines meaning start new lines ns
+pub left_off_finish : (meaning : ℕ → Meaning) (start old new : Option (List ℕ)) (lines : Lines) (ns : List Note) → AppendsPrefix old new lines.order.buffer → LinesHold meaning start old lines ns → ArePartialLines meaning start new lines ns
 left_off_finish meaning start old new lines ns put held = record {
   came = held.came;
   told = held.told;
   ordered = held.ordered;
-  text = partial_flushed lines.form start old new lines.buffer lines.current lines.waiting.items held.came put held.written;
+  text = partial_flushed lines.form start old new lines.order.buffer lines.order.current lines.order.waiting held.came put held.written;
 }
 
 -- what was on its way to the sink was put into it
-in_transit_put : (start old new : Option (List ℕ)) (buffer after text : List ℕ) → Appends old new buffer → after ≡ [] → IsInTransit start old buffer text → IsInTransit start new after text
-in_transit_put start old new buffer after text put empty way = record {
+in_transit_put : (start old new : Option (List ℕ)) (buffer text : List ℕ) → Appends old new buffer → IsInTransit start old buffer text → IsInTransit start new [] text
+in_transit_put start old new buffer text put way = record {
   sent = way.sent ++ buffer;
-  split = way.split ∙ sym (append-nil (way.sent ++ buffer)) ∙ ap (λ l. (way.sent ++ buffer) ++ l) (sym empty);
+  split = way.split ∙ sym (append-nil (way.sent ++ buffer));
   added = added_both start old new way.sent buffer way.added put;
 }
 
-pub held_flushed : (choice : Choice) (meaning : ℕ → Meaning) (form : Form) (start old new : Option (List ℕ)) (buffer after : List ℕ) (current : ℕ) (waiting : List Waiting) (flawless : Bool) (ns : List Note)
-    → Appends old new buffer → after ≡ [] → HoldsNotes choice meaning form start old buffer current waiting flawless ns → HoldsNotes choice meaning form start new after current waiting flawless ns
-held_flushed choice meaning form start old new buffer after current waiting flawless ns put empty held =
+held_flushed : (choice : Choice) (meaning : ℕ → Meaning) (form : Form) (start old new : Option (List ℕ)) (buffer : List ℕ) (current : ℕ) (waiting : List Waiting) (flawless : Bool) (ns : List Note)
+    → Appends old new buffer → HoldsNotes choice meaning form start old buffer current waiting flawless ns → HoldsNotes choice meaning form start new [] current waiting flawless ns
+held_flushed choice meaning form start old new buffer current waiting flawless ns put held =
     let was = held.written in
     record {
       came = held.came;
@@ -251,15 +252,22 @@ held_flushed choice meaning form start old new buffer after current waiting flaw
         marked = was.marked;
         counted = was.counted;
         lines = was.lines;
-        going = λ below. in_transit_put start old new buffer after _ put empty (was.going below);
-        over = λ past. in_transit_put start old new buffer after _ put empty (was.over past);
+        going = λ below. in_transit_put start old new buffer _ put (was.going below);
+        over = λ past. in_transit_put start old new buffer _ put (was.over past);
       };
       unended = held.unended;
       all_flawless = held.all_flawless;
     }
 
--- what is known of the end of a file, told of the same file, number and mark
-pub end_as : (meaning : ℕ → Meaning) (known file n count : ℕ) (was mark : Mark) → known ≡ file → n ≡ count → was ≡ mark → ∥ IsEndAt (meaning known) count was ∥₁ → ∥ IsEndAt (meaning file) n mark ∥₁
-end_as meaning known file n count was mark file_is count_is mark_is is =
-    subst (λ k. ∥ IsEndAt (meaning k) n mark ∥₁) file_is
-    (subst (λ m. ∥ IsEndAt (meaning known) n m ∥₁) mark_is (subst (λ m. ∥ IsEndAt (meaning known) m was ∥₁) (sym count_is) is))
+-- what was in transit was put into the sink
+pub flushed_lines : (meaning : ℕ → Meaning) (start old new : Option (List ℕ)) (lines : Lines) (order : OrderModel) (ns : List Note) → Appends old new lines.order.buffer → order ≡ record lines.order { buffer = [] }
+    → LinesHold meaning start old lines ns → LinesHold meaning start new (record lines { order = order }) ns
+flushed_lines meaning start old new lines order ns put flushed held =
+    subst (λ o. LinesHold meaning start new (record lines { order = o }) ns) (sym flushed)
+    (held_flushed lines.choice meaning lines.form start old new lines.order.buffer lines.order.current lines.order.waiting lines.flawless ns put held)
+
+pub left_off_flushed : (meaning : ℕ → Meaning) (start old new : Option (List ℕ)) (lines : Lines) (order : OrderModel) (ns : List Note) → length order.waiting ≡ length lines.order.waiting
+    → AppendsPrefix old new lines.order.buffer → LinesHold meaning start old lines ns → ArePartialLines meaning start new (record lines { order = order }) ns
+left_off_flushed meaning start old new lines order ns files put held =
+    let after : Lines = record lines { order = order } in
+    left_off_as meaning start new lines after ns (record { form = refl; choice = refl; files = files }) (left_off_finish meaning start old new lines ns put held)

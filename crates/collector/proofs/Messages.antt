@@ -1,11 +1,10 @@
 -- What a thread gathers of a link is what was told there.
 use Rattle.std.proofs.Common.{◌≡◌, ℕ, List, [], ◌∷◌, ◌++◌, Option, None, Some, IsSome, sym, refl, ap, ◌∙◌, subst, append_assoc, append-nil}
 use native.Mathlib.Omega.{arith}
-use Rattle.std.specs.Prelude.{Bool, unwrap_or}
+use Rattle.std.specs.Prelude.{unwrap_or}
 use Rattle.streams.specs.declared.frames.Mark.{Mark}
 use Rattle.collector.specs.declared.read_message.ReadMessage.{ReadMessage}
 use Rattle.collector.specs.declared.read_message.ReadMessage.TheVariants.{Records, End, Stop}
-use Rattle.streams.specs.Reading.{IsFoundIn}
 use Rattle.collector.specs.ReadMessage.{GiveRecords, IsTold, GoOn, records_in, mark_after, Gathers, GathersAll}
 
 -- one more message that gives records

@@ -1,5 +1,5 @@
 -- What is picked from a complete file without a condition is the file.
-use Rattle.std.proofs.Common.{◌≡◌, ◌≢◌, ◌⊎◌, inl, inr, ℕ, suc, ◌<◌, Bool, true, Option, None, Some, List, [], ◌∷◌, ◌++◌, All, map, length, if◌then◌else◌, sym, refl, ap, ◌∙◌, append_assoc, append-nil, arith}
+use Rattle.std.proofs.Common.{◌≡◌, ◌≢◌, inl, inr, ℕ, suc, Bool, true, Option, None, Some, List, [], ◌∷◌, ◌++◌, All, map, if◌then◌else◌, sym, refl, ap, ◌∙◌, append-nil, arith}
 use Rattle.std.specs.List.{concat, flat_map}
 use Rattle.planar_code.specs.declared.TheConstants.{HEADER}
 use Rattle.planar_code.specs.declared.ending.Ending.{Ending}

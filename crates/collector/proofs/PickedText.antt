@@ -1,25 +1,25 @@
 -- What is picked and what waits, after one record or one mark more.
-use Rattle.std.proofs.Common.{◌≡◌, ◌≢◌, ℕ, zero, suc, ◌+◌, ◌<◌, ◌≤◌, List, [], ◌∷◌, ◌++◌, length, get_or, Option, All, inl, inr, refl, sym, ap, subst, ◌∙◌, arith, append_assoc, append-nil}
+use Rattle.std.proofs.Common.{◌≡◌, ◌≢◌, ℕ, zero, suc, ◌+◌, ◌==◌, ◌<◌, ◌≤◌, true, false, if◌then◌else◌, List, [], ◌∷◌, ◌++◌, length, get_or, Option, All, inl, inr, refl, sym, ap, subst, ◌∙◌, arith, append_assoc, append-nil}
 use Rattle.std.specs.Prelude.{⊤}
-use Rattle.std.proofs.lemmas.Bool.{cases_eq, cases_lt}
+use Rattle.std.proofs.lemmas.Bool.{cases_eq, cases_lt, eq-eqb, ne_eqb}
 use Rattle.std.proofs.lemmas.List.Concat.{flat_map-append}
 use Rattle.planar_code.specs.declared.TheConstants.{HEADER}
 use Rattle.streams.specs.declared.frames.Mark.{Mark}
 use Rattle.streams.specs.Sink.{AppendsPrefix, IsInTransit}
 use Rattle.streams.specs.FrameLines.{added_none, added_both}
-use Rattle.reports.specs.declared.entry.Entry.{Entry}
 use Rattle.file_order.specs.declared.waiting.Waiting.{Waiting}
 use Rattle.collector.specs.Came.{Came}
-use Rattle.file_order.specs.Waits.{ChangesAt, IsNothing, IsCountedOne, GetsLine, GetsMark, IsTaken}
+use Rattle.file_order.specs.FileOrder.{OrderModel, StaysAt, goes_on, is_kept}
+use Rattle.file_order.specs.Waits.{ChangesAt, IsNothing, TakesIn, GetsMark, IsTaken}
 use Rattle.collector.specs.Written.{IsCounted}
 use Rattle.file_order.specs.Writing.{GoesOn, IsPartlyAdded}
 use Rattle.collector.proofs.Adding.{counted_one}
 use Rattle.file_order.proofs.Prefixes.{Longer, appends_longer, way_front}
-use Rattle.file_order.proofs.Waits.{after_change, changes_both}
+use Rattle.file_order.proofs.Waits.{after_change, some_waiting}
 use Rattle.graph_facts.specs.declared.selecting.Selection.{Selection}
 use Rattle.collector.specs.FactBooks.{FactEntry}
 use Rattle.collector.specs.Picked.{picked_in, picked_of}
-use Rattle.collector.specs.Arrived.{Arrived, none_arrived, HasEntryMore, HasEndMore, record_of, records_of, picked_up_to}
+use Rattle.collector.specs.Arrived.{Arrived, none_arrived, HasEntryMore, HasEndMore, record_of, picked_up_to}
 use Rattle.collector.specs.PicksHolding.{ArePicked, IsPartOfPicked}
 use Rattle.collector.proofs.Arriving.{all_records, records_more, records_ended}
 
@@ -103,73 +103,98 @@ none_more : (file files : ℕ) (came next : ℕ → Arrived) → file < files �
     → (k : ℕ) → files ≤ k → next k ≡ none_arrived
 none_more file files came next below others none k past = others k (λ e. absurd (omega (arith, past, below, e))) ∙ none k past
 
--- where one more record was not put
-pub part_before : (s : Selection) (start now : Option (List ℕ)) (buffer : List ℕ) (file current : ℕ) (waiting : List Waiting) (came next : ℕ → Arrived) (entry : FactEntry)
-    → file < length waiting → current ≤ file → HasEntryMore file entry came next → ArePicked s start now buffer current waiting came → IsPartOfPicked s start now (length waiting) next
-part_before s start now buffer file current waiting came next entry below from more was =
-    let added = way_front start now buffer _ was.text in
-    let none = none_more file (length waiting) came next below more.others was.none in
-    elim (cases_lt current file) [
-      | inl before ↦
-          part_of s start now (length waiting) next current was.within none
-          (subst (λ l. AppendsPrefix start now (HEADER ++ l)) (up_to_same s came next (suc current) (λ k lt. more.others k (λ e. absurd (omega (arith, lt, before, e))))) added)
-      | inr past ↦
-          let same : file ≡ current = omega (arith, from, past) in
-          part_of s start now (length waiting) next current was.within none
-          (appends_longer start now (HEADER ++ picked_up_to s next (suc current)) (HEADER ++ picked_up_to s came (suc current))
-          (picked_of s entry, sym (text_more s current came next entry (picked_of s entry) refl (subst (λ f. HasEntryMore f entry came next) same more))) added)
-    ]
+-- where one more record of another file was not put
+part_behind : (s : Selection) (start old new : Option (List ℕ)) (buffer : List ℕ) (file current : ℕ) (waiting : List Waiting) (came next : ℕ → Arrived) (entry : FactEntry)
+    → file < length waiting → current < file → HasEntryMore file entry came next → IsPartlyAdded old buffer new []
+    → ArePicked s start old buffer current waiting came → IsPartOfPicked s start new (length waiting) next
+part_behind s start old new buffer file current waiting came next entry below before more breaks was =
+    let whole = HEADER ++ picked_up_to s came (suc current) in
+    let added : AppendsPrefix start new whole = subst (AppendsPrefix start new) (append-nil whole) (breaks start whole was.text) in
+    part_of s start new (length waiting) next current was.within (none_more file (length waiting) came next below more.others was.none)
+    (subst (λ l. AppendsPrefix start new (HEADER ++ l)) (up_to_same s came next (suc current) (λ k lt. more.others k (λ e. absurd (omega (arith, lt, before, e))))) added)
 
--- where it was put in part
-pub part_line : (s : Selection) (start old new : Option (List ℕ)) (buffer : List ℕ) (current : ℕ) (waiting : List Waiting) (came next : ℕ → Arrived) (entry : FactEntry) (text : List ℕ)
+-- where one of the current file was put in part
+part_line : (s : Selection) (start old new : Option (List ℕ)) (buffer : List ℕ) (current : ℕ) (waiting : List Waiting) (came next : ℕ → Arrived) (entry : FactEntry) (text : List ℕ)
     → current < length waiting → text ≡ picked_of s entry → HasEntryMore current entry came next → IsPartlyAdded old buffer new text
     → ArePicked s start old buffer current waiting came → IsPartOfPicked s start new (length waiting) next
 part_line s start old new buffer current waiting came next entry text below is more breaks was =
     part_of s start new (length waiting) next current was.within (none_more current (length waiting) came next below more.others was.none)
     (subst (AppendsPrefix start new) (text_more s current came next entry text is more) (breaks start _ was.text))
 
+-- where one of either was
+pub part_more : (s : Selection) (start old new : Option (List ℕ)) (before : OrderModel) (file : ℕ) (came next : ℕ → Arrived) (entry : FactEntry) (text : List ℕ)
+    → file < length before.waiting → before.current ≤ file → text ≡ picked_of s entry → HasEntryMore file entry came next
+    → IsPartlyAdded old before.buffer new (goes_on before.current file text)
+    → ArePicked s start old before.buffer before.current before.waiting came → IsPartOfPicked s start new (length before.waiting) next
+part_more s start old new before file came next entry text below from is more breaks was =
+    elim (cases_eq file before.current) [
+      | inl here ↦
+          part_line s start old new before.buffer before.current before.waiting came next entry text (omega (arith, below, here)) is
+          (subst (λ f. HasEntryMore f entry came next) here more)
+          (subst (λ b. IsPartlyAdded old before.buffer new (if b then text else [])) (eq-eqb file before.current here) breaks) was
+      | inr apart ↦
+          part_behind s start old new before.buffer file before.current before.waiting came next entry below (omega (arith, from, apart)) more
+          (subst (λ b. IsPartlyAdded old before.buffer new (if b then text else [])) (ne_eqb file before.current apart) breaks) was
+    ]
+
 -- ---- what is picked
 
 -- a record of the current file went on its way
-pub picked_current : (s : Selection) (start old new : Option (List ℕ)) (buffer buffered : List ℕ) (current : ℕ) (waiting after : List Waiting) (came next : ℕ → Arrived) (entry : FactEntry) (text : List ℕ)
-    → current < length waiting → text ≡ picked_of s entry → HasEntryMore current entry came next → ChangesAt current IsCountedOne waiting after → GoesOn old buffer new buffered text
+picked_current : (s : Selection) (start old new : Option (List ℕ)) (buffer buffered : List ℕ) (current : ℕ) (waiting after : List Waiting) (came next : ℕ → Arrived) (entry : FactEntry) (text : List ℕ)
+    → current < length waiting → text ≡ picked_of s entry → HasEntryMore current entry came next → ChangesAt current (TakesIn []) waiting after → GoesOn old buffer new buffered text
     → ArePicked s start old buffer current waiting came → ArePicked s start new buffered current after next
 picked_current s start old new buffer buffered current waiting after came next entry text below is more changed goes was =
     let records = records_more current entry came next more in
     record {
       within = omega (arith, was.within, changed.count);
-      counted = λ k other lt. after_change IsCounted (λ _. ⊤) current waiting after (all_records came) (all_records next) IsCountedOne changed records.others below
+      counted = λ k other lt. after_change IsCounted (λ _. ⊤) current waiting after (all_records came) (all_records next) (TakesIn []) changed records.others below
           (λ _ w w' c had. counted_one current (record_of entry) (all_records came) (all_records next) w w' records c.count c.mark had) (λ k o _ lt. was.counted k o lt) k other tt lt;
-      lines = after_change (λ w (a : Arrived). w.lines ≡ picked_in s a.entries) (λ k. current < k) current waiting after came next IsCountedOne changed more.others below
+      lines = after_change (λ w (a : Arrived). w.lines ≡ picked_in s a.entries) (λ k. current < k) current waiting after came next (TakesIn []) changed more.others below
           (λ lt. absurd (omega (arith, lt))) was.lines;
       none = λ k past. none_more current (length waiting) came next below more.others was.none k (omega (arith, past, changed.count));
       text = subst (IsInTransit start new buffered) (text_more s current came next entry text is more) (goes start _ was.text);
     }
 
--- one record more is counted and its text waits
-abbrev HasLineMore : List ℕ → Waiting → Waiting → Type 0
-HasLineMore line w w' = (w'.lines ≡ w.lines ++ line) × (w'.count ≡ w.count + 1) × (w'.mark ≡ w.mark)
-
-line_more : (line : List ℕ) (u v w : Waiting) → IsCountedOne u v → GetsLine line v w → HasLineMore line u w
-line_more line u v w p q = (q.lines ∙ ap (λ l. l ++ line) p.lines, q.count ∙ p.count, q.mark ∙ p.mark)
-
 -- a record of a later file waits
-pub picked_behind : (s : Selection) (start now : Option (List ℕ)) (buffer : List ℕ) (file current : ℕ) (waiting mid after : List Waiting) (came next : ℕ → Arrived) (entry : FactEntry) (text : List ℕ)
-    → file < length waiting → current < file → text ≡ picked_of s entry → HasEntryMore file entry came next → ChangesAt file IsCountedOne waiting mid → ChangesAt file (GetsLine text) mid after
-    → ArePicked s start now buffer current waiting came → ArePicked s start now buffer current after next
-picked_behind s start now buffer file current waiting mid after came next entry text below before is more first then_more was =
-    let changed = changes_both waiting mid after file IsCountedOne (GetsLine text) (HasLineMore text) (line_more text) first then_more in
+picked_behind : (s : Selection) (start old new : Option (List ℕ)) (buffer buffered : List ℕ) (file current : ℕ) (waiting after : List Waiting) (came next : ℕ → Arrived) (entry : FactEntry) (text : List ℕ)
+    → file < length waiting → current < file → text ≡ picked_of s entry → HasEntryMore file entry came next → ChangesAt file (TakesIn text) waiting after → GoesOn old buffer new buffered []
+    → ArePicked s start old buffer current waiting came → ArePicked s start new buffered current after next
+picked_behind s start old new buffer buffered file current waiting after came next entry text below before is more changed goes was =
     let records = records_more file entry came next more in
+    let whole = HEADER ++ picked_up_to s came (suc current) in
     record {
       within = omega (arith, was.within, changed.count);
-      counted = λ k other lt. after_change IsCounted (λ _. ⊤) file waiting after (all_records came) (all_records next) (HasLineMore text) changed records.others below
-          (λ _ w w' c had. counted_one file (record_of entry) (all_records came) (all_records next) w w' records c.1 c.2 had) (λ k o _ lt. was.counted k o lt) k other tt lt;
-      lines = after_change (λ w (a : Arrived). w.lines ≡ picked_in s a.entries) (λ k. current < k) file waiting after came next (HasLineMore text) changed more.others below
-          (λ _ w w' c same. c.0 ∙ ap (λ l. l ++ text) same ∙ ap (λ l. picked_in s (came file).entries ++ l) is ∙ sym (picked_more s (came file).entries entry)
+      counted = λ k other lt. after_change IsCounted (λ _. ⊤) file waiting after (all_records came) (all_records next) (TakesIn text) changed records.others below
+          (λ _ w w' c had. counted_one file (record_of entry) (all_records came) (all_records next) w w' records c.count c.mark had) (λ k o _ lt. was.counted k o lt) k other tt lt;
+      lines = after_change (λ w (a : Arrived). w.lines ≡ picked_in s a.entries) (λ k. current < k) file waiting after came next (TakesIn text) changed more.others below
+          (λ _ w w' c same. c.lines ∙ ap (λ l. l ++ text) same ∙ ap (λ l. picked_in s (came file).entries ++ l) is ∙ sym (picked_more s (came file).entries entry)
           ∙ ap (λ (a : Arrived). picked_in s a.entries) (sym more.here)) was.lines;
       none = λ k past. none_more file (length waiting) came next below more.others was.none k (omega (arith, past, changed.count));
-      text = subst (λ l. IsInTransit start now buffer (HEADER ++ l)) (up_to_same s came next (suc current) (λ k lt. more.others k (λ e. absurd (omega (arith, lt, before, e))))) was.text;
+      text = subst (λ l. IsInTransit start new buffered (HEADER ++ l)) (up_to_same s came next (suc current) (λ k lt. more.others k (λ e. absurd (omega (arith, lt, before, e)))))
+          (subst (IsInTransit start new buffered) (append-nil whole) (goes start whole was.text));
     }
+
+-- a record of one or the other arrived
+pub picked_added : (s : Selection) (start old new : Option (List ℕ)) (before after : OrderModel) (file : ℕ) (came next : ℕ → Arrived) (entry : FactEntry) (text : List ℕ)
+    → file < length before.waiting → before.current ≤ file → text ≡ picked_of s entry → HasEntryMore file entry came next → StaysAt before after
+    → GoesOn old before.buffer new after.buffer (goes_on before.current file text) → ChangesAt file (TakesIn (is_kept before.current file text)) before.waiting after.waiting
+    → ArePicked s start old before.buffer before.current before.waiting came → ArePicked s start new after.buffer after.current after.waiting next
+picked_added s start old new before after file came next entry text below from is more same goes changed was =
+    subst (λ n. ArePicked s start new after.buffer n after.waiting next) (sym same.current)
+    (elim (cases_eq file before.current) [
+      | inl here ↦
+          let test : (file == before.current) ≡ true = eq-eqb file before.current here in
+          picked_current s start old new before.buffer after.buffer before.current before.waiting after.waiting came next entry text (omega (arith, below, here)) is
+          (subst (λ f. HasEntryMore f entry came next) here more)
+          (subst (λ f. ChangesAt f (TakesIn []) before.waiting after.waiting) here
+          (subst (λ b. ChangesAt file (TakesIn (if b then [] else text)) before.waiting after.waiting) test changed))
+          (subst (λ b. GoesOn old before.buffer new after.buffer (if b then text else [])) test goes) was
+      | inr apart ↦
+          let test : (file == before.current) ≡ false = ne_eqb file before.current apart in
+          picked_behind s start old new before.buffer after.buffer file before.current before.waiting after.waiting came next entry text below (omega (arith, from, apart)) is more
+          (subst (λ b. ChangesAt file (TakesIn (if b then [] else text)) before.waiting after.waiting) test changed)
+          (subst (λ b. GoesOn old before.buffer new after.buffer (if b then text else [])) test goes) was
+    ])
 
 entries_same : (file : ℕ) (mark : Mark) (came next : ℕ → Arrived) → HasEndMore file mark came next → (k : ℕ) → (came k).entries ≡ (next k).entries
 entries_same file mark came next more k =
@@ -178,11 +203,10 @@ entries_same file mark came next more k =
       | inr apart ↦ ap (λ (a : Arrived). a.entries) (sym (more.others k apart))
     ]
 
--- a mark is kept
-pub picked_marked : (s : Selection) (start now : Option (List ℕ)) (buffer : List ℕ) (file current : ℕ) (waiting after : List Waiting) (came next : ℕ → Arrived) (many : ℕ) (mark : Mark)
+marked_here : (s : Selection) (start now : Option (List ℕ)) (buffer : List ℕ) (file current : ℕ) (waiting after : List Waiting) (came next : ℕ → Arrived) (many : ℕ) (mark : Mark)
     → file < length waiting → HasEndMore file mark came next → ChangesAt file (GetsMark many mark) waiting after
     → ArePicked s start now buffer current waiting came → ArePicked s start now buffer current after next
-picked_marked s start now buffer file current waiting after came next many mark below more changed was =
+marked_here s start now buffer file current waiting after came next many mark below more changed was =
     let records = records_ended file mark came next more in
     let entries = entries_same file mark came next more in
     record {
@@ -198,6 +222,14 @@ picked_marked s start now buffer file current waiting after came next many mark 
       text = subst (λ l. IsInTransit start now buffer (HEADER ++ l)) (up_to_entries s came next (suc current) entries) was.text;
     }
 
+-- a mark is kept
+pub picked_marked : (s : Selection) (start now : Option (List ℕ)) (before after : OrderModel) (file : ℕ) (came next : ℕ → Arrived) (many : ℕ) (mark : Mark)
+    → file < length before.waiting → HasEndMore file mark came next → ChangesAt file (GetsMark many mark) before.waiting after.waiting → after ≡ record before { waiting = after.waiting }
+    → ArePicked s start now before.buffer before.current before.waiting came → ArePicked s start now after.buffer after.current after.waiting next
+picked_marked s start now before after file came next many mark below more changed same was =
+    subst (λ (o : OrderModel). ArePicked s start now o.buffer o.current o.waiting next) (sym same)
+    (marked_here s start now before.buffer file before.current before.waiting after.waiting came next many mark below more changed was)
+
 -- the text with that of the next file
 up_to_next : (s : Selection) (came : ℕ → Arrived) (current next : ℕ) (lines : List ℕ) → next ≡ current + 1 → lines ≡ picked_in s (came next).entries
     → (HEADER ++ picked_up_to s came (suc current)) ++ lines ≡ HEADER ++ picked_up_to s came (suc next)
@@ -207,11 +239,12 @@ up_to_next s came current next lines next_is are =
     ∙ ap (λ l. HEADER ++ l) (ap (λ l. picked_up_to s came (suc current) ++ l) are ∙ ap (λ n. picked_up_to s came n ++ picked_in s (came next).entries) same)
 
 -- what waited of the next file went on its way
-pub picked_next : (s : Selection) (start old new : Option (List ℕ)) (buffer buffered : List ℕ) (current next : ℕ) (waiting after : List Waiting) (came : ℕ → Arrived) (lines : List ℕ)
-    → next ≡ current + 1 → next < length waiting → ((other : Waiting) → lines ≡ (get_or waiting next other).lines) → ChangesAt next IsTaken waiting after → GoesOn old buffer new buffered lines
-    → (other : Waiting) → ArePicked s start old buffer current waiting came → ArePicked s start new buffered next after came
-picked_next s start old new buffer buffered current next waiting after came lines next_is below taken changed goes some was =
-    let are : lines ≡ picked_in s (came next).entries = taken some ∙ was.lines next some (omega (arith, next_is)) below in
+next_here : (s : Selection) (start old new : Option (List ℕ)) (buffer buffered : List ℕ) (current next : ℕ) (waiting after : List Waiting) (came : ℕ → Arrived)
+    → next ≡ current + 1 → next < length waiting → ChangesAt next IsTaken waiting after → ((other : Waiting) → GoesOn old buffer new buffered (get_or waiting next other).lines)
+    → ArePicked s start old buffer current waiting came → ArePicked s start new buffered next after came
+next_here s start old new buffer buffered current next waiting after came next_is below changed goes was =
+    let some = some_waiting waiting next below in
+    let are = was.lines next some (omega (arith, next_is)) below in
     record {
       within = omega (arith, below, changed.count);
       counted = λ k other lt. after_change IsCounted (λ _. ⊤) next waiting after (all_records came) (all_records came) IsTaken changed (λ _ _. refl) below
@@ -219,13 +252,13 @@ picked_next s start old new buffer buffered current next waiting after came line
       lines = after_change (λ w (a : Arrived). w.lines ≡ picked_in s a.entries) (λ k. next < k) next waiting after came came IsTaken changed (λ _ _. refl) below
           (λ lt. absurd (omega (arith, lt))) (λ k o past lt. was.lines k o (omega (arith, past, next_is)) lt);
       none = λ k past. was.none k (omega (arith, past, changed.count));
-      text = subst (IsInTransit start new buffered) (up_to_next s came current next lines next_is are) (goes start _ was.text);
+      text = subst (IsInTransit start new buffered) (up_to_next s came current next (get_or waiting next some).lines next_is are) (goes some start _ was.text);
     }
 
 -- there is no next file
-pub picked_over : (s : Selection) (start now : Option (List ℕ)) (buffer : List ℕ) (current next : ℕ) (waiting : List Waiting) (came : ℕ → Arrived)
+over_here : (s : Selection) (start now : Option (List ℕ)) (buffer : List ℕ) (current next : ℕ) (waiting : List Waiting) (came : ℕ → Arrived)
     → next ≡ current + 1 → current < length waiting → length waiting ≤ next → ArePicked s start now buffer current waiting came → ArePicked s start now buffer next waiting came
-picked_over s start now buffer current next waiting came next_is below past was = record {
+over_here s start now buffer current next waiting came next_is below past was = record {
   within = omega (arith, below, next_is);
   counted = was.counted;
   lines = λ k other lt. was.lines k other (omega (arith, lt, next_is));
@@ -235,13 +268,40 @@ picked_over s start now buffer current next waiting came next_is below past was 
 }
 
 -- where it went in part
-pub part_next : (s : Selection) (start old new : Option (List ℕ)) (buffer : List ℕ) (current next : ℕ) (waiting : List Waiting) (came : ℕ → Arrived) (lines : List ℕ)
-    → next ≡ current + 1 → next < length waiting → ((other : Waiting) → lines ≡ (get_or waiting next other).lines) → IsPartlyAdded old buffer new lines
-    → (other : Waiting) → ArePicked s start old buffer current waiting came → IsPartOfPicked s start new (length waiting) came
-part_next s start old new buffer current next waiting came lines next_is below taken breaks some was =
-    let are : lines ≡ picked_in s (came next).entries = taken some ∙ was.lines next some (omega (arith, next_is)) below in
+part_of_next : (s : Selection) (start old new : Option (List ℕ)) (buffer : List ℕ) (current next : ℕ) (waiting : List Waiting) (came : ℕ → Arrived)
+    → next ≡ current + 1 → next < length waiting → ((other : Waiting) → IsPartlyAdded old buffer new (get_or waiting next other).lines)
+    → ArePicked s start old buffer current waiting came → IsPartOfPicked s start new (length waiting) came
+part_of_next s start old new buffer current next waiting came next_is below breaks was =
+    let some = some_waiting waiting next below in
+    let are = was.lines next some (omega (arith, next_is)) below in
     part_of s start new (length waiting) came next (omega (arith, below)) was.none
-    (subst (AppendsPrefix start new) (up_to_next s came current next lines next_is are) (breaks start _ was.text))
+    (subst (AppendsPrefix start new) (up_to_next s came current next (get_or waiting next some).lines next_is are) (breaks some start _ was.text))
+
+-- the next file is current
+pub picked_next : (s : Selection) (start old new : Option (List ℕ)) (before next after : OrderModel) (came : ℕ → Arrived)
+    → next ≡ record before { current = before.current + 1 } → before.current + 1 < length before.waiting
+    → ChangesAt next.current IsTaken next.waiting after.waiting → ((other : Waiting) → GoesOn old next.buffer new after.buffer (get_or next.waiting next.current other).lines) → after.current ≡ next.current
+    → ArePicked s start old before.buffer before.current before.waiting came → ArePicked s start new after.buffer after.current after.waiting came
+picked_next s start old new before next after came went below changed goes current was =
+    subst (λ n. ArePicked s start new after.buffer n after.waiting came) (sym (current ∙ ap (λ (o : OrderModel). o.current) went))
+    (next_here s start old new before.buffer after.buffer before.current (before.current + 1) before.waiting after.waiting came refl below
+    (subst (λ (o : OrderModel). ChangesAt o.current IsTaken o.waiting after.waiting) went changed)
+    (subst (λ (o : OrderModel). (other : Waiting) → GoesOn old o.buffer new after.buffer (get_or o.waiting o.current other).lines) went goes) was)
+
+pub picked_over : (s : Selection) (start now : Option (List ℕ)) (before next : OrderModel) (came : ℕ → Arrived)
+    → next ≡ record before { current = before.current + 1 } → before.current < length before.waiting → length before.waiting ≤ before.current + 1
+    → ArePicked s start now before.buffer before.current before.waiting came → ArePicked s start now next.buffer next.current next.waiting came
+picked_over s start now before next came went below past was =
+    subst (λ (o : OrderModel). ArePicked s start now o.buffer o.current o.waiting came) (sym went)
+    (over_here s start now before.buffer before.current (before.current + 1) before.waiting came refl below past was)
+
+pub part_next : (s : Selection) (start old new : Option (List ℕ)) (before next : OrderModel) (came : ℕ → Arrived)
+    → next ≡ record before { current = before.current + 1 } → before.current + 1 < length before.waiting
+    → ((other : Waiting) → IsPartlyAdded old next.buffer new (get_or next.waiting next.current other).lines)
+    → ArePicked s start old before.buffer before.current before.waiting came → IsPartOfPicked s start new (length before.waiting) came
+part_next s start old new before next came went below breaks was =
+    part_of_next s start old new before.buffer before.current (before.current + 1) before.waiting came refl below
+    (subst (λ (o : OrderModel). (other : Waiting) → IsPartlyAdded old o.buffer new (get_or o.waiting o.current other).lines) went breaks) was
 
 -- nothing has arrived, and the header is on its way
 pub picked_none : (s : Selection) (start : Option (List ℕ)) (buffer : List ℕ) (waiting : List Waiting) → All IsNothing waiting → buffer ≡ HEADER → ArePicked s start start buffer 0 waiting (λ _. none_arrived)

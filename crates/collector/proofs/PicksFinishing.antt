@@ -1,5 +1,5 @@
 -- What is held of all notes of a run are the books of its files; and of some notes, a beginning of them.
-use Rattle.std.proofs.Common.{◌≡◌, ◌≢◌, ℕ, zero, suc, ◌+◌, ◌<◌, ◌≤◌, List, [], ◌∷◌, ◌++◌, map, length, get_or, Option, None, Some, inl, inr, refl, sym, ap, subst, ◌∙◌, arith, append_assoc, append-nil, length-append}
+use Rattle.std.proofs.Common.{◌≡◌, ℕ, zero, suc, ◌+◌, ◌<◌, ◌≤◌, List, [], ◌∷◌, ◌++◌, map, length, get_or, Option, Some, inl, inr, refl, sym, ap, subst, ◌∙◌, arith, append-nil, length-append}
 use Rattle.std.proofs.Math.Logic.{∥∥₁_map}
 use Rattle.std.proofs.lemmas.Bool.{cases_lt}
 use Rattle.std.proofs.lemmas.Grind.{merely}
@@ -8,16 +8,15 @@ use Rattle.std.proofs.lemmas.List.Concat.{flat_map-append}
 use Rattle.std.specs.Io.KnownBytes.{Appends}
 use Rattle.std.specs.List.{flat_map}
 use Rattle.planar_code.specs.declared.TheConstants.{HEADER}
-use Rattle.streams.specs.declared.frames.Mark.{Mark}
 use Rattle.streams.specs.FrameLines.{added_both, added_none}
 use Rattle.streams.specs.Sink.{AppendsPrefix}
 use Rattle.common.specs.declared.choice.Choice.{Choice}
-use Rattle.lanes.specs.Notes.{About, Note, numbered}
+use Rattle.lanes.specs.Notes.{Note}
 use Rattle.lanes.specs.Opening.{Meaning, IsFoundAt}
 use Rattle.lanes.specs.Files.{HasFile, AreToldWhole}
 use Rattle.reports.specs.declared.entry.Entry.{Entry}
 use Rattle.reports.specs.Abouts as reported
-use Rattle.collector.specs.Came.{Came, IsToldByNotes, mark_or_memory}
+use Rattle.collector.specs.Came.{IsToldByNotes, mark_or_memory}
 use Rattle.collector.specs.Orders.{IsInOrder}
 use Rattle.collector.proofs.Finishing.{book_told, mark_told}
 use Rattle.collector.proofs.Ordering.{found_come, order_none}
@@ -115,13 +114,13 @@ told_books choice meaning files ns came told have = record { count = count_up_to
 
 -- the current file is past the last one
 past_last : (choice : Choice) (meaning known : ℕ → Meaning) (start now : Option (List ℕ)) (picks : Picks) (ns : List Note) → AreToldWhole choice meaning (files_of picks) ns
-    → PicksHold known start now picks ns → files_of picks ≤ picks.current
+    → PicksHold known start now picks ns → files_of picks ≤ picks.order.current
 past_last choice meaning known start now picks ns have holds =
-    elim (cases_lt picks.current (files_of picks)) [
+    elim (cases_lt picks.order.current (files_of picks)) [
       | inl below ↦
-          let has = have picks.current below in
-          let some : (holds.arrived picks.current).mark ≡ Some has.mark =
-          mark_told choice (meaning picks.current) picks.current ns (records_of (holds.arrived picks.current)) has (holds.are.told picks.current below) in
+          let has = have picks.order.current below in
+          let some : (holds.arrived picks.order.current).mark ≡ Some has.mark =
+          mark_told choice (meaning picks.order.current) picks.order.current ns (records_of (holds.arrived picks.order.current)) has (holds.are.told picks.order.current below) in
           let unended = holds.unended below in
           absurd (let none : ⊥ = cc in none)
       | inr past ↦ past
@@ -129,19 +128,19 @@ past_last choice meaning known start now picks ns have holds =
 
 -- what was buffered was put, and with it the records of all books
 pub all_picked : (choice : Choice) (meaning known : ℕ → Meaning) (start old new : Option (List ℕ)) (picks : Picks) (ns : List Note) → AreToldWhole choice meaning (files_of picks) ns
-    → PicksHold known start old picks ns → Appends old new picks.buffer → IsAllPicked picks.selection choice meaning (files_of picks) start new picks.flaws.items
+    → PicksHold known start old picks ns → Appends old new picks.order.buffer → IsAllPicked picks.selection choice meaning (files_of picks) start new picks.flaws.items
 all_picked choice meaning known start old new picks ns have holds put =
     let files = files_of picks in
     let way = holds.picked.text in
     let past = past_last choice meaning known start old picks ns have holds in
-    let same : picks.current ≡ files = omega (arith, past, holds.picked.within) in
-    let text : HEADER ++ picked_up_to picks.selection holds.arrived (suc picks.current) ≡ picked_text picks.selection (books_up_to holds.arrived files) =
-    ap (λ l. HEADER ++ l) (up_to_last picks.selection holds.arrived picks.current (holds.picked.none picks.current past) ∙ ap (picked_up_to picks.selection holds.arrived) same
+    let same : picks.order.current ≡ files = omega (arith, past, holds.picked.within) in
+    let text : HEADER ++ picked_up_to picks.selection holds.arrived (suc picks.order.current) ≡ picked_text picks.selection (books_up_to holds.arrived files) =
+    ap (λ l. HEADER ++ l) (up_to_last picks.selection holds.arrived picks.order.current (holds.picked.none picks.order.current past) ∙ ap (picked_up_to picks.selection holds.arrived) same
     ∙ sym (up_to_books picks.selection holds.arrived files)) in
     record {
       books = books_up_to holds.arrived files;
       of_files = told_books choice meaning files ns holds.arrived holds.are.told have;
-      text = subst (Appends start new) (sym way.split ∙ text) (added_both start old new way.sent picks.buffer way.added put);
+      text = subst (Appends start new) (sym way.split ∙ text) (added_both start old new way.sent picks.order.buffer way.added put);
       flaws_are = flaws_up_to holds.arrived files picks.flaws.items holds.are.flaws_count holds.are.flaws_are;
     }
 

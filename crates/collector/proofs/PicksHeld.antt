@@ -1,28 +1,27 @@
 -- What picks hold after one message more.
-use Rattle.std.proofs.Common.{◌≡◌, ◌≢◌, ℕ, suc, ◌+◌, ◌<◌, ◌≤◌, List, [], ◌∷◌, ◌++◌, length, get_or, Option, None, All, inl, inr, refl, sym, ap, subst, ◌∙◌, arith, append-nil}
+use Rattle.std.proofs.Common.{◌≡◌, ◌≢◌, ℕ, ◌+◌, ◌<◌, List, [], ◌∷◌, ◌++◌, length, get_or, Option, None, All, inl, inr, refl, sym, ap, subst, ◌∙◌, arith, append-nil}
 use Rattle.std.proofs.lemmas.Bool.{cases_eq}
 use Rattle.std.proofs.lemmas.List.{length-map}
 use Rattle.std.specs.Io.KnownBytes.{Appends}
 use Rattle.planar_code.specs.declared.TheConstants.{HEADER}
 use Rattle.streams.specs.declared.frames.Mark.{Mark}
 use Rattle.streams.specs.FrameLines.{added_both}
-use Rattle.streams.specs.Sink.{AppendsPrefix, IsInTransit}
+use Rattle.streams.specs.Sink.{AppendsPrefix}
 use Rattle.common.specs.declared.choice.Choice.{Choice}
 use Rattle.lanes.specs.Notes.{Note, Item, End}
 use Rattle.lanes.specs.Opening.{Meaning, IsEndAt}
 use Rattle.answers.specs.Spelt.{IsSpelt}
 use Rattle.file_order.specs.declared.waiting.Waiting.{Waiting}
+use Rattle.file_order.specs.FileOrder.{OrderModel}
 use Rattle.collector.specs.Orders.{IsKnownAt, IsInOrder}
 use Rattle.file_order.specs.Waits.{IsNext}
-use Rattle.file_order.specs.Waits.{ChangesAt, GetsMark, IsNothing}
+use Rattle.file_order.specs.Waits.{IsNothing}
 use Rattle.file_order.proofs.Waits.{some_waiting}
-use Rattle.graph_facts.specs.declared.selecting.Selection.{Selection}
 use Rattle.collector.specs.declared.flaws.Flaws.{Flaws}
 use Rattle.collector.specs.declared.picks.Picks.{Picks}
 use Rattle.collector.specs.FactBooks.{FactEntry, flaws_of}
-use Rattle.collector.specs.Picked.{picked_of}
-use Rattle.collector.specs.Arrived.{Arrived, none_arrived, HasEntryMore, HasEndMore, book_so_far, record_of, records_of, flaws_with, picked_up_to}
-use Rattle.collector.specs.PicksHolding.{AreArrived, ArePicked, ArePicksOf, IsPartOfPicked, IsPartlyPicked, PicksHold, PicksPartly, PicksWrite, files_of}
+use Rattle.collector.specs.Arrived.{Arrived, none_arrived, HasEntryMore, HasEndMore, book_so_far, record_of, records_of, flaws_with}
+use Rattle.collector.specs.PicksHolding.{AreArrived, ArePicked, ArePicksOf, IsPartOfPicked, PicksHold, PicksPartly, PicksWrite, files_of}
 use Rattle.collector.proofs.Arriving.{ComesNext, entry_more, has_entry_more, end_more, has_end_more, ordered_item, ordered_end, arrived_item, arrived_end, arrived_none}
 use Rattle.collector.proofs.PickedText.{part_here, part_flushed, picked_none}
 
@@ -49,19 +48,18 @@ part_as meaning start now before after came same ordered part = record {
 -- what is held is left off as it is
 pub left_off_held : (meaning : ℕ → Meaning) (start now : Option (List ℕ)) (before after : Picks) (ns : List Note) → ArePicksOf before after → PicksHold meaning start now before ns → PicksPartly meaning start now after
 left_off_held meaning start now before after ns same held =
-    part_as meaning start now before after held.arrived same held.are.ordered (part_here before.selection start now before.buffer before.current before.waiting.items held.arrived held.picked)
+    part_as meaning start now before after held.arrived same held.are.ordered (part_here before.selection start now before.order.buffer before.order.current before.order.waiting held.arrived held.picked)
 
-pub left_off_flushed : (meaning : ℕ → Meaning) (start old new : Option (List ℕ)) (picks : Picks) (ns : List Note) → AppendsPrefix old new picks.buffer → PicksHold meaning start old picks ns → PicksPartly meaning start new picks
-left_off_flushed meaning start old new picks ns put held = record {
-  arrived = held.arrived;
-  ordered = held.are.ordered;
-  text = part_flushed picks.selection start old new picks.buffer picks.current picks.waiting.items held.arrived put held.picked;
-}
+pub left_off_flushed : (meaning : ℕ → Meaning) (start old new : Option (List ℕ)) (before after : Picks) (ns : List Note) → ArePicksOf before after → AppendsPrefix old new before.order.buffer
+    → PicksHold meaning start old before ns → PicksPartly meaning start new after
+left_off_flushed meaning start old new before after ns same put held =
+    part_as meaning start new before after held.arrived same held.are.ordered
+    (part_flushed before.selection start old new before.order.buffer before.order.current before.order.waiting held.arrived put held.picked)
 
 -- what waited in the buffer was put
-pub held_flushed : (meaning : ℕ → Meaning) (start old new : Option (List ℕ)) (picks : Picks) (buffer : List ℕ) (ns : List Note) → Appends old new picks.buffer → buffer ≡ []
-    → PicksHold meaning start old picks ns → PicksHold meaning start new (record picks { buffer = buffer }) ns
-held_flushed meaning start old new picks buffer ns put empty held =
+held_flushed : (meaning : ℕ → Meaning) (start old new : Option (List ℕ)) (picks : Picks) (ns : List Note) → Appends old new picks.order.buffer
+    → PicksHold meaning start old picks ns → PicksHold meaning start new (record picks { order = record { buffer = []; current = picks.order.current; waiting = picks.order.waiting } }) ns
+held_flushed meaning start old new picks ns put held =
     let way = held.picked.text in
     record {
       arrived = held.arrived;
@@ -72,22 +70,27 @@ held_flushed meaning start old new picks buffer ns put empty held =
         lines = held.picked.lines;
         none = held.picked.none;
         text = record {
-          sent = way.sent ++ picks.buffer;
-          split = way.split ∙ sym (append-nil (way.sent ++ picks.buffer)) ∙ ap (λ l. (way.sent ++ picks.buffer) ++ l) (sym empty);
-          added = added_both start old new way.sent picks.buffer way.added put;
+          sent = way.sent ++ picks.order.buffer;
+          split = way.split ∙ sym (append-nil (way.sent ++ picks.order.buffer));
+          added = added_both start old new way.sent picks.order.buffer way.added put;
         };
       };
       unended = held.unended;
     }
 
+pub flushed_picks : (meaning : ℕ → Meaning) (start old new : Option (List ℕ)) (picks : Picks) (order : OrderModel) (ns : List Note) → Appends old new picks.order.buffer → order ≡ record picks.order { buffer = [] }
+    → PicksHold meaning start old picks ns → PicksHold meaning start new (record picks { order = order }) ns
+flushed_picks meaning start old new picks order ns put flushed held =
+    subst (λ o. PicksHold meaning start new (record picks { order = o }) ns) (sym flushed) (held_flushed meaning start old new picks ns put held)
+
 -- nothing is told
-pub held_none : (meaning : ℕ → Meaning) (start : Option (List ℕ)) (picks : Picks) → picks.current ≡ 0 → All IsNothing picks.waiting.items → picks.buffer ≡ HEADER
+pub held_none : (meaning : ℕ → Meaning) (start : Option (List ℕ)) (picks : Picks) → picks.order.current ≡ 0 → All IsNothing picks.order.waiting → picks.order.buffer ≡ HEADER
     → length picks.flaws.items ≡ files_of picks → All (λ each. each ≡ flaws_of (book_so_far none_arrived)) picks.flaws.items → PicksHold meaning start start picks []
 held_none meaning start picks first all buffer count flaws = record {
   arrived = λ _. none_arrived;
   are = arrived_none picks.choice meaning (files_of picks) picks.flaws.items count flaws;
-  picked = subst (λ n. ArePicked picks.selection start start picks.buffer n picks.waiting.items (λ _. none_arrived)) (sym first)
-      (picked_none picks.selection start picks.buffer picks.waiting.items all buffer);
+  picked = subst (λ n. ArePicked picks.selection start start picks.order.buffer n picks.order.waiting (λ _. none_arrived)) (sym first)
+      (picked_none picks.selection start picks.order.buffer picks.order.waiting all buffer);
   unended = λ _. refl;
 }
 
@@ -96,10 +99,10 @@ held_none meaning start picks first all buffer count flaws = record {
 -- it comes next in its file
 pub comes_next : (meaning : ℕ → Meaning) (start now : Option (List ℕ)) (picks : Picks) (ns : List Note) (file : ℕ) (entry : FactEntry) → entry.about.file ≡ file → entry.about.choice ≡ picks.choice
     → IsSpelt entry.about.bytes → IsKnownAt (meaning file) entry.about.ordinal entry.about.bytes → file < files_of picks
-    → ((other : Waiting) → IsNext entry.about.ordinal (get_or picks.waiting.items file other))
+    → ((other : Waiting) → IsNext entry.about.ordinal (get_or picks.order.waiting file other))
     → (held : PicksHold meaning start now picks ns) → ComesNext picks.choice (meaning file) file (held.arrived file) entry
 comes_next meaning start now picks ns file entry file_is choice_is spelt placed below next held =
-    let other = some_waiting picks.waiting.items file below in
+    let other = some_waiting picks.order.waiting file below in
     let counted = held.picked.counted file other below in
     let at = next other in
     let count : length (records_of (held.arrived file)).entries ≡ length (held.arrived file).entries = length-map (held.arrived file).entries record_of in
@@ -120,7 +123,7 @@ same_mark file entry came next more k =
       | inr apart ↦ ap (λ (a : Arrived). a.mark) (more.others k apart)
     ]
 
-pub held_item : (meaning : ℕ → Meaning) (start old new : Option (List ℕ)) (before after : Picks) (ns : List Note) (file : ℕ) (entry : FactEntry) → ArePicksOf before after → after.current ≡ before.current
+pub held_item : (meaning : ℕ → Meaning) (start old new : Option (List ℕ)) (before after : Picks) (ns : List Note) (file : ℕ) (entry : FactEntry) → ArePicksOf before after → after.order.current ≡ before.order.current
     → file < files_of before → length after.flaws.items ≡ length before.flaws.items
     → ((other : Flaws) → get_or after.flaws.items file other ≡ flaws_with (get_or before.flaws.items file other) entry.about.ordinal entry.facts)
     → ((k : ℕ) (other : Flaws) → k ≢ file → get_or after.flaws.items k other ≡ get_or before.flaws.items k other)
@@ -136,8 +139,8 @@ held_item meaning start old new before after ns file entry same current below co
           (arrived_item before.choice meaning (files_of before) before.flaws.items after.flaws.items ns file entry held.arrived next below count here apart comes more held.are);
       picked = writes held.arrived next more held.picked;
       unended = λ lt.
-          let was : (held.arrived before.current).mark ≡ None = held.unended (omega (arith, lt, same.files, current)) in
-          same_mark file entry held.arrived next more after.current ∙ ap (λ k. (held.arrived k).mark) current ∙ was;
+          let was : (held.arrived before.order.current).mark ≡ None = held.unended (omega (arith, lt, same.files, current)) in
+          same_mark file entry held.arrived next more after.order.current ∙ ap (λ k. (held.arrived k).mark) current ∙ was;
     }
 
 pub left_off_item : (meaning : ℕ → Meaning) (start old new : Option (List ℕ)) (before after : Picks) (ns : List Note) (file : ℕ) (entry : FactEntry) → ArePicksOf before after → file < files_of before
@@ -153,10 +156,10 @@ left_off_item meaning start old new before after ns file entry same below breaks
 
 -- it may end its file
 pub may_end : (meaning : ℕ → Meaning) (start now : Option (List ℕ)) (picks : Picks) (ns : List Note) (file count : ℕ) (mark : Mark) → file < files_of picks
-    → ((other : Waiting) → (get_or picks.waiting.items file other).count ≡ count) → ∥ IsEndAt (meaning file) count mark ∥₁
+    → ((other : Waiting) → (get_or picks.order.waiting file other).count ≡ count) → ∥ IsEndAt (meaning file) count mark ∥₁
     → (held : PicksHold meaning start now picks ns) → ∥ IsEndAt (meaning file) (length (held.arrived file).entries) mark ∥₁
 may_end meaning start now picks ns file count mark below counts ends held =
-    let other = some_waiting picks.waiting.items file below in
+    let other = some_waiting picks.order.waiting file below in
     let counted = held.picked.counted file other below in
     let same : count ≡ length (held.arrived file).entries = sym (counts other) ∙ counted.count ∙ length-map (held.arrived file).entries record_of in
     subst (λ n. ∥ IsEndAt (meaning file) n mark ∥₁) same ends
@@ -166,7 +169,7 @@ pub held_end : (meaning : ℕ → Meaning) (start old new : Option (List ℕ)) (
     → ((other : Flaws) → get_or after.flaws.items file other ≡ record (get_or before.flaws.items file other) { mark = mark })
     → ((k : ℕ) (other : Flaws) → k ≢ file → get_or after.flaws.items k other ≡ get_or before.flaws.items k other)
     → ((came next : ℕ → Arrived) → HasEndMore file mark came next → PicksWrite start old before came → PicksWrite start new after next)
-    → ((other : Waiting) → after.current < files_of after → (get_or after.waiting.items after.current other).mark ≡ None)
+    → ((other : Waiting) → after.order.current < files_of after → (get_or after.order.waiting after.order.current other).mark ≡ None)
     → (held : PicksHold meaning start old before ns) → ∥ IsEndAt (meaning file) (length (held.arrived file).entries) mark ∥₁
     → PicksHold meaning start new after (ns ++ End file mark ∷ [])
 held_end meaning start old new before after ns file mark same below count here apart writes unended held ends =
@@ -179,8 +182,8 @@ held_end meaning start old new before after ns file mark same below count here a
           (arrived_end before.choice meaning (files_of before) before.flaws.items after.flaws.items ns file mark held.arrived next below count here apart ends more held.are);
       picked = picked;
       unended = λ lt.
-          let w = some_waiting after.waiting.items after.current lt in
-          sym (picked.counted after.current w lt).mark ∙ unended w lt;
+          let w = some_waiting after.order.waiting after.order.current lt in
+          sym (picked.counted after.order.current w lt).mark ∙ unended w lt;
     }
 
 pub left_off_end : (meaning : ℕ → Meaning) (start old new : Option (List ℕ)) (before after : Picks) (ns : List Note) (file : ℕ) (mark : Mark) → ArePicksOf before after → file < files_of before

@@ -1,9 +1,7 @@
 -- What has arrived of the files of a run so far.
 use Rattle.std.specs.Prelude.{◌≡◌, ◌≢◌, ◌+◌, ◌==◌, ℕ, zero, suc, List, [], ◌∷◌, ◌++◌, map, Option, None, Some, if◌then◌else◌}
 use Rattle.std.proofs.lemmas.Grind.{merely}
-use Rattle.planar_code.specs.Stream.{lists_of}
 use Rattle.streams.specs.declared.frames.Mark.{Mark}
-use Rattle.common.specs.declared.choice.Choice.{Choice}
 use Rattle.reports.specs.declared.answer.Answer.{Answer}
 use Rattle.reports.specs.declared.entry.Entry.{Entry}
 use Rattle.collector.specs.Answered.{entry_of}
@@ -11,9 +9,8 @@ use Rattle.collector.specs.Came.{Came, mark_or_memory}
 use Rattle.graph_facts.specs.declared.selecting.Selection.{Selection}
 use Rattle.graph_facts.specs.declared.facts.Facts.{Facts}
 use Rattle.collector.specs.declared.flaws.Flaws.{Flaws}
-use Rattle.graph_facts.specs.Facts.{AreFacts}
 use Rattle.collector.specs.FactBooks.{FactEntry, FactBook}
-use Rattle.collector.specs.Picked.{picked_in, chosen_of}
+use Rattle.collector.specs.Picked.{picked_in}
 
 -- what has arrived of one file: entries in order, and its mark once it has ended
 pub record Arrived : Type 0 where

@@ -8,7 +8,7 @@ use Rattle.file_order.specs.declared.waiting.Waiting.{Waiting}
 use Rattle.collector.specs.declared.run_lines.Lines.{Lines}
 use Rattle.collector.specs.Came.{Came, IsToldByNotes, IsFlawlessSoFar}
 use Rattle.collector.specs.Orders.{IsInOrder}
-use Rattle.collector.specs.Written.{AreWritten, AreRemaining, IsPartialText}
+use Rattle.collector.specs.Written.{AreWritten, IsPartialText}
 
 -- What the notes say of each file, which means this, is in order, and is written or buffered. The current file, the
 -- first that has not ended, has no mark. And it is known whether all is flawless so far.
@@ -35,27 +35,23 @@ abbrev pub choice_of : Lines → Choice
 choice_of lines = lines.choice
 
 abbrev pub files_of : Lines → ℕ
-files_of lines = length lines.waiting.items
+files_of lines = length lines.order.waiting
 
 -- no text is in transit to the sink
 abbrev pub IsFlushed : Lines → Type 0
-IsFlushed lines = lines.buffer ≡ []
+IsFlushed lines = lines.order.buffer ≡ []
 
 -- what has arrived of the files is written or buffered, for a sink that had taken `start` and has now taken `now`
 abbrev pub LinesWrite : Option (List ℕ) → Option (List ℕ) → Lines → (ℕ → Came) → Type 0
-LinesWrite start now lines came = AreWritten lines.form start now lines.buffer lines.current lines.waiting.items came
-
--- this holds before anything of the first file that has not ended was written
-abbrev pub LinesRemain : Option (List ℕ) → Option (List ℕ) → Lines → (ℕ → Came) → Type 0
-LinesRemain start now lines came = AreRemaining lines.form start now lines.buffer lines.current lines.waiting.items came
+LinesWrite start now lines came = AreWritten lines.form start now lines.order.buffer lines.order.current lines.order.waiting came
 
 -- what the notes say of files that mean this is written or buffered
 abbrev pub LinesHold : (ℕ → Meaning) → Option (List ℕ) → Option (List ℕ) → Lines → List Note → Type 0
-LinesHold meaning start now lines ns = HoldsNotes lines.choice meaning lines.form start now lines.buffer lines.current lines.waiting.items lines.flawless ns
+LinesHold meaning start now lines ns = HoldsNotes lines.choice meaning lines.form start now lines.order.buffer lines.order.current lines.order.waiting lines.flawless ns
 
 -- a part of the text of what the notes say was added
 abbrev pub ArePartialLines : (ℕ → Meaning) → Option (List ℕ) → Option (List ℕ) → Lines → List Note → Type 0
-ArePartialLines meaning start now lines ns = ArePartialNotes lines.choice meaning lines.form (length lines.waiting.items) start now ns
+ArePartialLines meaning start now lines ns = ArePartialNotes lines.choice meaning lines.form (length lines.order.waiting) start now ns
 
 -- a part of that text was added, with or without the note that came last
 abbrev pub ArePartialLinesAt : (ℕ → Meaning) → Option (List ℕ) → Option (List ℕ) → Lines → List Note → Note → Type 0
@@ -66,10 +62,4 @@ ArePartialLinesAt meaning start now lines ns note =
 pub record AreLinesOf (before after : Lines) : Type 0 where
   pub form : after.form ≡ before.form
   pub choice : after.choice ≡ before.choice
-  pub files : length after.waiting.items ≡ length before.waiting.items
-
--- the first file that has not ended, and whether all is flawless so far, are unchanged, too
-pub record StandAt (before after : Lines) : Type 0 where
-  pub same : AreLinesOf before after
-  pub current : after.current ≡ before.current
-  pub flawless : after.flawless ≡ before.flawless
+  pub files : length after.order.waiting ≡ length before.order.waiting

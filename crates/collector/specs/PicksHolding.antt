@@ -42,13 +42,13 @@ pub record AreArrived (choice : Choice) (meaning : ℕ → Meaning) (files : ℕ
 -- has not ended, has no mark.
 pub record PicksHold (meaning : ℕ → Meaning) (start now : Option (List ℕ)) (picks : Picks) (ns : List Note) : Type 0 where
   pub arrived : ℕ → Arrived
-  pub are : AreArrived picks.choice meaning (length picks.waiting.items) picks.flaws.items ns arrived
-  pub picked : ArePicked picks.selection start now picks.buffer picks.current picks.waiting.items arrived
-  pub unended : picks.current < length picks.waiting.items → (arrived picks.current).mark ≡ None
+  pub are : AreArrived picks.choice meaning (length picks.order.waiting) picks.flaws.items ns arrived
+  pub picked : ArePicked picks.selection start now picks.order.buffer picks.order.current picks.order.waiting arrived
+  pub unended : picks.order.current < length picks.order.waiting → (arrived picks.order.current).mark ≡ None
 
 -- what is chosen of what has arrived is in transit or buffered
 abbrev pub PicksWrite : Option (List ℕ) → Option (List ℕ) → Picks → (ℕ → Arrived) → Type 0
-PicksWrite start now picks arrived = ArePicked picks.selection start now picks.buffer picks.current picks.waiting.items arrived
+PicksWrite start now picks arrived = ArePicked picks.selection start now picks.order.buffer picks.order.current picks.order.waiting arrived
 
 -- of files that mean this some records are in order, and a prefix of what is chosen of them was added
 pub record IsPartlyPicked (selection : Selection) (choice : Choice) (meaning : ℕ → Meaning) (files : ℕ) (start now : Option (List ℕ)) : Type 0 where
@@ -57,7 +57,7 @@ pub record IsPartlyPicked (selection : Selection) (choice : Choice) (meaning : �
   pub text : IsPartOfPicked selection start now files arrived
 
 abbrev pub files_of : Picks → ℕ
-files_of picks = length picks.waiting.items
+files_of picks = length picks.order.waiting
 
 abbrev pub flaws_in : Picks → ℕ
 flaws_in picks = length picks.flaws.items
@@ -68,10 +68,10 @@ PicksPartly meaning start now picks = IsPartlyPicked picks.selection picks.choic
 
 -- no text is in transit to the sink
 abbrev pub IsFlushed : Picks → Type 0
-IsFlushed picks = picks.buffer ≡ []
+IsFlushed picks = picks.order.buffer ≡ []
 
 -- the selection, the choice and the number of files are unchanged
 pub record ArePicksOf (before after : Picks) : Type 0 where
   pub selection : after.selection ≡ before.selection
   pub choice : after.choice ≡ before.choice
-  pub files : length after.waiting.items ≡ length before.waiting.items
+  pub files : length after.order.waiting ≡ length before.order.waiting

@@ -1,5 +1,5 @@
 -- A stop says nothing about the files of a run.
-use Rattle.std.proofs.Common.{◌≡◌, ℕ, List, [], ◌∷◌, ◌++◌, Option, refl}
+use Rattle.std.proofs.Common.{ℕ, List, [], ◌∷◌, ◌++◌, Option, refl}
 use Rattle.lanes.specs.Notes.{Note, Stop}
 use Rattle.lanes.specs.Opening.{Meaning}
 use Rattle.collector.specs.Stops.{told_same}

@@ -49,13 +49,3 @@ pub record AreWritten (form : Form) (start now : Option (List ℕ)) (buffer : Li
       → (slice_index_or waiting file other).lines ≡ lines_in form (came file).entries
   pub going : current < length waiting → IsInTransit start now buffer (ended_texts form came current ++ begun form current (came current))
   pub over : length waiting ≤ current → IsInTransit start now buffer (ended_texts form came current)
-
--- The texts of the files before the current file are in transit, and nothing of the current file: what has arrived of
--- it is still buffered, as is what has arrived of the files after it.
-pub record AreRemaining (form : Form) (start now : Option (List ℕ)) (buffer : List ℕ) (current : ℕ) (waiting : List Waiting) (came : ℕ → Came) : Type 0 where
-  pub within : current ≤ length waiting
-  pub marked : (file : ℕ) → file < current → HasMark (came file)
-  pub counted : (file : ℕ) (other : Waiting) → current ≤ file → file < length waiting → IsCounted (slice_index_or waiting file other) (came file)
-  pub lines : (file : ℕ) (other : Waiting) → current ≤ file → file < length waiting
-      → (slice_index_or waiting file other).lines ≡ lines_in form (came file).entries
-  pub text : IsInTransit start now buffer (ended_texts form came current)

@@ -21,7 +21,6 @@ mod read_message;
 mod run;
 mod run_lines;
 mod texts;
-mod writing;
 
 pub use answers::{Answer, Cause, Entry, answer};
 pub use common::{Choice, DrawingKind};
@@ -33,7 +32,7 @@ pub use found_facts::FoundFacts;
 pub use frames_run::run_frames;
 pub use lanes::{Gate, MemOpener, OpenFault, OpenGate, Opener, Stage};
 pub use line::Line;
-pub use picking::{PickTexts, pick_files};
+pub use picking::pick_files;
 pub use picks::Picks;
 pub use plain::run_plain;
 pub use planar_code::Ending;

@@ -18,12 +18,11 @@ use crate::find_facts::fact_lanes;
 use crate::flaws::Flaws;
 use crate::found_facts::FoundFacts;
 use crate::picks::Picks;
+use crate::texts::Texts;
 use file_order::{KnownEnd, KnownFiles, Pace};
 use graph_facts::Selection;
 use lanes::{Consumer, Gate, LaneKind, Opener, Run, RunFault, run_lanes};
-use std::alloc::Global;
 use std::marker::Brand;
-use std::snapshot::Snapshot;
 use std::sync::Wait;
 use std::thread::Threads;
 use streams::{Mark, Sink, SinkFault};
@@ -85,7 +84,7 @@ fn pick_known<J: KnownFiles + Send + Sync, R: Threads + Wait + Sync, O: Opener, 
     ensures failed { IfErr result (HasFailedBy (S.failed sink.new)) }
 {
     let picks = Picks::new(run.alloc, selection, run.choice, run.files)?;
-    let texts = PickTexts::new(run.alloc, sink, picks, pace);
+    let texts = Texts::new(run.alloc, sink, picks, pace);
     let lanes = fact_lanes::<J>();
     let mut ran = Ok(());
     let texts = gather_into(run, &lanes, texts, &mut ran);
@@ -98,40 +97,7 @@ fn pick_known<J: KnownFiles + Send + Sync, R: Threads + Wait + Sync, O: Opener, 
     }
 }
 
-/// A consumer of the lanes' messages that streams the chosen records of a run to a sink.
-#[derive(Drop)]
-pub struct PickTexts<'s, S, W: Drop> {
-    pub sink: &'s mut S,
-    /// The sink as it was at the beginning. It exists only in proofs.
-    pub start: Snapshot<S>,
-    pub alloc: Global,
-    /// The records in transit and those that are buffered: `Picks`. A type parameter, since contracts do not name a `&mut`
-    /// beside a field that owns memory.
-    pub picks: W,
-    /// The limit on buffered records above which the reading of later files pauses.
-    pub pace: Pace<'s>,
-}
-
-impl<'s, S: Sink> PickTexts<'s, S, Picks> {
-    /// A consumer that streams `picks` to `sink`, and pauses reading by `pace`. Nothing is written yet.
-    fn new(alloc: Global, sink: &'s mut S, picks: Picks, pace: Pace<'s>) -> PickTexts<'s, S, Picks>
-        ensures same { result.sink.ghost_name ≡ sink.entry.ghost_name }
-        ensures now { result.sink.now ≡ sink.old }
-        ensures start { result.start.value ≡ sink.old }
-        ensures picks { result.picks ≡ picks }
-    {
-        let start = Snapshot::of(&*sink);
-        PickTexts {
-            sink,
-            start,
-            alloc,
-            picks,
-            pace,
-        }
-    }
-}
-
-impl<S: Sink> PickTexts<'_, S, Picks> {
+impl<S: Sink> Texts<'_, S, Picks> {
     /// Writes the remaining records to the sink, and returns what is lacking in each file.
     ///
     /// # Errors
@@ -140,42 +106,42 @@ impl<S: Sink> PickTexts<'_, S, Picks> {
     fn finish(self) -> Result<Vec<Flaws>, RunFault<SinkFault>>
         requires { S.failed self.sink.now ≡ false }
         ensures written { IfOk result (λ flaws. (choice : Choice) (known meaning : ℕ → Meaning) (ns : List Note)
-            → PicksHold known (S.taken self.entry.start.value) (S.taken self.entry.sink.now) self.entry.picks ns
-            → AreToldWhole choice meaning (files_of self.entry.picks) ns
-            → IsAllPicked self.entry.picks.selection choice meaning (files_of self.entry.picks)
+            → PicksHold known (S.taken self.entry.start.value) (S.taken self.entry.sink.now) self.entry.lines ns
+            → AreToldWhole choice meaning (files_of self.entry.lines) ns
+            → IsAllPicked self.entry.lines.selection choice meaning (files_of self.entry.lines)
             (S.taken self.entry.start.value) (S.taken self.exit.0.now) flaws.items) }
         ensures partial { OnErr result ((meaning : ℕ → Meaning) (ns : List Note)
-            → PicksHold meaning (S.taken self.entry.start.value) (S.taken self.entry.sink.now) self.entry.picks ns
-            → PicksPartly meaning (S.taken self.entry.start.value) (S.taken self.exit.0.now) self.entry.picks) }
+            → PicksHold meaning (S.taken self.entry.start.value) (S.taken self.entry.sink.now) self.entry.lines ns
+            → PicksPartly meaning (S.taken self.entry.start.value) (S.taken self.exit.0.now) self.entry.lines) }
         ensures stands { TellsFailure (S.failed self.exit.0.now) result }
     {
-        self.picks.finish(self.sink)
+        self.lines.finish(self.sink)
     }
 }
 
 /// Drops a consumer, and leaves its sink unchanged.
-fn let_go<S: Sink>(texts: PickTexts<'_, S, Picks>)
+fn let_go<S: Sink>(texts: Texts<'_, S, Picks>)
     ensures { texts.exit.0.now ≡ texts.entry.sink.now }
 {
-    let PickTexts { .. } = texts;
+    let Texts { .. } = texts;
 }
 
 impl<S: Sink, J: KnownFiles + Send + Sync> Consumer<FoundFacts<J>, KnownEnd<J>>
-    for PickTexts<'_, S, Picks> {
+    for Texts<'_, S, Picks> {
     type Refusal = SinkFault;
 
-    ghost holds = { λ t ns. (S.failed t.sink.now ≡ false) × PicksHold J.meaning (S.taken t.start.value) (S.taken t.sink.now) t.picks ns };
+    ghost holds = { λ t ns. (S.failed t.sink.now ≡ false) × PicksHold J.meaning (S.taken t.start.value) (S.taken t.sink.now) t.lines ns };
 
-    ghost stays = { λ a b. (a.sink.ghost_name ≡ b.sink.ghost_name) × (a.start.value ≡ b.start.value) × ArePicksOf a.picks b.picks };
+    ghost stays = { λ a b. (a.sink.ghost_name ≡ b.sink.ghost_name) × (a.start.value ≡ b.start.value) × ArePicksOf a.lines b.lines };
 
     ghost gave_up = { λ t fault. GivesUp (S.failed t.sink.now) fault
-        × PicksPartly J.meaning (S.taken t.start.value) (S.taken t.sink.now) t.picks };
+        × PicksPartly J.meaning (S.taken t.start.value) (S.taken t.sink.now) t.lines };
 
-    ghost passed_on = { λ t. IsFlushed t.picks };
+    ghost passed_on = { λ t. IsFlushed t.lines };
 
     fn item(&mut self, item: FoundFacts<J>) -> Result<(), RunFault<SinkFault>> {
-        let taken = self.picks.item(self.alloc, self.sink, item);
-        self.picks.keep_pace(&self.pace, taken.is_ok());
+        let taken = self.lines.item(self.alloc, self.sink, item);
+        self.lines.order.keep_pace(&self.pace, taken.is_ok());
         taken
     }
 
@@ -185,18 +151,18 @@ impl<S: Sink, J: KnownFiles + Send + Sync> Consumer<FoundFacts<J>, KnownEnd<J>>
         mark: Mark,
         known: KnownEnd<J>,
     ) -> Result<(), RunFault<SinkFault>> {
-        let taken = self.picks.end(self.alloc, self.sink, file, mark, known);
-        self.picks.keep_pace(&self.pace, taken.is_ok());
+        let taken = self.lines.end(self.alloc, self.sink, file, mark, known);
+        self.lines.order.keep_pace(&self.pace, taken.is_ok());
         taken
     }
 
     fn is_flushed(&self) -> bool {
-        self.picks.is_flushed()
+        self.lines.order.is_flushed()
     }
 
     fn flush(&mut self) -> Result<(), RunFault<SinkFault>> {
-        let flushed = self.picks.flush(self.sink);
-        self.picks.keep_pace(&self.pace, flushed.is_ok());
+        let flushed = self.lines.order.flush(self.sink);
+        self.lines.order.keep_pace(&self.pace, flushed.is_ok());
         flushed
     }
 

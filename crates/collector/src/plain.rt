@@ -1,5 +1,5 @@
 //! A run on the caller's thread.
-ghost use Rattle.std.specs.Prelude.{◌≡◌, ◌<◌, ◌≤◌, ◌⊎◌, ◌↔◌, Err, IfOk, IfErr, length, vec_len};
+ghost use Rattle.std.specs.Prelude.{◌≡◌, ◌<◌, ◌≤◌, ◌⊎◌, ◌↔◌, Err, IfOk, IfErr, length};
 ghost use Rattle.reports.specs.declared.limits.TheConstants.{MAX_FILES};
 ghost use Rattle.reports.specs.Books.{IsBook};
 ghost use Rattle.reports.specs.AllBooks.{AreAllBooks};

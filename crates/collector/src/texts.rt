@@ -1,6 +1,6 @@
 //! The text of a run and the sink that receives it.
-ghost use Rattle.std.specs.Prelude.{◌≡◌, ◌≢◌, ◌↔◌, ℕ, List, [], Err, true, false, IfOk, OnErr, refl};
-ghost use Rattle.std.proofs.Common.{◌∙◌, ap, subst};
+ghost use Rattle.std.specs.Prelude.{◌≡◌, ◌≢◌, ◌↔◌, ℕ, List, Err, true, false, IfOk, OnErr, refl};
+ghost use Rattle.std.proofs.Common.{◌∙◌};
 ghost use Rattle.common.specs.declared.choice.Choice.{Choice};
 ghost use Rattle.lanes.specs.Notes.{Note};
 ghost use Rattle.lanes.specs.Opening.{Meaning};
@@ -27,16 +27,16 @@ pub struct Texts<'s, S, W: Drop> {
     /// The sink as it was at the beginning. It exists only in proofs.
     pub start: Snapshot<S>,
     pub alloc: Global,
-    /// The text in transit and the buffered lines: `Lines`. A type parameter, since contracts do not name a `&mut` beside
-    /// a field that owns memory.
+    /// The text in transit and what is buffered: `Lines`, or `Picks` of records. A type parameter, since contracts do not
+    /// name a `&mut` beside a field that owns memory.
     pub lines: W,
     /// The limit on buffered text above which the reading of later files pauses.
     pub pace: Pace<'s>,
 }
 
-impl<'s, S: Sink> Texts<'s, S, Lines> {
+impl<'s, S: Sink, W: Drop> Texts<'s, S, W> {
     /// A consumer that streams `lines` to `sink`, and pauses reading by `pace`. Nothing is written yet.
-    pub fn new(alloc: Global, sink: &'s mut S, lines: Lines, pace: Pace<'s>) -> Texts<'s, S, Lines>
+    pub fn new(alloc: Global, sink: &'s mut S, lines: W, pace: Pace<'s>) -> Texts<'s, S, W>
         ensures same { result.sink.ghost_name ≡ sink.entry.ghost_name }
         ensures now { result.sink.now ≡ sink.old }
         ensures start { result.start.value ≡ sink.old }
@@ -94,7 +94,7 @@ impl<S: Sink, J: KnownFiles + Send + Sync> Consumer<Printed<J>, KnownEnd<J>>
 
     fn item(&mut self, item: Printed<J>) -> Result<(), RunFault<SinkFault>> {
         let taken = self.lines.line(self.alloc, self.sink, item);
-        self.lines.keep_pace(&self.pace, taken.is_ok());
+        self.lines.order.keep_pace(&self.pace, taken.is_ok());
         taken
     }
 
@@ -105,17 +105,17 @@ impl<S: Sink, J: KnownFiles + Send + Sync> Consumer<Printed<J>, KnownEnd<J>>
         known: KnownEnd<J>,
     ) -> Result<(), RunFault<SinkFault>> {
         let taken = self.lines.end(self.alloc, self.sink, file, mark, known);
-        self.lines.keep_pace(&self.pace, taken.is_ok());
+        self.lines.order.keep_pace(&self.pace, taken.is_ok());
         taken
     }
 
     fn is_flushed(&self) -> bool {
-        self.lines.is_flushed()
+        self.lines.order.is_flushed()
     }
 
     fn flush(&mut self) -> Result<(), RunFault<SinkFault>> {
-        let flushed = self.lines.flush(self.sink);
-        self.lines.keep_pace(&self.pace, flushed.is_ok());
+        let flushed = self.lines.order.flush(self.sink);
+        self.lines.order.keep_pace(&self.pace, flushed.is_ok());
         flushed
     }
 

@@ -1,7 +1,6 @@
 -- What waits of the files of a run, after a change at one of them.
-use Rattle.std.proofs.Common.{◌≡◌, ◌≢◌, ℕ, ◌<◌, List, [], ◌∷◌, length, set, get_or, inl, inr, sym, subst, ◌∙◌, arith, get_or-set_other, get_or-set_same}
+use Rattle.std.proofs.Common.{◌≡◌, ◌≢◌, ℕ, ◌<◌, List, [], ◌∷◌, length, get_or, inl, inr, sym, subst, arith}
 use Rattle.std.proofs.lemmas.Bool.{cases_eq}
-use Rattle.std.proofs.lemmas.List.{get_or_default, length-set}
 use Rattle.file_order.specs.declared.waiting.Waiting.{Waiting}
 use Rattle.file_order.specs.Waits.{ChangesAt}
 
@@ -9,15 +8,6 @@ use Rattle.file_order.specs.Waits.{ChangesAt}
 pub some_waiting : (xs : List Waiting) (k : ℕ) → k < length xs → Waiting
 some_waiting [] k below = absurd (let none : ⊥ = omega (arith, below) in none)
 some_waiting (x ∷ xs) k below = x
-
--- one change and then another
-pub changes_both : (xs ys zs : List Waiting) (file : ℕ) (first next both : Waiting → Waiting → Type 0) → ((u v w : Waiting) → first u v → next v w → both u w)
-    → ChangesAt file first xs ys → ChangesAt file next ys zs → ChangesAt file both xs zs
-changes_both xs ys zs file first next both join p q = record {
-  count = q.count ∙ p.count;
-  here = λ other. join _ _ _ (p.here other) (q.here other);
-  others = λ k other apart. q.others k other apart ∙ p.others k other apart;
-}
 
 -- what holds of each file on which `Q` holds
 pub after_change : {C : Type 0} (P : Waiting → C → Type 0) (Q : ℕ → Type 0) (file : ℕ) (before after : List Waiting) (came next : ℕ → C) (change : Waiting → Waiting → Type 0)

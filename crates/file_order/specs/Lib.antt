@@ -1,3 +1,4 @@
 pub mod Concatenated
 pub mod Waits
 pub mod Writing
+pub mod FileOrder

@@ -10,16 +10,10 @@ pub record IsNothing (waiting : Waiting) : Type 0 where
   pub count : waiting.count ≡ 0
   pub mark : waiting.mark ≡ None
 
--- one more entry is counted
-pub record IsCountedOne (before after : Waiting) : Type 0 where
-  pub lines : after.lines ≡ before.lines
+-- one more entry is counted, and this text of it is buffered
+pub record TakesIn (text : List ℕ) (before after : Waiting) : Type 0 where
+  pub lines : after.lines ≡ before.lines ++ text
   pub count : after.count ≡ before.count + 1
-  pub mark : after.mark ≡ before.mark
-
--- one more line is buffered
-pub record GetsLine (line : List ℕ) (before after : Waiting) : Type 0 where
-  pub lines : after.lines ≡ before.lines ++ line
-  pub count : after.count ≡ before.count
   pub mark : after.mark ≡ before.mark
 
 -- there was no mark, and now it is this one; and this many entries have arrived

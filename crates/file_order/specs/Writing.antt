@@ -1,5 +1,5 @@
 -- Texts that go on to a sink, and how that fails.
-use Rattle.std.specs.Prelude.{◌≡◌, ℕ, Bool, true, false, List, ◌++◌, Option, ⊤, Result, OnOk, IfErr}
+use Rattle.std.specs.Prelude.{◌≡◌, ℕ, Bool, true, false, List, ◌++◌, Option, Result, OnOk, IfErr}
 use Rattle.streams.specs.declared.output.SinkFault.{SinkFault}
 use Rattle.streams.specs.Sink.{AppendsPrefix, IsInTransit}
 use Rattle.lanes.specs.declared.fault.RunFault.{RunFault}

@@ -48,7 +48,7 @@ impl Chunks {
     }
 
     /// The memory that the text holds, in bytes.
-    pub fn size(&self) -> usize {
+    pub(crate) fn size(&self) -> usize {
         self.size
     }
 
@@ -79,7 +79,7 @@ impl Chunks {
     /// # Errors
     ///
     /// `Refused` exactly if the sink has then failed. There is no other error.
-    pub fn put<S: Sink>(
+    pub(crate) fn put<S: Sink>(
         &self,
         buffer: &mut TextBuffer,
         sink: &mut S,

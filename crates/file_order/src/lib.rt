@@ -4,12 +4,13 @@
 
 mod chunks;
 mod known_files;
+mod order;
 mod pace;
 mod waiting;
 mod writing;
 
 pub use chunks::Chunks;
 pub use known_files::{KnownEnd, KnownFiles, known_end};
+pub use order::FileOrder;
 pub use pace::Pace;
-pub use waiting::{Waiting, count_one, keep_line, keep_mark, none_come, take_lines};
-pub use writing::put;
+pub use waiting::Waiting;

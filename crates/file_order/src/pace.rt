@@ -19,7 +19,7 @@ pub struct Pace<'p> {
 impl Pace<'_> {
     /// Pauses the files after the current file if `held` bytes of buffered text reach the limit, those after the next
     /// one if they reach a fraction of it, and otherwise none.
-    pub fn keep(&self, held: usize, current: u32, waiting: &[Waiting]) {
+    pub(crate) fn keep(&self, held: usize, current: u32, waiting: &[Waiting]) {
         if held >= self.most {
             self.pauses.pause_after(current);
         } else if held >= self.most / QUARTER {
@@ -27,11 +27,6 @@ impl Pace<'_> {
         } else {
             self.pauses.lift();
         }
-    }
-
-    /// Lets all files go on, since nothing more is taken in.
-    pub fn give_up(&self) {
-        self.pauses.lift();
     }
 }
 

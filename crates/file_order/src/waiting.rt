@@ -1,12 +1,10 @@
 //! Buffered lines of files that are not current yet.
-ghost use Rattle.std.specs.Prelude.{◌≡◌, ◌<◌, IfOk, IfErr, OnOk, All, length, IsTrue, slice_index_or};
-ghost use Rattle.file_order.specs.Waits.{ChangesAt, IsNothing, IsCountedOne, GetsLine, GetsMark, IsTaken, IsUnmarked};
+ghost use Rattle.std.specs.Prelude.{◌≡◌, IfOk, All, length};
+ghost use Rattle.file_order.specs.Waits.{IsNothing};
 
 use crate::chunks::Chunks;
-use lanes::RunFault;
 use std::alloc::{AllocError, Global};
-use std::mem;
-use streams::{Mark, SinkFault};
+use streams::Mark;
 
 /// The buffered lines and the state of a file that has not been written completely.
 #[derive(Drop)]
@@ -20,7 +18,7 @@ pub struct Waiting {
 }
 
 /// The state of each of `files` files, of which nothing has arrived.
-pub fn none_come(alloc: Global, files: u32) -> Result<Vec<Waiting>, AllocError>
+pub(crate) fn none_come(alloc: Global, files: u32) -> Result<Vec<Waiting>, AllocError>
     ensures count { IfOk result (λ waiting. length waiting.items ≡ files) }
     ensures empty { IfOk result (λ waiting. All IsNothing waiting.items) }
 {
@@ -33,65 +31,4 @@ pub fn none_come(alloc: Global, files: u32) -> Result<Vec<Waiting>, AllocError>
         })?;
     }
     Ok(waiting)
-}
-
-/// Counts one more entry of a file. `LaneLost` if there are too many to count.
-pub fn count_one(waiting: &mut Vec<Waiting>, file: u32) -> Result<(), RunFault<SinkFault>>
-    requires { file < length waiting.old.items }
-    ensures count { length waiting.new.items ≡ length waiting.old.items }
-    ensures counted { OnOk result (ChangesAt file IsCountedOne waiting.old.items waiting.new.items) }
-    ensures astray { IfErr result (λ fault. fault ≡ RunFault.LaneLost) }
-{
-    let here = &mut waiting[file as usize];
-    match here.count.checked_add(1) {
-        Some(count) => {
-            here.count = count;
-            Ok(())
-        }
-        None => Err(RunFault::LaneLost),
-    }
-}
-
-/// Buffers a line of a file, and returns how many bytes of memory that took. `Memory` if there is no memory for it.
-pub fn keep_line(
-    alloc: Global,
-    waiting: &mut Vec<Waiting>,
-    file: u32,
-    line: &[u8],
-) -> Result<usize, RunFault<SinkFault>>
-    requires { file < length waiting.old.items }
-    ensures count { length waiting.new.items ≡ length waiting.old.items }
-    ensures kept { OnOk result (ChangesAt file (GetsLine line.now) waiting.old.items waiting.new.items) }
-    ensures memory { IfErr result (λ fault. fault ≡ RunFault.Memory) }
-{
-    let here = &mut waiting[file as usize];
-    match here.lines.push(alloc, line) {
-        Ok(more) => Ok(more),
-        Err(_) => Err(RunFault::Memory),
-    }
-}
-
-/// Keeps the mark of a file, and returns true, if it has none yet and `count` of its entries have arrived.
-pub fn keep_mark(waiting: &mut Vec<Waiting>, file: u32, count: u32, mark: Mark) -> bool
-    requires { file < length waiting.old.items }
-    ensures count { length waiting.new.items ≡ length waiting.old.items }
-    ensures kept { IsTrue result → ChangesAt file (GetsMark count mark) waiting.old.items waiting.new.items }
-    ensures due { ((other : Waiting) → IsUnmarked count (slice_index_or waiting.old.items file other)) → IsTrue result }
-{
-    let here = &mut waiting[file as usize];
-    if here.mark.is_some() || here.count != count {
-        return false;
-    }
-    here.mark = Some(mark);
-    true
-}
-
-/// Takes out the buffered lines of a file.
-pub fn take_lines(alloc: Global, waiting: &mut Vec<Waiting>, file: u32) -> Chunks
-    requires { file < length waiting.old.items }
-    ensures count { length waiting.new.items ≡ length waiting.old.items }
-    ensures lines { (other : Waiting) → result ≡ (slice_index_or waiting.old.items file other).lines }
-    ensures taken { ChangesAt file IsTaken waiting.old.items waiting.new.items }
-{
-    mem::replace(&mut waiting[file as usize].lines, Chunks::new(alloc))
 }

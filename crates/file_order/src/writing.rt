@@ -11,7 +11,7 @@ use streams::{Sink, SinkFault, TextBuffer};
 /// # Errors
 ///
 /// `Refused` exactly if the sink has then failed. There is no other error.
-pub fn put<S: Sink>(
+pub(crate) fn put<S: Sink>(
     buffer: &mut TextBuffer,
     sink: &mut S,
     text: &[u8],

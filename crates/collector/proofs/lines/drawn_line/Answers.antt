@@ -1,4 +1,4 @@
-use Rattle.std.proofs.Common.{◌∙◌, rules}
+use Rattle.std.proofs.Common.{◌∙◌}
 use Rattle.std.proofs.Common.{Ok as Drawn}
 use Rattle.std.proofs.lemmas.Result.{IfOk-weaker}
 use Rattle.reports.specs.declared.answer.Answer.TheVariants.{Laid}

@@ -1,4 +1,4 @@
-use Rattle.std.proofs.Common.{◌≡◌, ◌<◌, length, rules}
+use Rattle.std.proofs.Common.{◌<◌, length, rules}
 use Rattle.collector.proofs.CountedGraphs.{counts_end}
 use Rattle.collector.proofs.counting.CountedConsumerFoundFactsKnownEnd.end.Goals as goal
 

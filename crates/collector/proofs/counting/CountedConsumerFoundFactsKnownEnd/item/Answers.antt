@@ -1,4 +1,4 @@
-use Rattle.std.proofs.Common.{◌≡◌, ◌<◌, length, refl, rules}
+use Rattle.std.proofs.Common.{◌<◌, length, refl, rules}
 use Rattle.file_order.proofs.SucceedsOrFails.{ok_then}
 use Rattle.collector.specs.FactBooks.{FactEntry}
 use Rattle.collector.proofs.CountedGraphs.{counts_item}

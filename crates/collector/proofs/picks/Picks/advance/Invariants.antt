@@ -12,4 +12,4 @@ invariant-loop-alloc g l = record {
 }
 
 abbrev pub decreases-loop-alloc : goal.decreases-loop-alloc
-decreases-loop-alloc g l = length l.self.waiting.items - l.self.current
+decreases-loop-alloc g l = length l.self.order.waiting - l.self.order.current

@@ -1,12 +1,12 @@
-use Rattle.std.proofs.Common.{◌≡◌, ◌≢◌, ◌<◌, ◌≤◌, ◌∙◌, ℕ, length, get_or, ap, refl, rules}
+use Rattle.std.proofs.Common.{◌≡◌, ◌<◌, ◌≤◌, length, get_or, refl, rules}
 use Rattle.file_order.specs.declared.waiting.Waiting.{Waiting}
 use Rattle.file_order.specs.Waits.{IsNext}
-use Rattle.file_order.proofs.SucceedsOrFails.{ok_then, err_then, err_any}
-use Rattle.collector.specs.declared.flaws.Flaws.{Flaws}
+use Rattle.file_order.proofs.SucceedsOrFails.{ok_both, err_then, err_any}
 use Rattle.collector.specs.declared.picks.Picks.{Picks}
 use Rattle.collector.specs.FactBooks.{FactEntry}
 use Rattle.collector.specs.Picked.{picked_of}
 use Rattle.collector.specs.PicksHolding.{ArePicksOf}
+use Rattle.collector.proofs.PickedText.{picked_added, part_more}
 use Rattle.collector.proofs.PicksHeld.{comes_next, held_item, left_off_held, left_off_item}
 use Rattle.collector.proofs.picks.Picks.item.Goals as goal
 
@@ -16,23 +16,21 @@ returns-clause-held g c =
     let entry : FactEntry = record { about = record { file = found.file; ordinal = found.ordinal; bytes = found.rec; choice = found.choice }; facts = found.facts; right = found.right } in
     let file = found.file in
     let before = c.args.self.now in
-    let after = c.add.new.self in
+    let order = c.add.new.self in
+    let after : Picks = record before { order = order; flaws = c.add_flaw.new.flaws } in
     let meaning = g.J.KnownFiles.meaning in
     let old = g.S.Sink.taken c.args.sink.now in
     let new = g.S.Sink.taken c.add.new.sink in
-    let below : file < length before.waiting.items = search rules in
+    let below : file < length before.order.waiting = search rules in
+    let from : before.order.current ≤ file = search rules in
     let choice : found.choice ≡ before.choice = search rules in
-    let next : (other : Waiting) → IsNext found.ordinal (get_or before.waiting.items file other) = c.is_next.ensures.next (search rules) in
+    let next : (other : Waiting) → IsNext found.ordinal (get_or before.order.waiting file other) = c.is_next.ensures.next (search rules) in
     let text : c.picked.result.now ≡ picked_of before.selection entry = c.picked.ensures in
-    let went = c.add.ensures.same in
-    let same : ArePicksOf before after = record { selection = went.selection; choice = went.choice; files = went.files } in
-    let flaws = c.add.ensures.flaws in
-    ok_then c.add.result c.add.ensures.added (λ added start ns held.
-    held_item meaning start old new before after ns file entry same c.add.ensures.current below
-    (ap (λ v. length v.items) flaws ∙ c.in_ok-add_flaw.ensures.count)
-    (λ other. ap (λ v. get_or v.items file other) flaws ∙ c.in_ok-add_flaw.ensures.here other)
-    (λ k other apart. ap (λ v. get_or v.items k other) flaws ∙ c.in_ok-add_flaw.ensures.others k other apart)
-    (λ came next more was. added start came next entry text more was) held
+    let same : ArePicksOf before after = record { selection = refl; choice = refl; files = c.add.ensures.same.count } in
+    ok_both c.add.result c.add.ensures.goes_on c.add.ensures.kept (λ goes kept start ns held.
+    held_item meaning start old new before after ns file entry same c.add.ensures.same.current below
+    c.in_ok-add_flaw.ensures.count c.in_ok-add_flaw.ensures.here c.in_ok-add_flaw.ensures.others
+    (λ came next more was. picked_added before.selection start old new before.order order file came next entry c.picked.result.now below from text more c.add.ensures.same goes kept was) held
     (comes_next meaning start old before ns file entry refl choice found.rec_is found.placed below next held))
 
 pub returns-clause-partial : goal.returns-clause-partial
@@ -41,19 +39,19 @@ returns-clause-partial g c =
     let entry : FactEntry = record { about = record { file = found.file; ordinal = found.ordinal; bytes = found.rec; choice = found.choice }; facts = found.facts; right = found.right } in
     let file = found.file in
     let before = c.args.self.now in
-    let after = c.add.new.self in
+    let after : Picks = record before { order = c.add.new.self; flaws = c.add_flaw.new.flaws } in
     let meaning = g.J.KnownFiles.meaning in
     let old = g.S.Sink.taken c.args.sink.now in
     let new = g.S.Sink.taken c.add.new.sink in
-    let below : file < length before.waiting.items = search rules in
+    let below : file < length before.order.waiting = search rules in
+    let from : before.order.current ≤ file = search rules in
     let choice : found.choice ≡ before.choice = search rules in
-    let next : (other : Waiting) → IsNext found.ordinal (get_or before.waiting.items file other) = c.is_next.ensures.next (search rules) in
+    let next : (other : Waiting) → IsNext found.ordinal (get_or before.order.waiting file other) = c.is_next.ensures.next (search rules) in
     let text : c.picked.result.now ≡ picked_of before.selection entry = c.picked.ensures in
-    let went = c.add.ensures.same in
-    let same : ArePicksOf before after = record { selection = went.selection; choice = went.choice; files = went.files } in
+    let same : ArePicksOf before after = record { selection = refl; choice = refl; files = c.add.ensures.same.count } in
     err_then c.add.result c.add.ensures.partial (λ partial start ns held.
     left_off_item meaning start old new before after ns file entry same below
-    (λ came next more was. partial start came next entry text more was) held
+    (λ came next more was. part_more before.selection start old new before.order file came next entry c.picked.result.now below from text more partial was) held
     (comes_next meaning start old before ns file entry refl choice found.rec_is found.placed below next held))
 
 pub returns-in_err-add_flaw-clause-partial : goal.returns-in_err-add_flaw-clause-partial

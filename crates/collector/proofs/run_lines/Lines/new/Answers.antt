@@ -1,22 +1,36 @@
-use Rattle.std.proofs.Common.{◌++◌, length, ap, arith, ◌∙◌}
+use Rattle.std.proofs.Common.{◌≡◌, ◌+◌, ◌∙◌, [], true, length, ap, arith, subst, sym}
+use Rattle.collector.specs.FormLines.{preamble_in}
+use Rattle.collector.specs.Holding.{HoldsNotes}
 use Rattle.collector.proofs.Held.{held_none, preamble_short}
 use Rattle.collector.proofs.run_lines.Lines.new.Goals as goal
 use Rattle.collector.proofs.run_lines.Lines.new.Goals.{then-files-gt0, else-files-gt0}
 
-pub push-requires : goal.push-requires
-push-requires c =
-    let short = preamble_short c.args.form in
-    omega (arith, short, ap length c.new-buffer.ensures, ap length (c.as_slice.ensures.value ∙ c.preamble_line.ensures))
+pub new-requires : goal.new-requires
+new-requires c =
+    elim c.if-files-gt0.branch [
+      | then-files-gt0 w ↦
+          let first : c.if-files-gt0.first.now ≡ preamble_in c.args.form (0 + 1) = cc (w.first-is, w.as_slice-first.ensures.value, c.preamble_line-preamble.ensures) in
+          omega (arith, preamble_short c.args.form, ap length first)
+      | else-files-gt0 w ↦
+          let first : c.if-files-gt0.first.now ≡ [] = cc w.first-is in
+          omega (arith, ap length first)
+    ]
 
 pub returns-clause-held : goal.returns-clause-held
 returns-clause-held c = λ meaning start.
-    elim c.if-files-gt0.branch [
+    let order = c.in_ok-order.order in
+    let begun = c.in_ok-order.ensures in
+    let form = c.args.form in
+    subst (λ n. HoldsNotes c.args.choice meaning form start start order.buffer n order.waiting true []) (sym begun.current)
+    (elim c.if-files-gt0.branch [
       | then-files-gt0 w ↦
-          held_none c.args.choice meaning c.args.form start c.if-files-gt0.buffer c.in_ok-waiting.waiting.items c.in_ok-waiting.ensures.empty
-          (λ _. w.buffer-is ∙ w.push.ensures ∙ ap (λ l. l ++ w.as_slice.result.now) c.new-buffer.ensures ∙ w.as_slice.ensures.value ∙ w.preamble_line.ensures)
-          (λ past. absurd (let none : ⊥ = omega (arith, past, c.in_ok-waiting.ensures.count, w.if-files-gt0.true) in none))
+          let first : c.if-files-gt0.first.now ≡ preamble_in form (0 + 1) = cc (w.first-is, w.as_slice-first.ensures.value, c.preamble_line-preamble.ensures) in
+          held_none c.args.choice meaning form start order.buffer order.waiting begun.empty
+          (λ _. begun.buffer ∙ first)
+          (λ past. absurd (let none : ⊥ = omega (arith, past, begun.count, w.if-files-gt0.true) in none))
       | else-files-gt0 w ↦
-          held_none c.args.choice meaning c.args.form start c.if-files-gt0.buffer c.in_ok-waiting.waiting.items c.in_ok-waiting.ensures.empty
-          (λ lt. absurd (let none : ⊥ = omega (arith, lt, c.in_ok-waiting.ensures.count, w.if-files-gt0.false) in none))
-          (λ _. w.buffer-is ∙ c.new-buffer.ensures)
-    ]
+          let first : c.if-files-gt0.first.now ≡ [] = cc w.first-is in
+          held_none c.args.choice meaning form start order.buffer order.waiting begun.empty
+          (λ lt. absurd (let none : ⊥ = omega (arith, lt, begun.count, w.if-files-gt0.false) in none))
+          (λ _. begun.buffer ∙ first)
+    ])

@@ -1,0 +1,271 @@
+//! A reorder buffer for the texts of files, which go to a sink file after file.
+ghost use Rattle.std.specs.Prelude.{◌≡◌, ◌+◌, ◌<◌, ◌≤◌, ◌↔◌, [], None, false, true, IfOk, IfErr, IfSome, OnOk, OnErr, IsSome, IsTrue, length, slice_index_or};
+ghost use Rattle.std.specs.Io.KnownBytes.{Appends};
+ghost use Rattle.streams.specs.declared.text_buffer.TheConstants.{ROOM};
+ghost use Rattle.streams.specs.Sink.{AppendsPrefix};
+ghost use Rattle.lanes.specs.Opening.{IsEndAt};
+ghost use Rattle.file_order.specs.declared.waiting.Waiting.{Waiting};
+ghost use Rattle.file_order.specs.FileOrder.{HasEnd, IsBegun, StaysAt, goes_on, is_kept};
+ghost use Rattle.file_order.specs.Waits.{ChangesAt, GetsMark, IsNext, IsTaken, IsUnmarked, TakesIn};
+ghost use Rattle.file_order.specs.Writing.{GoesOn, IsPartlyAdded, TellsFailure};
+
+use crate::chunks::Chunks;
+use crate::known_files::{KnownEnd, KnownFiles};
+use crate::pace::Pace;
+use crate::waiting::{Waiting, none_come};
+use crate::writing::put;
+use lanes::RunFault;
+use planar_code::MAX_RECORDS;
+use std::alloc::{AllocError, Global};
+use std::marker::Model;
+use std::mem;
+use streams::{Mark, Sink, SinkFault, SourceEnd, TextBuffer};
+
+/// A reorder buffer for the texts of the files of a run, since entries of several files arrive mixed.
+///
+/// A text of the current file, the first that has not ended, is copied once, into a fixed buffer, and is not allocated;
+/// the texts of each later file are buffered until it is current.
+#[derive(Drop)]
+pub struct FileOrder {
+    /// The text in transit to the sink.
+    buffer: TextBuffer,
+    /// The first file that has not ended.
+    current: u32,
+    /// What has arrived of each file.
+    waiting: Vec<Waiting>,
+    /// The number of bytes of memory that buffered texts hold.
+    held: usize,
+}
+
+impl Model for FileOrder {
+    ghost use Rattle.file_order.specs.FileOrder.{OrderModel};
+
+    ghost Value = { OrderModel };
+
+    ghost view = { λ o. record { buffer = o.buffer; current = o.current; waiting = o.waiting.items } };
+}
+
+impl FileOrder {
+    /// An empty reorder buffer for the texts of `files` files. The sink gets `first` before them.
+    ///
+    /// # Errors
+    ///
+    /// `AllocError` if there is no memory to keep this many files.
+    pub fn new(alloc: Global, files: u32, first: &[u8]) -> Result<FileOrder, AllocError>
+        requires { length first.now ≤ ROOM }
+        ensures { IfOk result (IsBegun files first.now) }
+    {
+        let mut buffer = TextBuffer::new();
+        buffer.push(first);
+        let waiting = none_come(alloc, files)?;
+        Ok(FileOrder {
+            buffer,
+            current: 0,
+            waiting,
+            held: 0,
+        })
+    }
+
+    /// The first file that has not ended.
+    pub fn current(&self) -> u32
+        ensures { result ≡ self.now.current }
+    {
+        self.current
+    }
+
+    /// Pauses later files or lets them go on, depending on how much is buffered; if a message was refused, they go on,
+    /// since no more is taken in.
+    pub fn keep_pace(&self, pace: &Pace<'_>, goes_on: bool) {
+        if goes_on {
+            pace.keep(self.held, self.current, self.waiting.as_slice());
+        } else {
+            pace.pauses.lift();
+        }
+    }
+
+    /// Whether a file is one of the run and its text is not complete yet.
+    fn is_to_come(&self, file: u32) -> bool
+        ensures { IsTrue result ↔ ((self.now.current ≤ file) × (file < length self.now.waiting)) }
+    {
+        self.current <= file && (file as usize) < self.waiting.len()
+    }
+
+    /// Whether a file has not ended, and its next entry has this place.
+    pub fn is_next(&self, file: u32, ordinal: u32) -> bool
+        ensures open { IsTrue result → (self.now.current ≤ file) × (file < length self.now.waiting) }
+        ensures next { IsTrue result → (other : Waiting) → IsNext ordinal (slice_index_or self.now.waiting file other) }
+        ensures due { self.now.current ≤ file → file < length self.now.waiting
+            → ((other : Waiting) → IsNext ordinal (slice_index_or self.now.waiting file other)) → IsTrue result }
+    {
+        if !self.is_to_come(file) {
+            return false;
+        }
+        let here = &self.waiting[file as usize];
+        here.mark.is_none() && here.count == ordinal && ordinal < MAX_RECORDS
+    }
+
+    /// Counts one more entry of a file. Its text goes on to the sink if the file is current, and is buffered otherwise.
+    ///
+    /// # Errors
+    ///
+    /// `Refused` exactly if the sink has then failed; `Memory` if there is no memory for a text that is to be buffered;
+    /// `LaneLost` if there are too many entries to count.
+    pub fn add<S: Sink>(
+        &mut self,
+        alloc: Global,
+        sink: &mut S,
+        file: u32,
+        text: &[u8],
+    ) -> Result<(), RunFault<SinkFault>>
+        requires stands { S.failed sink.old ≡ false }
+        requires below { file < length self.old.waiting }
+        ensures goes_on { OnOk result (GoesOn (S.taken sink.old) self.old.buffer (S.taken sink.new) self.new.buffer (goes_on self.old.current file text.now)) }
+        ensures kept { OnOk result (ChangesAt file (TakesIn (is_kept self.old.current file text.now)) self.old.waiting self.new.waiting) }
+        ensures partial { OnErr result (IsPartlyAdded (S.taken sink.old) self.old.buffer (S.taken sink.new) (goes_on self.old.current file text.now)) }
+        ensures stands { TellsFailure (S.failed sink.new) result }
+        ensures same { StaysAt self.old self.new }
+    {
+        let here = &mut self.waiting[file as usize];
+        let Some(count) = here.count.checked_add(1) else {
+            return Err(RunFault::LaneLost);
+        };
+        here.count = count;
+        if file == self.current {
+            return put(&mut self.buffer, sink, text);
+        }
+        let more = here.lines.push(alloc, text)?;
+        self.held = self.held.saturating_add(more);
+        Ok(())
+    }
+
+    /// Keeps the mark of a file.
+    ///
+    /// # Errors
+    ///
+    /// `LaneLost` if it has ended, or if `known` is not its end with this mark after the entries that have arrived. There
+    /// is no other error.
+    pub fn keep_end<J: KnownFiles>(
+        &mut self,
+        file: u32,
+        mark: Mark,
+        known: KnownEnd<J>,
+    ) -> Result<(), RunFault<SinkFault>>
+        ensures open { OnOk result ((self.old.current ≤ file) × (file < length self.old.waiting)) }
+        ensures kept { OnOk result (ChangesAt file (GetsMark known.count mark) self.old.waiting self.new.waiting) }
+        ensures due { known.file ≡ file → known.mark ≡ mark → self.old.current ≤ file → file < length self.old.waiting
+            → ((other : Waiting) → IsUnmarked known.count (slice_index_or self.old.waiting file other)) → result ≡ Ok tt }
+        ensures is_end { OnOk result ∥ IsEndAt (J.meaning file) known.count mark ∥₁ }
+        ensures astray { IfErr result (λ fault. fault ≡ RunFault.LaneLost) }
+        ensures same { self.new ≡ record self.old { waiting = self.new.waiting } }
+        ensures count { length self.new.waiting ≡ length self.old.waiting }
+    {
+        if known.file != file || known.mark != mark || !self.is_to_come(file) {
+            return Err(RunFault::LaneLost);
+        }
+        let here = &mut self.waiting[file as usize];
+        if here.mark.is_some() || here.count != known.count {
+            return Err(RunFault::LaneLost);
+        }
+        here.mark = Some(mark);
+        Ok(())
+    }
+
+    /// The end of the current file, if it has ended.
+    pub fn current_end(&self) -> Option<SourceEnd>
+        ensures below { IsSome result → self.now.current < length self.now.waiting }
+        ensures ended { IfSome result (λ end. (other : Waiting) → HasEnd end (slice_index_or self.now.waiting self.now.current other)) }
+        ensures unended { result ≡ None → (other : Waiting) → self.now.current < length self.now.waiting
+            → (slice_index_or self.now.waiting self.now.current other).mark ≡ None }
+    {
+        let here = self.waiting.get(self.current as usize)?;
+        let mark = here.mark?;
+        Some(SourceEnd {
+            count: here.count,
+            mark,
+        })
+    }
+
+    /// Moves on to the next file, and returns whether it is one of the run.
+    ///
+    /// # Errors
+    ///
+    /// `LaneLost` if there is no number for it.
+    pub fn go_on(&mut self) -> Result<bool, RunFault<SinkFault>>
+        ensures next { OnOk result (self.new ≡ record self.old { current = self.old.current + 1 }) }
+        ensures more { IfOk result (λ more. IsTrue more ↔ (self.old.current + 1 < length self.old.waiting)) }
+        ensures stays { OnErr result (self.new ≡ self.old) }
+        ensures astray { IfErr result (λ fault. fault ≡ RunFault.LaneLost) }
+    {
+        match self.current.checked_add(1) {
+            Some(next) => {
+                self.current = next;
+                Ok((next as usize) < self.waiting.len())
+            }
+            None => Err(RunFault::LaneLost),
+        }
+    }
+
+    /// Writes what is buffered of the current file.
+    ///
+    /// # Errors
+    ///
+    /// `Refused` exactly if the sink has then failed. There is no other error.
+    pub fn begin<S: Sink>(&mut self, alloc: Global, sink: &mut S) -> Result<(), RunFault<SinkFault>>
+        requires stands { S.failed sink.old ≡ false }
+        requires below { self.old.current < length self.old.waiting }
+        ensures goes_on { OnOk result ((other : Waiting) → GoesOn (S.taken sink.old) self.old.buffer (S.taken sink.new) self.new.buffer
+            (slice_index_or self.old.waiting self.old.current other).lines) }
+        ensures partial { OnErr result ((other : Waiting) → IsPartlyAdded (S.taken sink.old) self.old.buffer (S.taken sink.new)
+            (slice_index_or self.old.waiting self.old.current other).lines) }
+        ensures stands { TellsFailure (S.failed sink.new) result }
+        ensures taken { ChangesAt self.old.current IsTaken self.old.waiting self.new.waiting }
+        ensures current { self.new.current ≡ self.old.current }
+    {
+        let here = &mut self.waiting[self.current as usize];
+        let lines = mem::replace(&mut here.lines, Chunks::new(alloc));
+        self.held = self.held.saturating_sub(lines.size());
+        lines.put(&mut self.buffer, sink)
+    }
+
+    /// Writes `text` to the sink.
+    ///
+    /// # Errors
+    ///
+    /// `Refused` exactly if the sink has then failed. There is no other error.
+    pub fn put<S: Sink>(&mut self, sink: &mut S, text: &[u8]) -> Result<(), RunFault<SinkFault>>
+        requires { S.failed sink.old ≡ false }
+        ensures goes_on { OnOk result (GoesOn (S.taken sink.old) self.old.buffer (S.taken sink.new) self.new.buffer text.now) }
+        ensures partial { OnErr result (IsPartlyAdded (S.taken sink.old) self.old.buffer (S.taken sink.new) text.now) }
+        ensures stands { TellsFailure (S.failed sink.new) result }
+        ensures same { self.new ≡ record self.old { buffer = self.new.buffer } }
+    {
+        put(&mut self.buffer, sink, text)
+    }
+
+    /// Whether all text in transit has reached the sink.
+    pub fn is_flushed(&self) -> bool
+        ensures { IsTrue result ↔ (self.now.buffer ≡ []) }
+    {
+        self.buffer.is_empty()
+    }
+
+    /// Writes the text in transit to the sink.
+    ///
+    /// # Errors
+    ///
+    /// `Refused` exactly if the sink has then failed. There is no other error.
+    pub fn flush<S: Sink>(&mut self, sink: &mut S) -> Result<(), RunFault<SinkFault>>
+        requires { S.failed sink.old ≡ false }
+        ensures put { OnOk result (Appends (S.taken sink.old) (S.taken sink.new) self.old.buffer) }
+        ensures partial { OnErr result (AppendsPrefix (S.taken sink.old) (S.taken sink.new) self.old.buffer) }
+        ensures flushed { OnOk result (self.new ≡ record self.old { buffer = [] }) }
+        ensures failed { OnErr result (S.failed sink.new ≡ true) }
+        ensures stands { TellsFailure (S.failed sink.new) result }
+        ensures same { StaysAt self.old self.new }
+    {
+        match self.buffer.flush(sink) {
+            Ok(()) => Ok(()),
+            Err(_) => Err(RunFault::Refused(SinkFault)),
+        }
+    }
+}
