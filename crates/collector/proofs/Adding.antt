@@ -9,7 +9,7 @@ use Rattle.streams.specs.declared.form.Form.{Form}
 use Rattle.collector.specs.FormLines.{line_in, preamble_in, lines_in}
 use Rattle.file_order.specs.declared.waiting.Waiting.{Waiting}
 use Rattle.collector.specs.Came.{Came, nothing, HasMark, HasEntryMore, HasMarkMore}
-use Rattle.file_order.specs.FileOrder.{OrderModel, StaysAt, goes_on, is_kept}
+use Rattle.file_order.specs.FileOrder.{OrderModel, StaysAt, at_once, for_later}
 use Rattle.file_order.specs.Waits.{ChangesAt, IsNothing, TakesIn, GetsMark}
 use Rattle.collector.specs.Written.{begun, ended, ended_texts, IsCounted, AreWritten}
 use Rattle.file_order.specs.Writing.{GoesOn}
@@ -94,7 +94,7 @@ written_behind form start old new buffer buffered file current waiting after cam
 -- a line of one file or another was added
 pub written_more : (form : Form) (start old new : Option (List ℕ)) (before after : OrderModel) (file : ℕ) (came next : ℕ → Came) (entry : Entry) (line : List ℕ)
     → file < length before.waiting → before.current ≤ file → line_in form entry ≡ line → HasEntryMore file entry came next → StaysAt before after
-    → GoesOn old before.buffer new after.buffer (goes_on before.current file line) → ChangesAt file (TakesIn (is_kept before.current file line)) before.waiting after.waiting
+    → GoesOn old before.buffer new after.buffer (at_once before.current file line) → ChangesAt file (TakesIn (for_later before.current file line)) before.waiting after.waiting
     → AreWritten form start old before.buffer before.current before.waiting came → AreWritten form start new after.buffer after.current after.waiting next
 written_more form start old new before after file came next entry line below from is more same goes changed was =
     subst (λ n. AreWritten form start new after.buffer n after.waiting next) (sym same.current)

@@ -10,7 +10,7 @@ use Rattle.streams.specs.declared.reading.SourceEnd.{SourceEnd}
 use Rattle.file_order.specs.declared.waiting.Waiting.{Waiting}
 use Rattle.collector.specs.Came.{Came, HasMark, HasEntryMore}
 use Rattle.collector.specs.Written.{begun, ended_texts, AreWritten, IsPartialText}
-use Rattle.file_order.specs.FileOrder.{HasEnd, OrderModel, goes_on}
+use Rattle.file_order.specs.FileOrder.{HasEnd, OrderModel, at_once}
 use Rattle.file_order.specs.Writing.{GoesOn, IsPartlyAdded}
 use Rattle.file_order.proofs.Waits.{some_waiting}
 use Rattle.file_order.proofs.Prefixes.{appends_longer, way_front}
@@ -68,7 +68,7 @@ partial_line form start old new buffer current waiting came next entry line belo
 -- or a line of one file or another
 pub partial_more : (form : Form) (start old new : Option (List ℕ)) (before : OrderModel) (file : ℕ) (came next : ℕ → Came) (entry : Entry) (line : List ℕ)
     → file < length before.waiting → line_in form entry ≡ line → HasEntryMore file entry came next
-    → IsPartlyAdded old before.buffer new (goes_on before.current file line)
+    → IsPartlyAdded old before.buffer new (at_once before.current file line)
     → AreWritten form start old before.buffer before.current before.waiting came
     → IsPartialText form start new (length before.waiting) came ⊎ IsPartialText form start new (length before.waiting) next
 partial_more form start old new before file came next entry line below is more breaks was =

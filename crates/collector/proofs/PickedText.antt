@@ -9,7 +9,7 @@ use Rattle.streams.specs.Sink.{AppendsPrefix, IsInTransit}
 use Rattle.streams.specs.FrameLines.{added_none, added_both}
 use Rattle.file_order.specs.declared.waiting.Waiting.{Waiting}
 use Rattle.collector.specs.Came.{Came}
-use Rattle.file_order.specs.FileOrder.{OrderModel, StaysAt, goes_on, is_kept}
+use Rattle.file_order.specs.FileOrder.{OrderModel, StaysAt, at_once, for_later}
 use Rattle.file_order.specs.Waits.{ChangesAt, IsNothing, TakesIn, GetsMark, IsTaken}
 use Rattle.collector.specs.Written.{IsCounted}
 use Rattle.file_order.specs.Writing.{GoesOn, IsPartlyAdded}
@@ -124,7 +124,7 @@ part_line s start old new buffer current waiting came next entry text below is m
 -- where one of either was
 pub part_more : (s : Selection) (start old new : Option (List ℕ)) (before : OrderModel) (file : ℕ) (came next : ℕ → Arrived) (entry : FactEntry) (text : List ℕ)
     → file < length before.waiting → before.current ≤ file → text ≡ picked_of s entry → HasEntryMore file entry came next
-    → IsPartlyAdded old before.buffer new (goes_on before.current file text)
+    → IsPartlyAdded old before.buffer new (at_once before.current file text)
     → ArePicked s start old before.buffer before.current before.waiting came → IsPartOfPicked s start new (length before.waiting) next
 part_more s start old new before file came next entry text below from is more breaks was =
     elim (cases_eq file before.current) [
@@ -177,7 +177,7 @@ picked_behind s start old new buffer buffered file current waiting after came ne
 -- a record of one or the other arrived
 pub picked_added : (s : Selection) (start old new : Option (List ℕ)) (before after : OrderModel) (file : ℕ) (came next : ℕ → Arrived) (entry : FactEntry) (text : List ℕ)
     → file < length before.waiting → before.current ≤ file → text ≡ picked_of s entry → HasEntryMore file entry came next → StaysAt before after
-    → GoesOn old before.buffer new after.buffer (goes_on before.current file text) → ChangesAt file (TakesIn (is_kept before.current file text)) before.waiting after.waiting
+    → GoesOn old before.buffer new after.buffer (at_once before.current file text) → ChangesAt file (TakesIn (for_later before.current file text)) before.waiting after.waiting
     → ArePicked s start old before.buffer before.current before.waiting came → ArePicked s start new after.buffer after.current after.waiting next
 picked_added s start old new before after file came next entry text below from is more same goes changed was =
     subst (λ n. ArePicked s start new after.buffer n after.waiting next) (sym same.current)

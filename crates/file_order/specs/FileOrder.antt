@@ -18,12 +18,13 @@ pub record IsBegun (files : ℕ) (first : List ℕ) (order : OrderModel) : Type 
   pub count : length order.waiting ≡ files
   pub empty : All IsNothing order.waiting
 
--- of a text of this file, what goes on to the sink if this file is current, and what is buffered
-abbrev pub goes_on : ℕ → ℕ → List ℕ → List ℕ
-goes_on current file text = if file == current then text else []
+-- of a text of a file, what goes on to the sink at once: all of it if the file is current
+abbrev pub at_once : ℕ → ℕ → List ℕ → List ℕ
+at_once current file text = if file == current then text else []
 
-abbrev pub is_kept : ℕ → ℕ → List ℕ → List ℕ
-is_kept current file text = if file == current then [] else text
+-- and what is buffered for later
+abbrev pub for_later : ℕ → ℕ → List ℕ → List ℕ
+for_later current file text = if file == current then [] else text
 
 -- the current file and the number of files are unchanged
 pub record StaysAt (before after : OrderModel) : Type 0 where

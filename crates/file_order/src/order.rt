@@ -5,7 +5,7 @@ ghost use Rattle.streams.specs.declared.text_buffer.TheConstants.{ROOM};
 ghost use Rattle.streams.specs.Sink.{AppendsPrefix};
 ghost use Rattle.lanes.specs.Opening.{IsEndAt};
 ghost use Rattle.file_order.specs.declared.waiting.Waiting.{Waiting};
-ghost use Rattle.file_order.specs.FileOrder.{HasEnd, IsBegun, StaysAt, goes_on, is_kept};
+ghost use Rattle.file_order.specs.FileOrder.{HasEnd, IsBegun, StaysAt, at_once, for_later};
 ghost use Rattle.file_order.specs.Waits.{ChangesAt, GetsMark, IsNext, IsTaken, IsUnmarked, TakesIn};
 ghost use Rattle.file_order.specs.Writing.{GoesOn, IsPartlyAdded, TellsFailure};
 
@@ -119,9 +119,9 @@ impl FileOrder {
     ) -> Result<(), RunFault<SinkFault>>
         requires stands { S.failed sink.old ≡ false }
         requires below { file < length self.old.waiting }
-        ensures goes_on { OnOk result (GoesOn (S.taken sink.old) self.old.buffer (S.taken sink.new) self.new.buffer (goes_on self.old.current file text.now)) }
-        ensures kept { OnOk result (ChangesAt file (TakesIn (is_kept self.old.current file text.now)) self.old.waiting self.new.waiting) }
-        ensures partial { OnErr result (IsPartlyAdded (S.taken sink.old) self.old.buffer (S.taken sink.new) (goes_on self.old.current file text.now)) }
+        ensures goes_on { OnOk result (GoesOn (S.taken sink.old) self.old.buffer (S.taken sink.new) self.new.buffer (at_once self.old.current file text.now)) }
+        ensures kept { OnOk result (ChangesAt file (TakesIn (for_later self.old.current file text.now)) self.old.waiting self.new.waiting) }
+        ensures partial { OnErr result (IsPartlyAdded (S.taken sink.old) self.old.buffer (S.taken sink.new) (at_once self.old.current file text.now)) }
         ensures stands { TellsFailure (S.failed sink.new) result }
         ensures same { StaysAt self.old self.new }
     {
