@@ -27,8 +27,8 @@ use streams::{Mark, Sink, SinkFault, SourceEnd, TextBuffer};
 /// the texts of each later file are buffered until it is current.
 #[derive(Drop)]
 pub struct FileOrder {
-    /// The text in transit to the sink.
-    buffer: TextBuffer,
+    /// The text in transit to the sink. It is on the heap, since a `FileOrder` is moved from call to call.
+    buffer: Box<TextBuffer>,
     /// The first file that has not ended.
     current: u32,
     /// What has arrived of each file.
@@ -42,7 +42,7 @@ impl Model for FileOrder {
 
     ghost Value = { OrderModel };
 
-    ghost view = { λ o. record { buffer = o.buffer; current = o.current; waiting = o.waiting.items } };
+    ghost view = { λ o. record { buffer = o.buffer.value; current = o.current; waiting = o.waiting.items } };
 }
 
 impl FileOrder {
@@ -50,12 +50,12 @@ impl FileOrder {
     ///
     /// # Errors
     ///
-    /// `AllocError` if there is no memory to keep this many files.
+    /// `AllocError` if there is no memory for the buffer or to keep this many files.
     pub fn new(alloc: Global, files: u32, first: &[u8]) -> Result<FileOrder, AllocError>
         requires { length first.now ≤ ROOM }
         ensures { IfOk result (IsBegun files first.now) }
     {
-        let mut buffer = TextBuffer::new();
+        let mut buffer = Box::new(alloc, TextBuffer::new())?;
         buffer.push(first);
         let waiting = none_come(alloc, files)?;
         Ok(FileOrder {

@@ -1,4 +1,4 @@
-use Rattle.std.proofs.Common.{◌≡◌, ◌∙◌, [], if◌then◌else◌, ap, subst, sym}
+use Rattle.std.proofs.Common.{◌≡◌, ◌∙◌, ℕ, List, [], if◌then◌else◌, ap, subst, sym}
 use Rattle.std.proofs.lemmas.Bool.{eq-eqb}
 use Rattle.file_order.specs.FileOrder.{OrderModel, at_once}
 use Rattle.file_order.specs.Writing.{IsPartlyAdded}
@@ -20,4 +20,5 @@ returns-then-file-self-clause-partial g c =
     let at : c.args.file ≡ self.current = c.if-file-self.true ∙ ap (λ (o : OrderModel). o.current) c.self.view_is in
     let all : at_once self.current c.args.file text ≡ text = ap (λ b. if b then text else []) (eq-eqb c.args.file self.current at) in
     err_then c.put.result c.put.ensures.partial (λ partial.
-    subst (IsPartlyAdded old self.buffer new) (sym all) (subst (λ (o : OrderModel). IsPartlyAdded old o.buffer new text) c.self.view_is partial))
+    subst (IsPartlyAdded old self.buffer new) (sym all) (subst (λ (o : OrderModel). IsPartlyAdded old o.buffer new text) c.self.view_is
+    (subst (λ (b : List ℕ). IsPartlyAdded old b new text) c.deref_mut.ensures.value partial)))

@@ -1,4 +1,4 @@
-use Rattle.std.proofs.Common.{◌≡◌, ◌<◌, ◌∙◌, ap, get_or, length, subst, sym}
+use Rattle.std.proofs.Common.{◌≡◌, ◌<◌, ◌∙◌, ℕ, List, ap, get_or, length, subst, sym}
 use Rattle.std.proofs.lemmas.List.{get_or_default}
 use Rattle.file_order.specs.declared.waiting.Waiting.{Waiting}
 use Rattle.file_order.specs.FileOrder.{OrderModel}
@@ -17,4 +17,5 @@ returns-clause-partial g c =
     λ other. c.index_mut-here.ensures.value ∙ get_or_default inside.waiting.items inside.current here other below in
     err_then c.put.result c.put.ensures.partial (λ partial other.
     subst (λ (o : OrderModel). IsPartlyAdded old o.buffer new (get_or o.waiting o.current other).lines) c.self.view_is
-    (subst (IsPartlyAdded old inside.buffer new) (c.replace-lines.ensures.value ∙ ap (λ (w : Waiting). w.lines) (is other)) partial))
+    (subst (IsPartlyAdded old inside.buffer.value new) (c.replace-lines.ensures.value ∙ ap (λ (w : Waiting). w.lines) (is other))
+    (subst (λ (b : List ℕ). IsPartlyAdded old b new c.replace-lines.result) c.deref_mut.ensures.value partial)))
