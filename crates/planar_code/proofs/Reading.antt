@@ -1,11 +1,10 @@
 -- How a framer's steps make up a piece.
-use Rattle.std.proofs.Common.{◌≡◌, ℕ, List, [], ◌∷◌, ◌++◌, inl, inr, length, take, drop, refl, sym, ap, subst, ◌∙◌, arith, append_assoc, append-nil, Option, Some, None, IsSome, option_to_list, Ok, Err}
+use Rattle.std.proofs.Common.{◌≡◌, ℕ, List, [], ◌∷◌, ◌++◌, inl, inr, length, take, drop, refl, sym, ap, subst, ◌∙◌, arith, append_assoc, append-nil, Option, Some, option_to_list, Ok, Err}
 use Rattle.std.proofs.lemmas.List.{take-append-drop}
-use Rattle.std.proofs.lemmas.Bool.{false≢true}
 use Rattle.planar_code.specs.declared.fault.FeedFault.{FeedFault}
 use Rattle.planar_code.specs.declared.fault.FeedFault.TheVariants as fault
 use Rattle.planar_code.specs.FramerState.{FramerState, Failed, Goes, HasNotFailed, LosesRecord, Feeds}
-use Rattle.planar_code.specs.Step.{FramerSteps, HasRead, Runs}
+use Rattle.planar_code.specs.Step.{FramerSteps, HasRead}
 use Rattle.planar_code.proofs.LeadsTo.{goes_on, goes_nowhere, goes_failed}
 
 -- no step yet
@@ -36,8 +35,8 @@ module _ (old mid : FramerState) (piece text : List ℕ) (before after : List (L
   }
 
   -- nothing is left
-  pub runs-ok : (u : Unit {0}) → length text ≡ 0 → Runs old piece before after mid (Ok u)
-  runs-ok u none = record {
+  pub fed-ok : (u : Unit {0}) → length text ≡ 0 → Feeds old piece before after mid (Ok u)
+  fed-ok u none = record {
     added = h.added;
     appended = h.appended;
     reads = (h.running, subst (λ z. Goes old z h.added mid) (sym (h.parts ∙ ap (λ z. h.taken ++ z) (empty text none) ∙ append-nil h.taken)) h.goes);
@@ -64,20 +63,20 @@ module _ (old mid : FramerState) (piece text : List ℕ) (before after : List (L
     goes = goes_on old mid next h.taken front h.added (lost ∷ []) h.goes g;
   }
 
-  pub runs-err : (p new : FramerState) (f : FeedFault) → FramerSteps mid text p (Err f) → Runs old piece before after new (Err f)
-  runs-err p new fault.Header s = record { added = h.added; appended = h.appended; reads = goes-fault fault.Header s }
-  runs-err p new fault.Large s = record { added = h.added; appended = h.appended; reads = goes-fault fault.Large s }
-  runs-err p new fault.Oversize s = record { added = h.added; appended = h.appended; reads = goes-fault fault.Oversize s }
-  runs-err p new fault.Memory s = record { added = h.added; appended = h.appended; reads = loses-more s.front s.back s.lost s.next s.parts s.goes }
-  runs-err p new fault.Many s = record { added = h.added; appended = h.appended; reads = goes-fault fault.Many s }
+  -- the next step has a fault, which the framer keeps
+  pub fed-err : (next : FramerState) (f : FeedFault) → FramerSteps mid text next (Err f) → Feeds old piece before after (Failed f) (Err f)
+  fed-err next fault.Header s = record { added = h.added; appended = h.appended; reads = (refl, goes-fault fault.Header s) }
+  fed-err next fault.Large s = record { added = h.added; appended = h.appended; reads = (refl, goes-fault fault.Large s) }
+  fed-err next fault.Oversize s = record { added = h.added; appended = h.appended; reads = (refl, goes-fault fault.Oversize s) }
+  fed-err next fault.Memory s = record { added = h.added; appended = h.appended; reads = (refl, inr (loses-more s.front s.back s.lost s.next s.parts s.goes)) }
+  fed-err next fault.Many s = record { added = h.added; appended = h.appended; reads = (refl, goes-fault fault.Many s) }
 
   -- the list had no room for the next record
-  pub runs-memory : (next new : FramerState) (n : ℕ) (o : Option (List ℕ)) (later : List (List ℕ)) → FramerSteps mid text next (Ok (n, o)) → IsSome o → later ≡ after → Runs old piece before later new (Err fault.Memory)
-  runs-memory next new n None later s some e = absurd (false≢true some)
-  runs-memory next new n (Some lost) later s some e = record {
+  pub fed-memory : (next : FramerState) (n : ℕ) (lost : List ℕ) (later : List (List ℕ)) → FramerSteps mid text next (Ok (n, Some lost)) → later ≡ after → Feeds old piece before later (Failed fault.Memory) (Err fault.Memory)
+  fed-memory next n lost later s e = record {
     added = h.added;
     appended = e ∙ h.appended;
-    reads = loses-more (take n text) (drop n text) lost next (sym (take-append-drop n text)) s.3;
+    reads = (refl, inr (loses-more (take n text) (drop n text) lost next (sym (take-append-drop n text)) s.3));
   }
 
 -- a framer that has failed repeats its fault
@@ -87,15 +86,3 @@ feeds-failed fault.Large piece before = record { added = []; appended = sym (app
 feeds-failed fault.Oversize piece before = record { added = []; appended = sym (append-nil before); reads = (refl, goes_failed fault.Oversize piece) }
 feeds-failed fault.Memory piece before = record { added = []; appended = sym (append-nil before); reads = (refl, inl (refl, refl)) }
 feeds-failed fault.Many piece before = record { added = []; appended = sym (append-nil before); reads = (refl, goes_failed fault.Many piece) }
-
--- a framer that fails now keeps the fault
-pub feeds-err : (old mid : FramerState) (piece : List ℕ) (before after : List (List ℕ)) (f : FeedFault) → Runs old piece before after mid (Err f) → Feeds old piece before after (Failed f) (Err f)
-feeds-err old mid piece before after fault.Header r = record { added = r.added; appended = r.appended; reads = (refl, r.reads) }
-feeds-err old mid piece before after fault.Large r = record { added = r.added; appended = r.appended; reads = (refl, r.reads) }
-feeds-err old mid piece before after fault.Oversize r = record { added = r.added; appended = r.appended; reads = (refl, r.reads) }
-feeds-err old mid piece before after fault.Memory r = record { added = r.added; appended = r.appended; reads = (refl, inr r.reads) }
-feeds-err old mid piece before after fault.Many r = record { added = r.added; appended = r.appended; reads = (refl, r.reads) }
-
--- a framer that read all of the piece
-pub feeds-ok : (old new : FramerState) (piece : List ℕ) (before after : List (List ℕ)) (u : Unit {0}) → Runs old piece before after new (Ok u) → Feeds old piece before after new (Ok u)
-feeds-ok old new piece before after u r = record { added = r.added; appended = r.appended; reads = r.reads }

@@ -20,14 +20,3 @@ pub record HasRead (old : FramerState) (piece text : List ℕ) (before after : L
   pub appended : after ≡ before ++ added
   pub running : HasNotFailed new
   pub goes : Goes old taken added new
-
--- all of the piece was read, or a fault occurred, which the framer does not keep yet
-abbrev pub ReadsUpTo : FramerState → List ℕ → List (List ℕ) → FramerState → Result Unit FeedFault → Type 0
-ReadsUpTo old piece added new (Ok _) = HasNotFailed new × Goes old piece added new
-ReadsUpTo old piece added new (Err fault.Memory) = LosesRecord old piece added
-ReadsUpTo old piece added new (Err f) = Goes old piece added (Failed f)
-
-pub record Runs (old : FramerState) (piece : List ℕ) (before after : List (List ℕ)) (new : FramerState) (result : Result Unit FeedFault) : Type 0 where
-  pub added : List (List ℕ)
-  pub appended : after ≡ before ++ added
-  pub reads : ReadsUpTo old piece added new result

@@ -1,10 +1,10 @@
 //! An incremental parser of planar_code (the format is that of plantri by Brinkmann and McKay).
 
-ghost use Rattle.std.specs.Prelude.{◌≡◌, ◌≢◌, ◌⊎◌, ℕ, ◌+◌, ◌<◌, ◌≤◌, List, [], ◌++◌, length, IfOk, OnOk, OnErr, IsSome, IsOk, Err, ◌↔◌, option_to_list};
+ghost use Rattle.std.specs.Prelude.{◌≡◌, ◌≢◌, ◌⊎◌, ℕ, ◌+◌, ◌<◌, ◌≤◌, List, [], ◌++◌, length, IfOk, IsOk, Err, ◌↔◌};
 ghost use Rattle.planar_code.specs.declared.TheConstants.{MAX_RECORDS};
 ghost use Rattle.planar_code.specs.Split.{IsSplit, MayGoOn, ending_of};
 ghost use Rattle.planar_code.specs.FramerState.{FramerState, Early, After, Failed, StandsAt, HasNotFailed, Feeds, HasMore, beyond};
-ghost use Rattle.planar_code.specs.Step.{FramerSteps, Runs};
+ghost use Rattle.planar_code.specs.Step.{FramerSteps};
 ghost use Rattle.planar_code.specs.declared.fault.FeedFault.{FeedFault};
 
 use crate::ending::Ending;
@@ -47,21 +47,6 @@ impl Model for Framer {
     ghost view = { framer_state_of };
 
     ghost invariant = { IsFramer };
-}
-
-/// Appends the record to the list, if there is one.
-fn append(out: &mut Vec<Record>, next: Option<Record>) -> Result<(), FeedFault>
-    ensures ok { OnOk result (out.new.items ≡ out.old.items ++ option_to_list next) }
-    ensures err { OnErr result (out.new.items ≡ out.old.items) }
-    ensures memory { OnErr result (IsSome next × (result ≡ Err FeedFault.Memory)) }
-{
-    match next {
-        Some(record) => match out.push(record) {
-            Ok(()) => Ok(()),
-            Err(_) => Err(FeedFault::Memory),
-        },
-        None => Ok(()),
-    }
 }
 
 impl Framer {
@@ -115,20 +100,6 @@ impl Framer {
                 }
             }
         }
-    }
-
-    /// Reads all of `piece`.
-    fn read(&mut self, alloc: Global, piece: &[u8], out: &mut Vec<Record>) -> Result<(), FeedFault>
-        requires { HasNotFailed self.old }
-        ensures { Runs self.old piece.now out.old.items out.new.items self.new result }
-    {
-        let mut text = piece;
-        while !text.is_empty() {
-            let (taken, next) = self.step(alloc, text)?;
-            append(out, next)?;
-            text = &text[taken..];
-        }
-        Ok(())
     }
 
     /// Reads the next piece of the stream and appends each record that it completes to `out`, in order.
@@ -187,13 +158,27 @@ impl Framer {
         if let Phase::Failed(fault) = self.phase {
             return Err(fault);
         }
-        match self.read(alloc, piece, out) {
-            Ok(()) => Ok(()),
-            Err(fault) => {
-                self.phase = Phase::Failed(fault);
-                Err(fault)
+        let mut text = piece;
+        while !text.is_empty() {
+            let (taken, next) = match self.step(alloc, text) {
+                Ok(step) => step,
+                Err(fault) => {
+                    self.phase = Phase::Failed(fault);
+                    return Err(fault);
+                }
+            };
+            match next {
+                Some(record) => {
+                    if out.push(record).is_err() {
+                        self.phase = Phase::Failed(FeedFault::Memory);
+                        return Err(FeedFault::Memory);
+                    }
+                }
+                None => {}
             }
+            text = &text[taken..];
         }
+        Ok(())
     }
 
     /// How the stream ends if no more bytes come.

@@ -1,6 +1,5 @@
 //! The record that a stream has begun but not ended.
 ghost use Rattle.std.specs.Prelude.{◌≡◌, ℕ, ◌<◌, List, [], ◌++◌, length, IsTrue, ◌↔◌, IfOk, OnOk, OnErr};
-ghost use Rattle.planar_code.specs.Stream.{IsRecord};
 ghost use Rattle.planar_code.specs.Started.{IsStarted};
 ghost use Rattle.planar_code.specs.Scan.{Scans, TakesFrom};
 
@@ -84,24 +83,10 @@ impl PartialRecord {
         self.entries = entries;
     }
 
-    /// The record that `text` ends. One that lies whole in `text` is copied once.
-    fn complete(&mut self, alloc: Global, text: &[u8]) -> Result<Record, AllocError>
-        requires { IsRecord (self.old ++ text.now) }
-        ensures record { IfOk result (λ r. r ≡ self.old ++ text.now) }
-        ensures empty { self.new ≡ [] }
-    {
-        if self.bytes.is_empty() {
-            return Record::from_slice(alloc, text);
-        }
-        self.bytes.extend_from_slice(text).unwrap();
-        let result = Record::from_slice(alloc, self.bytes.as_slice());
-        self.bytes.clear();
-        result
-    }
-
     /// Appends `text` up to the record's end; if the record ends, returns it and the number of bytes taken.
     ///
-    /// `None` if the record is still partial after all of `text`. It runs out of memory only if `text` ends the record.
+    /// `None` if the record is still partial after all of `text`. A record that lies whole in `text` is copied once. It
+    /// runs out of memory only if `text` ends the record.
     pub fn read(&mut self, alloc: Global, text: &[u8]) -> Result<Option<(Record, usize)>, FeedFault>
         requires { 0 < length text.now }
         ensures { TakesFrom self.old text.now self.new result }
@@ -111,10 +96,20 @@ impl PartialRecord {
                 self.keep(text, remaining, entries);
                 Ok(None)
             }
-            Scan::Whole(end) => match self.complete(alloc, &text[..end]) {
-                Ok(record) => Ok(Some((record, end))),
-                Err(_) => Err(FeedFault::Memory),
-            },
+            Scan::Whole(end) => {
+                let record = if self.bytes.is_empty() {
+                    Record::from_slice(alloc, &text[..end])
+                } else {
+                    self.bytes.extend_from_slice(&text[..end]).unwrap();
+                    let joined = Record::from_slice(alloc, self.bytes.as_slice());
+                    self.bytes.clear();
+                    joined
+                };
+                match record {
+                    Ok(record) => Ok(Some((record, end))),
+                    Err(_) => Err(FeedFault::Memory),
+                }
+            }
         }
     }
 }
