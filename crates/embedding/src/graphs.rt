@@ -25,7 +25,7 @@ use crate::writing::{
 };
 use common::{MAX_VERTICES, emptied};
 use planar_code::Record;
-use std::alloc::{AllocError, Global};
+use std::alloc::Global;
 use std::marker::Model;
 use std::mem;
 
@@ -126,7 +126,7 @@ impl Graph {
         let entries = &mut room[..entry_count(rec)];
         let count = write_lists(rec, entries, &mut starts);
         let lists = Lists::new(entries, &starts, count);
-        Graph::read_lists(alloc, scratch, lists)
+        Graph::of(alloc, scratch, &lists)
     }
 
     /// The graph of a wide record. The time is linear in its entries if no list has more than four or there are at most
@@ -184,33 +184,19 @@ impl Graph {
         let entries = &rec.entries()[1..];
         find_starts(entries, &mut starts);
         let lists = Lists::new(entries, &starts, rec.order());
-        Graph::read_lists(alloc, scratch, lists)
+        Graph::of(alloc, scratch, &lists)
     }
 
-    /// The graph of lists.
-    fn read_lists(
-        alloc: Global,
-        scratch: &mut Scratch,
-        lists: Lists<'_>,
-    ) -> Result<Graph, ReadFault>
-        requires { length lists ≤ MAX_VERTICES }
-        ensures lists { IfOk result (λ graph. graph ≡ lists.entry) }
-        ensures rules { OnOk result (KeepsBefore lists.entry 8) }
-        ensures fault { IfErr result (IsReadFault lists.entry) }
+    /// The graph of lists, in the buffers of the scratch if these are large enough. The room is just what a plane needs.
+    fn of(alloc: Global, scratch: &mut Scratch, lists: &Lists<'_>) -> Result<Graph, ReadFault>
+        requires { length lists.now ≤ MAX_VERTICES }
+        ensures lists { IfOk result (λ graph. graph ≡ lists.now) }
+        ensures rules { OnOk result (KeepsBefore lists.now 8) }
+        ensures fault { IfErr result (IsReadFault lists.now) }
     {
-        if let Some(rule) = first_broken(&lists) {
+        if let Some(rule) = first_broken(lists) {
             return Err(ReadFault::Rule(rule));
         }
-        Ok(Graph::of(alloc, scratch, &lists)?)
-    }
-
-    /// The graph of lists that keep rules 1 to 7, in the buffers of the scratch if these are large enough. The room is
-    /// just what a plane needs.
-    fn of(alloc: Global, scratch: &mut Scratch, lists: &Lists<'_>) -> Result<Graph, AllocError>
-        requires rules { KeepsBefore lists.now 8 }
-        requires few { length lists.now ≤ MAX_VERTICES }
-        ensures { IfOk result (λ graph. graph ≡ lists.now) }
-    {
         let darts = lists.darts();
         let old_heads = mem::replace(&mut scratch.heads, Vec::new(alloc));
         let old_table = mem::replace(&mut scratch.table, Vec::new(alloc));

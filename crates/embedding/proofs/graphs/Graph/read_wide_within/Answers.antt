@@ -12,4 +12,4 @@ returns-clause-rules g c =
     let rest : take (length all - 1) (drop 1 all) ≡ drop 1 all = take_all _ _ (omega (arith, length-drop 1 all)) in
     let same : c.new-lists.result ≡ lists_of c.args.rec.now =
     c.new-lists.ensures ∙ ap lists_in (rest ∙ ap (drop 1) c.entries.ensures.value) ∙ sym (lists_of-rest c.args.rec.now) in
-    subst (λ (l : List (List ℕ)). OnOk c.read_lists.result (KeepsBefore l 8)) same c.read_lists.ensures.rules
+    subst (λ (l : List (List ℕ)). OnOk c.of.result (KeepsBefore l 8)) same c.of.ensures.rules
