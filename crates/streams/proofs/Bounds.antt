@@ -2,13 +2,11 @@
 use Rattle.std.proofs.Common.{ℕ, ◌+◌, ◌*◌, ◌≤◌, Bool, List, [], ◌∷◌, Option, length, All, refl, ap, arith, length-append}
 use Rattle.std.specs.List.{concat}
 use Rattle.std.proofs.lemmas.List.Elements.{All-head, All-tail}
-use Rattle.planar_code.specs.declared.TheConstants.{HEADER, MAX_RECORDS}
+use Rattle.planar_code.specs.declared.TheConstants.{HEADER}
 use Rattle.planar_code.specs.Stream.{IsRecord, IsUnfinished}
 use Rattle.planar_code.specs.FramerState.{FramerState, Early, After, Failed, StandsAt, HasNotFailed}
 use Rattle.planar_code.proofs.Started.{length-record}
-use Rattle.planar_code.proofs.Feeding.{length-split}
 use Rattle.streams.specs.Reading.{IsBeingRead}
-use Rattle.streams.proofs.Marks.{split_stands}
 
 -- a bound on the bytes of a number of records
 length-records : (records : List (List ℕ)) → All IsRecord records → length (concat records) ≤ 65026 * length records
@@ -43,11 +41,3 @@ pub few_rounds : (known : Option (List ℕ)) (known_fails : Bool) (rounds : ℕ)
     → IsBeingRead known known_fails rounds to_come fails records state → rounds ≤ 15 + 65026 * 1000001
 few_rounds known known_fails rounds to_come fails records state r =
     let went = r.went in omega (arith, length-running r.read records state r.stands r.running)
-
--- at no state are there more than 1,000,000 records
-pub few_stand : (read : List ℕ) (records : List (List ℕ)) (state : FramerState) → StandsAt read records state → length records ≤ MAX_RECORDS
-few_stand read records state s = let split = split_stands read records state s in length-split read records split.0 split.1
-
--- where nothing is added, there are as few
-pub few_stay : (read : List ℕ) (records : List (List ℕ)) (state : FramerState) (count : ℕ) → StandsAt read records state → length records + count ≤ MAX_RECORDS + count
-few_stay read records state count s = omega (arith, few_stand read records state s)

@@ -1,5 +1,5 @@
 -- What one more piece of a source leads to.
-use Rattle.std.proofs.Common.{◌≡◌, ◌≢◌, ℕ, ◌+◌, ◌<◌, Bool, true, false, List, [], ◌∷◌, ◌++◌, Option, None, Some, Ok, Err, inl, inr, length, refl, sym, ap, subst, ◌∙◌, append_assoc, append-nil, length-append, arith}
+use Rattle.std.proofs.Common.{◌≡◌, ◌≢◌, ℕ, ◌+◌, ◌<◌, Bool, true, false, List, [], ◌∷◌, ◌++◌, Option, None, Some, Result, Ok, Err, inl, inr, length, refl, sym, ap, subst, ◌∙◌, append_assoc, append-nil, length-append, arith}
 use Rattle.std.specs.Io.KnownBytes.{Consumes}
 use Rattle.planar_code.specs.declared.TheConstants.{HEADER}
 use Rattle.planar_code.specs.declared.ending.Ending.{Ending}
@@ -11,9 +11,9 @@ use Rattle.planar_code.specs.FramerState.{FramerState, Early, Failed, StandsAt, 
 use Rattle.planar_code.proofs.Splits.{split_same}
 use Rattle.streams.specs.declared.frames.Mark.{Mark}
 use Rattle.streams.specs.declared.frames.Mark.TheVariants as mark
-use Rattle.streams.specs.Tap.{IsAtItsFailure}
+use Rattle.streams.specs.Tap.{IsAtItsEnd, IsAtItsFailure}
 use Rattle.streams.specs.Marks.{IsMarked, IsInterrupted}
-use Rattle.streams.specs.Reading.{IsKnownOf, IsFoundIn, IsBeingRead, IsReadToItsEnd}
+use Rattle.streams.specs.Reading.{IsKnownOf, IsFoundIn, IsBeingRead}
 use Rattle.streams.proofs.Marks.{split_stands, open_stands, failed_not_open, beginning_stands}
 
 -- nothing was given
@@ -28,12 +28,20 @@ consumed_both (Some x) None c xs ys p q = absurd p
 consumed_both (Some x) (Some y) None xs ys p q = absurd q
 consumed_both (Some x) (Some y) (Some z) xs ys p q = p ∙ ap (λ l. xs ++ l) q ∙ sym (append_assoc xs ys z)
 
--- the same where it fails
+-- the bytes that were read are all, where the source fails
 told_at_failure : (known to_come : Option (List ℕ)) (known_fails fails : Bool) (read : List ℕ) → Consumes known to_come read → fails ≡ known_fails
     → IsAtItsFailure to_come fails → IsKnownOf known known_fails read true
 told_at_failure None to_come known_fails fails read took same at = tt
 told_at_failure (Some xs) None known_fails fails read took same at = absurd took
 told_at_failure (Some xs) (Some ys) known_fails fails read took same at =
+    (took ∙ ap (λ l. read ++ l) at.0 ∙ append-nil read, sym same ∙ at.1)
+
+-- the same where it ends
+told_at_end : (known to_come : Option (List ℕ)) (known_fails fails : Bool) (read : List ℕ) → Consumes known to_come read → fails ≡ known_fails
+    → IsAtItsEnd to_come fails → IsKnownOf known known_fails read false
+told_at_end None to_come known_fails fails read took same at = tt
+told_at_end (Some xs) None known_fails fails read took same at = absurd took
+told_at_end (Some xs) (Some ys) known_fails fails read took same at =
     (took ∙ ap (λ l. read ++ l) at.0 ∙ append-nil read, sym same ∙ at.1)
 
 -- where reading stops, some bytes may be left; where the source's bytes are known, they are all of them
@@ -65,10 +73,10 @@ found_failed known to_come known_fails fails rounds records state r at = record 
 }
 
 -- the framer took the piece
-pub read_more : (known before after : Option (List ℕ)) (known_fails fails now_fails : Bool) (rounds : ℕ) (earlier old new : List (List ℕ)) (state now_state : FramerState) (piece : List ℕ)
+read_more : (known before after : Option (List ℕ)) (known_fails fails now_fails : Bool) (rounds : ℕ) (earlier old new : List (List ℕ)) (state now_state : FramerState) (piece : List ℕ) (u : Unit {0})
     → 0 < length piece → IsBeingRead known known_fails rounds before fails (earlier ++ old) state → Consumes before after piece → now_fails ≡ fails
-    → Feeds state piece old new now_state (Ok tt) → IsBeingRead known known_fails (rounds + 1) after now_fails (earlier ++ new) now_state
-read_more known before after known_fails fails now_fails rounds earlier old new state now_state piece some r took same f = record {
+    → Feeds state piece old new now_state (Ok u) → IsBeingRead known known_fails (rounds + 1) after now_fails (earlier ++ new) now_state
+read_more known before after known_fails fails now_fails rounds earlier old new state now_state piece u some r took same f = record {
   read = r.read ++ piece;
   took = consumed_both known before after r.read piece r.took took;
   same = same ∙ r.same;
@@ -116,7 +124,7 @@ found_wanting known before after known_fails fails rounds earlier old new state 
     }
 
 -- the framer read no further
-pub found_stopped : (known before after : Option (List ℕ)) (known_fails fails : Bool) (rounds : ℕ) (earlier old new : List (List ℕ)) (state now_state : FramerState) (piece : List ℕ) (f : FeedFault)
+found_stopped : (known before after : Option (List ℕ)) (known_fails fails : Bool) (rounds : ℕ) (earlier old new : List (List ℕ)) (state now_state : FramerState) (piece : List ℕ) (f : FeedFault)
     → IsBeingRead known known_fails rounds before fails (earlier ++ old) state → Consumes before after piece
     → Feeds state piece old new now_state (Err f) → IsFoundIn known known_fails (earlier ++ new) (mark.Ended (ending_of f))
 found_stopped known before after known_fails fails rounds earlier old new state now_state piece fault.Memory r took feeds =
@@ -133,6 +141,26 @@ found_stopped known before after known_fails fails rounds earlier old new state 
 found_stopped known before after known_fails fails rounds earlier old new state now_state piece fault.Many r took feeds =
     found_faulted known before after known_fails fails rounds earlier old new state piece fault.Many r took feeds.added feeds.appended (subst (Goes state piece feeds.added) feeds.reads.0 feeds.reads.1)
 
+-- no new records yet
+nothing_new : (known to_come : Option (List ℕ)) (known_fails fails : Bool) (rounds : ℕ) (records new : List (List ℕ)) (state : FramerState) → new ≡ []
+    → IsBeingRead known known_fails rounds to_come fails records state → IsBeingRead known known_fails rounds to_come fails (records ++ new) state
+nothing_new known to_come known_fails fails rounds records new state none r =
+    subst (λ rs. IsBeingRead known known_fails rounds to_come fails rs state) (sym (ap (λ l. records ++ l) none ∙ append-nil records)) r
+
+-- what one more piece leads to: there may be more, or the framer has stopped
+abbrev pub LeadsTo : Option (List ℕ) → Bool → ℕ → Option (List ℕ) → Bool → List (List ℕ) → FramerState → Result Unit FeedFault → Type 0
+LeadsTo known known_fails rounds to_come fails records state (Ok _) = IsBeingRead known known_fails (rounds + 1) to_come fails records state
+LeadsTo known known_fails rounds to_come fails records state (Err fault) = IsFoundIn known known_fails records (mark.Ended (ending_of fault))
+
+-- the framer was fed the piece
+pub fed_piece : (known before after : Option (List ℕ)) (known_fails fails now_fails : Bool) (rounds : ℕ) (earlier old new : List (List ℕ)) (state now_state : FramerState) (piece : List ℕ) (result : Result Unit FeedFault)
+    → old ≡ [] → 0 < length piece → IsBeingRead known known_fails rounds before fails earlier state → Consumes before after piece → now_fails ≡ fails
+    → Feeds state piece old new now_state result → LeadsTo known known_fails rounds after now_fails (earlier ++ new) now_state result
+fed_piece known before after known_fails fails now_fails rounds earlier old new state now_state piece (Ok u) none some r took same feeds =
+    read_more known before after known_fails fails now_fails rounds earlier old new state now_state piece u some (nothing_new known before known_fails fails rounds earlier old state none r) took same feeds
+fed_piece known before after known_fails fails now_fails rounds earlier old new state now_state piece (Err fault) none some r took same feeds =
+    found_stopped known before after known_fails fails rounds earlier old new state now_state piece fault (nothing_new known before known_fails fails rounds earlier old state none r) took feeds
+
 -- no framer was to be had
 pub found_nothing : (known : Option (List ℕ)) (known_fails : Bool) (records : List (List ℕ)) → records ≡ [] → IsFoundIn known known_fails records (mark.Ended ending.Memory)
 found_nothing known known_fails records none =
@@ -144,13 +172,14 @@ found_nothing known known_fails records none =
       marked = λ all end split. (all, ap (λ rs. rs ++ all) (sym none));
     }
 
--- the framer's ending is the source's
-pub found_ended : (known : Option (List ℕ)) (known_fails : Bool) (records : List (List ℕ)) (state : FramerState) (end : Ending) → IsReadToItsEnd known known_fails records state
+-- the source ended, and the framer's ending is the source's
+pub found_ended : (known to_come : Option (List ℕ)) (known_fails fails : Bool) (rounds : ℕ) (records : List (List ℕ)) (state : FramerState) (end : Ending)
+    → IsBeingRead known known_fails rounds to_come fails records state → IsAtItsEnd to_come fails
     → ((stream : List ℕ) (rs : List (List ℕ)) → StandsAt stream rs state → IsSplit stream rs end) → IsFoundIn known known_fails records (mark.Ended end)
-found_ended known known_fails records state end r finish = record {
+found_ended known to_come known_fails fails rounds records state end r at finish = record {
   bytes = r.read;
   fails = false;
-  gave = r.gave;
+  gave = told_at_end known to_come known_fails fails r.read r.took r.same at;
   marked = marked_split r.read false records end (λ cut. let never : false ≡ true = cut.0 in (cc)) (finish r.read records r.stands);
 }
 
@@ -180,12 +209,6 @@ found_known known known_fails records found f bytes is =
 pub found_unknown : (known : Option (List ℕ)) (known_fails : Bool) (records : List (List ℕ)) (found : Mark) → IsFoundIn known known_fails records found
     → (bytes : List ℕ) × ((fails : Bool) × IsMarked bytes fails records found)
 found_unknown known known_fails records found f = (f.bytes, (f.fails, f.marked))
-
--- no new records yet
-pub nothing_new : (known to_come : Option (List ℕ)) (known_fails fails : Bool) (rounds : ℕ) (records new : List (List ℕ)) (state : FramerState) → new ≡ []
-    → IsBeingRead known known_fails rounds to_come fails records state → IsBeingRead known known_fails rounds to_come fails (records ++ new) state
-nothing_new known to_come known_fails fails rounds records new state none r =
-    subst (λ rs. IsBeingRead known known_fails rounds to_come fails rs state) (sym (ap (λ l. records ++ l) none ∙ append-nil records)) r
 
 -- the same records and the same mark
 pub found_as : (known : Option (List ℕ)) (fails : Bool) (records others : List (List ℕ)) (mark other : Mark) → records ≡ others → mark ≡ other → IsFoundIn known fails others other → IsFoundIn known fails records mark

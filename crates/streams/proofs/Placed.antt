@@ -1,5 +1,5 @@
 -- Records that were read of a source stand at their places in its known bytes.
-use Rattle.std.proofs.Common.{◌≡◌, ℕ, ◌+◌, Bool, false, List, [], ◌∷◌, ◌++◌, Option, None, Some, length, refl, sym, ap, subst, ◌∙◌, append_assoc, append-nil, length-append, arith}
+use Rattle.std.proofs.Common.{◌≡◌, ℕ, ◌+◌, Bool, List, [], ◌∷◌, ◌++◌, Option, None, Some, Result, Ok, Err, length, refl, sym, ap, subst, ◌∙◌, append_assoc, append-nil, length-append, arith}
 use Rattle.std.specs.Prelude.{⊤}
 use Rattle.planar_code.specs.declared.ending.Ending.{Ending}
 use Rattle.planar_code.specs.declared.ending.Ending.TheVariants as ending
@@ -8,13 +8,12 @@ use Rattle.planar_code.specs.FramerState.{FramerState}
 use Rattle.planar_code.proofs.Splits.{split_same}
 use Rattle.streams.specs.declared.frames.Mark.{Mark}
 use Rattle.streams.specs.declared.frames.Mark.TheVariants.{Ended, Io}
-use Rattle.streams.specs.declared.reading.PieceOutcome.{PieceOutcome}
-use Rattle.streams.specs.declared.reading.PieceOutcome.TheVariants as step
+use Rattle.planar_code.specs.declared.fault.FeedFault.{FeedFault}
 use Rattle.streams.specs.Marks.{IsMarked, IsBeginningOf}
-use Rattle.streams.specs.Reading.{IsFoundIn, IsBeingRead, IsReadToItsEnd, LeadsTo}
+use Rattle.streams.specs.Reading.{IsFoundIn, IsBeingRead}
 use Rattle.streams.specs.Placing.{IsAt, IsPlaced, EachAt, ArePlaced}
 use Rattle.streams.proofs.Marks.{beginning_stands}
-use Rattle.streams.proofs.Pieces.{told_so_far}
+use Rattle.streams.proofs.Pieces.{LeadsTo, told_so_far}
 
 -- the records are the first of those of a source's known bytes
 abbrev pub AreFirst : Option (List ℕ) → List (List ℕ) → Type 0
@@ -70,23 +69,16 @@ first_read (Some known) known_fails rounds None fails records state r = absurd r
 first_read (Some known) known_fails rounds (Some left) fails records state r = λ all end split.
     beginning_stands r.read left records state r.stands all end (subst (λ t. IsSplit t all end) r.took split)
 
-first_ended : (known : Option (List ℕ)) (known_fails : Bool) (records : List (List ℕ)) (state : FramerState) → IsReadToItsEnd known known_fails records state → AreFirst known records
-first_ended None known_fails records state r = tt
-first_ended (Some known) known_fails records state r = λ all end split.
-    beginning_stands r.read [] records state r.stands all end (subst (λ t. IsSplit t all end) (r.gave.0 ∙ sym (append-nil r.read)) split)
-
 -- the records that one more read led to
-pub first_step : (known : Option (List ℕ)) (known_fails : Bool) (rounds : ℕ) (to_come : Option (List ℕ)) (fails : Bool) (records : List (List ℕ)) (state : FramerState) (led : PieceOutcome)
+pub first_step : (known : Option (List ℕ)) (known_fails : Bool) (rounds : ℕ) (to_come : Option (List ℕ)) (fails : Bool) (records : List (List ℕ)) (state : FramerState) (led : Result Unit FeedFault)
     → LeadsTo known known_fails rounds to_come fails records state led → AreFirst known records
-first_step known known_fails rounds to_come fails records state step.More leads = first_read known known_fails (rounds + 1) to_come fails records state leads
-first_step known known_fails rounds to_come fails records state step.Ended leads = first_ended known known_fails records state leads
-first_step known known_fails rounds to_come fails records state step.Failed leads = first_found known known_fails records Io leads
-first_step known known_fails rounds to_come fails records state (step.Faulted fault) leads = first_found known known_fails records (Ended _) leads
+first_step known known_fails rounds to_come fails records state (Ok _) leads = first_read known known_fails (rounds + 1) to_come fails records state leads
+first_step known known_fails rounds to_come fails records state (Err fault) leads = first_found known known_fails records (Ended _) leads
 
 -- the records so far are found, if memory then runs out
-pub found_so_far : (known : Option (List ℕ)) (known_fails : Bool) (rounds : ℕ) (to_come : Option (List ℕ)) (fails : Bool) (records : List (List ℕ)) (state : FramerState) (led : PieceOutcome)
+pub found_so_far : (known : Option (List ℕ)) (known_fails : Bool) (rounds : ℕ) (to_come : Option (List ℕ)) (fails : Bool) (records : List (List ℕ)) (state : FramerState) (led : Result Unit FeedFault)
     → LeadsTo known known_fails rounds to_come fails records state led → IsFoundIn known known_fails records (Ended ending.Memory)
-found_so_far known known_fails rounds to_come fails records state step.More leads =
+found_so_far known known_fails rounds to_come fails records state (Ok _) leads =
     let more = told_so_far known to_come known_fails leads.read leads.took in
     record {
       bytes = leads.read ++ more.0;
@@ -94,19 +86,7 @@ found_so_far known known_fails rounds to_come fails records state step.More lead
       gave = more.2;
       marked = λ all end split. beginning_stands leads.read more.0 records state leads.stands all end split;
     }
-found_so_far known known_fails rounds to_come fails records state step.Ended leads = record {
-  bytes = leads.read;
-  fails = false;
-  gave = leads.gave;
-  marked = λ all end split. beginning_stands leads.read [] records state leads.stands all end (subst (λ (t : List ℕ). IsSplit t all end) (sym (append-nil leads.read)) split);
-}
-found_so_far known known_fails rounds to_come fails records state step.Failed leads = record {
-  bytes = leads.bytes;
-  fails = leads.fails;
-  gave = leads.gave;
-  marked = marked_first leads.bytes leads.fails records Io leads.marked;
-}
-found_so_far known known_fails rounds to_come fails records state (step.Faulted fault) leads = record {
+found_so_far known known_fails rounds to_come fails records state (Err fault) leads = record {
   bytes = leads.bytes;
   fails = leads.fails;
   gave = leads.gave;

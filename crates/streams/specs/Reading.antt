@@ -1,12 +1,8 @@
 -- How a source is read, piece by piece.
-use Rattle.std.specs.Prelude.{◌≡◌, ℕ, ◌+◌, ◌≤◌, Bool, false, List, ◌++◌, length, Option, None, Some, ⊤}
+use Rattle.std.specs.Prelude.{◌≡◌, ℕ, ◌≤◌, Bool, List, length, Option, None, Some, ⊤}
 use Rattle.std.specs.Io.KnownBytes.{Consumes}
-use Rattle.planar_code.specs.Split.{ending_of}
 use Rattle.planar_code.specs.FramerState.{FramerState, StandsAt, HasNotFailed}
 use Rattle.streams.specs.declared.frames.Mark.{Mark}
-use Rattle.streams.specs.declared.frames.Mark.TheVariants as mark
-use Rattle.streams.specs.declared.reading.PieceOutcome.{PieceOutcome}
-use Rattle.streams.specs.declared.reading.PieceOutcome.TheVariants.{More, Ended, Failed, Faulted}
 use Rattle.streams.specs.Marks.{IsMarked}
 
 -- what is known beforehand of a source is true of these bytes and of this failing; one of which nothing is known may have given any
@@ -30,24 +26,3 @@ pub record IsBeingRead (known : Option (List ℕ)) (known_fails : Bool) (rounds 
   pub stands : StandsAt read records state
   pub running : HasNotFailed state
   pub went : rounds ≤ length read
-
--- all bytes of the source were read, and it ended
-pub record IsReadToItsEnd (known : Option (List ℕ)) (known_fails : Bool) (records : List (List ℕ)) (state : FramerState) : Type 0 where
-  pub read : List ℕ
-  pub gave : IsKnownOf known known_fails read false
-  pub stands : StandsAt read records state
-
--- the outcome of one more read
-abbrev pub LeadsTo : Option (List ℕ) → Bool → ℕ → Option (List ℕ) → Bool → List (List ℕ) → FramerState → PieceOutcome → Type 0
-LeadsTo known known_fails rounds to_come fails records state More = IsBeingRead known known_fails (rounds + 1) to_come fails records state
-LeadsTo known known_fails rounds to_come fails records state Ended = IsReadToItsEnd known known_fails records state
-LeadsTo known known_fails rounds to_come fails records state Failed = IsFoundIn known known_fails records mark.Io
-LeadsTo known known_fails rounds to_come fails records state (Faulted fault) = IsFoundIn known known_fails records (mark.Ended (ending_of fault))
-
--- The outcome of one more read, whatever was read of the source before, and whatever records were taken out of the list
--- by then.
-abbrev pub ReadsOn : Option (List ℕ) → Bool → List (List ℕ) → FramerState → Option (List ℕ) → Bool → List (List ℕ) → FramerState → PieceOutcome → Type 0
-ReadsOn to_come fails records state now now_fails now_records now_state step =
-    (known : Option (List ℕ)) (known_fails : Bool) (rounds : ℕ) (earlier : List (List ℕ))
-    → IsBeingRead known known_fails rounds to_come fails (earlier ++ records) state
-    → LeadsTo known known_fails rounds now now_fails (earlier ++ now_records) now_state step

@@ -19,6 +19,6 @@ pub use frames::{Frames, Mark};
 pub use input::{Tap, TapFault};
 pub use memory::MemTap;
 pub use output::{IoSink, Sink, SinkFault};
-pub use reading::{PIECE, PieceOutcome, SourceEnd, piece_buffer, read_piece, read_source};
+pub use reading::{PIECE, SourceEnd, piece_buffer, read_source};
 pub use receiver::Receiver;
 pub use text_buffer::{LINE, ROOM, TextBuffer, put_all};

@@ -1,11 +1,13 @@
-use Rattle.std.proofs.Common.{rules, ℕ, List, ◌+◌, [], ◌++◌, length, refl, ap, sym, subst, length-append, arith}
+use Rattle.std.proofs.Common.{rules, ◌<◌, ℕ, List, ◌+◌, [], ◌++◌, Ok, Err, length, take, refl, ap, sym, subst, length-append, arith}
 use Rattle.streams.specs.declared.frames.Mark.TheVariants.{Ended}
+use Rattle.std.proofs.lemmas.List.{length-take}
 use Rattle.streams.proofs.Bounds.{few_rounds}
-use Rattle.streams.proofs.Pieces.{nothing_read, nothing_new, found_nothing, found_ended, found_as}
+use Rattle.streams.proofs.Pieces.{nothing_read, fed_piece, found_nothing, found_ended, found_failed, found_as}
 use Rattle.streams.proofs.Placed.{first_step, placed_from, found_so_far}
 use Rattle.streams.proofs.Receiving.{received_from}
 use Rattle.std.proofs.lemmas.Result.{err_from_is_err_and}
 use Rattle.planar_code.specs.declared.ending.Ending.TheVariants.{Memory}
+use Rattle.streams.specs.Tap.{IsAtItsEnd}
 use Rattle.streams.specs.Reading.{IsFoundIn}
 use Rattle.streams.proofs.reading.read_source.Goals as goal
 
@@ -27,55 +29,58 @@ loop-init g c = record {
 pub overflow_cast-next : goal.overflow_cast-next
 overflow_cast-next g c =
     let inv = c.loop.invariant in
-    let few = c.read_piece-step.ensures.few inv.being_read.read inv.found inv.being_read.stands in
+    let few = c.feed-fed.ensures.few inv.being_read.read inv.found inv.being_read.stands in
     omega (arith, few, ap length inv.none)
 
 pub overflow_add-next : goal.overflow_add-next
 overflow_add-next g c =
     let inv = c.loop.invariant in
-    let few = c.read_piece-step.ensures.few inv.being_read.read inv.found inv.being_read.stands in
+    let few = c.feed-fed.ensures.few inv.being_read.read inv.found inv.being_read.stands in
     omega (arith, few, ap length inv.none, inv.next)
 
 pub receive-requires-clause-few : goal.receive-requires-clause-few
 receive-requires-clause-few g c =
     let inv = c.loop.invariant in
-    let few = c.read_piece-step.ensures.few inv.being_read.read inv.found inv.being_read.stands in
+    let few = c.feed-fed.ensures.few inv.being_read.read inv.found inv.being_read.stands in
     omega (arith, few, ap length inv.none, inv.next)
 
 pub receive-requires-clause-accepted : goal.receive-requires-clause-accepted
 receive-requires-clause-accepted g c =
     let inv = c.loop.invariant in
-    let new = c.read_piece-step.new.records.items in
-    let leads = c.read_piece-step.ensures.reads _ _ c.loop.counter inv.found (nothing_new _ _ _ _ _ _ _ _ inv.none inv.being_read) in
+    let n = c.in-Ok-read.size in
+    let some : 0 < length (take n c.read.new.buf) = omega (arith, length-take n c.read.new.buf, c.in-Ok-read.size-test, c.in-Ok-read.ensures.bound) in
+    let new = c.feed-fed.new.out.items in
+    let leads = fed_piece _ _ _ _ _ _ c.loop.counter inv.found _ _ _ _ _ c.feed-fed.result inv.none some inv.being_read c.in-Ok-read.ensures.given c.in-Ok-read.ensures.stays c.feed-fed.ensures.feeds in
     let first = first_step _ _ _ _ _ _ _ _ leads in
     g.met.V.Receiver.accepts_on _ _ _ _ inv.stays (c.requires.accepted _ new (placed_from _ inv.found new _ inv.next first))
 
-pub returns-in-Ended-clause-found : goal.returns-in-Ended-clause-found
-returns-in-Ended-clause-found g c =
+pub returns-in-Ok-eq0-clause-found : goal.returns-in-Ok-eq0-clause-found
+returns-in-Ok-eq0-clause-found g c =
     let inv = c.loop.invariant in
-    let ended = c.in-Ended.ensures.reads _ _ c.loop.counter inv.found (nothing_new _ _ _ _ _ _ _ _ inv.none inv.being_read) in
-    let then = received_from g.V.Receiver.received _ _ _ _ _ inv.next c.in_ok-receive.ensures.received in
-    (_, g.met.V.Receiver.received_on _ _ _ _ _ inv.received then, omega (arith, inv.next, length-append inv.found c.read_piece-step.new.records.items), found_ended _ _ _ _ _ ended c.finish.ensures.split)
+    let at : IsAtItsEnd (g.T.Tap.to_come c.loop.source) (g.T.Tap.fails c.loop.source) = search (rules, inv.room) in
+    (inv.found, inv.received, inv.next, found_ended _ _ _ _ _ _ _ _ inv.being_read at c.finish.ensures.split)
 
-pub returns-in-Failed-clause-found : goal.returns-in-Failed-clause-found
-returns-in-Failed-clause-found g c =
+pub returns-in-Err-clause-found : goal.returns-in-Err-clause-found
+returns-in-Err-clause-found g c =
     let inv = c.loop.invariant in
-    let failed = c.in-Failed.ensures.reads _ _ c.loop.counter inv.found (nothing_new _ _ _ _ _ _ _ _ inv.none inv.being_read) in
-    let then = received_from g.V.Receiver.received _ _ _ _ _ inv.next c.in_ok-receive.ensures.received in
-    (_, g.met.V.Receiver.received_on _ _ _ _ _ inv.received then, omega (arith, inv.next, length-append inv.found c.read_piece-step.new.records.items), failed)
+    (inv.found, inv.received, inv.next, found_failed _ _ _ _ _ _ _ inv.being_read c.in-Err.ensures.failed)
 
-pub returns-in-Faulted-clause-found : goal.returns-in-Faulted-clause-found
-returns-in-Faulted-clause-found g c =
+pub returns-in-Err-fed-clause-found : goal.returns-in-Err-fed-clause-found
+returns-in-Err-fed-clause-found g c =
     let inv = c.loop.invariant in
-    let stopped = c.in-Faulted.ensures.reads _ _ c.loop.counter inv.found (nothing_new _ _ _ _ _ _ _ _ inv.none inv.being_read) in
+    let n = c.in-Ok-read.size in
+    let some : 0 < length (take n c.read.new.buf) = omega (arith, length-take n c.read.new.buf, c.in-Ok-read.size-test, c.in-Ok-read.ensures.bound) in
+    let stopped = fed_piece _ _ _ _ _ _ c.loop.counter inv.found _ _ _ _ _ (Err c.in-Err-fed.fault) inv.none some inv.being_read c.in-Ok-read.ensures.given c.in-Ok-read.ensures.stays c.in-Err-fed.ensures.feeds in
     let then = received_from g.V.Receiver.received _ _ _ _ _ inv.next c.in_ok-receive.ensures.received in
-    (_, g.met.V.Receiver.received_on _ _ _ _ _ inv.received then, omega (arith, inv.next, length-append inv.found c.read_piece-step.new.records.items), found_as _ _ _ _ _ _ refl (ap Ended c.from.ensures) stopped)
+    (_, g.met.V.Receiver.received_on _ _ _ _ _ inv.received then, omega (arith, inv.next, length-append inv.found c.feed-fed.new.out.items), found_as _ _ _ _ _ _ refl (ap Ended c.from.ensures) stopped)
 
 pub returns-in_err-receive-clause-refused : goal.returns-in_err-receive-clause-refused
 returns-in_err-receive-clause-refused g c =
     let q = err_from_is_err_and c.from_residual.result c.from_residual.ensures.1 in
     let inv = c.loop.invariant in
-    let leads = c.read_piece-step.ensures.reads _ _ c.loop.counter inv.found (nothing_new _ _ _ _ _ _ _ _ inv.none inv.being_read) in
+    let n = c.in-Ok-read.size in
+    let some : 0 < length (take n c.read.new.buf) = omega (arith, length-take n c.read.new.buf, c.in-Ok-read.size-test, c.in-Ok-read.ensures.bound) in
+    let leads = fed_piece _ _ _ _ _ _ c.loop.counter inv.found _ _ _ _ _ c.feed-fed.result inv.none some inv.being_read c.in-Ok-read.ensures.given c.in-Ok-read.ensures.stays c.feed-fed.ensures.feeds in
     let then = received_from (λ first records x y. g.V.Receiver.refused first records x y c.in_err-receive.field-0.0) _ _ _ _ _ inv.next c.in_err-receive.ensures.refused in
     rw q.1 (subst (λ refusal. (records : List (List ℕ)) × g.V.Receiver.refused 0 records c.args.receiver.now c.receive.new.self refusal
     × IsFoundIn (g.T.Tap.to_come c.args.source) (g.T.Tap.fails c.args.source) records (Ended Memory)) (sym q.2)
@@ -84,16 +89,18 @@ returns-in_err-receive-clause-refused g c =
 pub loop-preserved : goal.loop-preserved
 loop-preserved g c =
     let inv = c.loop.invariant in
+    let n = c.in-Ok-read.size in
+    let some : 0 < length (take n c.read.new.buf) = omega (arith, length-take n c.read.new.buf, c.in-Ok-read.size-test, c.in-Ok-read.ensures.bound) in
     let then = received_from g.V.Receiver.received _ _ _ _ _ inv.next c.in_ok-receive.ensures.received in
     record {
       room = search rules;
       none = c.in_ok-receive.ensures.empties;
-      found = inv.found ++ c.read_piece-step.new.records.items;
-      next = omega (arith, inv.next, length-append inv.found c.read_piece-step.new.records.items);
+      found = inv.found ++ c.feed-fed.new.out.items;
+      next = omega (arith, inv.next, length-append inv.found c.feed-fed.new.out.items);
       received = g.met.V.Receiver.received_on _ _ _ _ _ inv.received then;
       ready = c.in_ok-receive.ensures.ready;
       stays = g.met.V.Receiver.stays_on _ _ _ inv.stays c.in_ok-receive.ensures.stays;
-      being_read = c.in-More.ensures.reads _ _ c.loop.counter inv.found (nothing_new _ _ _ _ _ _ _ _ inv.none inv.being_read);
+      being_read = fed_piece _ _ _ _ _ _ c.loop.counter inv.found _ _ _ _ _ (Ok c.in_default-fed.field-0) inv.none some inv.being_read c.in-Ok-read.ensures.given c.in-Ok-read.ensures.stays c.in_default-fed.ensures.feeds;
     }
 
 pub unreachable-requires : goal.unreachable-requires
