@@ -130,7 +130,8 @@ impl<'s, R: Threads + Wait + Sync, O: Opener, G: Gate, L: LaneKind + 's> Shared<
         }
     }
 
-    /// Starts a lane for each seat, with the givers in order. An error has the lanes that were started before.
+    /// Starts a lane for each seat in a thread of its own, with the givers in order. An error has the lanes that were
+    /// started before.
     fn start_lanes<'e>(
         &'s self,
         scope: &'s Scope<'s, &'e ()>,
@@ -155,42 +156,24 @@ impl<'s, R: Threads + Wait + Sync, O: Opener, G: Gate, L: LaneKind + 's> Shared<
             let Some(seat) = seats.pop() else {
                 unreachable!()
             };
-            match self.start_lane(scope, Lane { seat, giver }) {
+            let promise = LanePromise {
+                choice: self.run.choice,
+                opener: Snapshot::of(self.run.opener),
+                tickets: Snapshot::of(self.tickets),
+                giver: Snapshot::of(&giver),
+            };
+            let lane = Lane { seat, giver };
+            match scope.spawn_with(
+                promise,
+                move || -> LaneReturn<L::Entry, L::End>
+                    requires { StartsLane self.now.tickets.now lane.seat lane.giver
+                        × AcceptsAll L.accepts L.ends (O.meaning self.now.run.now.opener.now) }
+                { self.run_lane(scope, lane) },
+            ) {
                 Ok(started) => running.push_reserved(started),
-                Err(fault) => return Err((running, fault)),
+                Err(_) => return Err((running, LaneFault::Thread)),
             }
         }
         Ok(running)
-    }
-
-    /// Starts a lane in a thread of its own.
-    fn start_lane<'e>(
-        &'s self,
-        scope: &'s Scope<'s, &'e ()>,
-        lane: Lane<L::Entry, L::End>,
-    ) -> Result<Running<L::Entry, L::End, O>, LaneFault>
-        requires ready { StartsLane self.now.tickets.now lane.seat lane.giver }
-        requires accepts { AcceptsAll L.accepts L.ends (O.meaning self.now.run.now.opener.now) }
-        ensures choice { IfOk result (λ r. r.promise.choice ≡ self.now.run.now.choice) }
-        ensures opener { IfOk result (λ r. r.promise.opener.value ≡ self.now.run.now.opener.now) }
-        ensures tickets { IfOk result (λ r. r.promise.tickets.value ≡ self.now.tickets.now) }
-        ensures giver { IfOk result (λ r. r.promise.giver.value ≡ lane.giver) }
-    {
-        let promise = LanePromise {
-            choice: self.run.choice,
-            opener: Snapshot::of(self.run.opener),
-            tickets: Snapshot::of(self.tickets),
-            giver: Snapshot::of(&lane.giver),
-        };
-        match scope.spawn_with(
-            promise,
-            move || -> LaneReturn<L::Entry, L::End>
-                requires { StartsLane self.now.tickets.now lane.seat lane.giver
-                    × AcceptsAll L.accepts L.ends (O.meaning self.now.run.now.opener.now) }
-            { self.run_lane(scope, lane) },
-        ) {
-            Ok(handle) => Ok(handle),
-            Err(_) => Err(LaneFault::Thread),
-        }
     }
 }

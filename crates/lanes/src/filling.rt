@@ -1,6 +1,6 @@
 //! The items that a stage has collected for its next message.
-ghost use Rattle.std.specs.Prelude.{◌≡◌, ◌∷◌, ◌++◌, [], OnOk, IfSome, IfNone};
-ghost use Rattle.lanes.specs.Notes.{About, Item, notes_of, notes_of_items, GoOn};
+ghost use Rattle.std.specs.Prelude.{◌≡◌, ◌∷◌, ◌++◌, [], OnOk};
+ghost use Rattle.lanes.specs.Notes.{Item, notes_of_items, GoOn};
 
 use crate::batch::Batch;
 use crate::message::Message;
@@ -70,7 +70,7 @@ impl<T: Drop> Filling<T> {
         to.tell(rt, Message::Item(item))
     }
 
-    /// Sends the collected items in one message, if there are any.
+    /// Sends the collected items in one message, if there are any; a single item needs no list.
     pub fn give<M: Drop, R: Wait, O: Outlet<T, M>>(
         &mut self,
         rt: &R,
@@ -81,27 +81,15 @@ impl<T: Drop> Filling<T> {
         ensures going { GoOn (O.told to.old) → GoOn (O.told to.new) }
         ensures stays { O.stays to.old to.new }
     {
-        match self.next_message() {
-            Some(message) => to.tell(rt, message),
-            None => Ok(()),
-        }
-    }
-
-    /// The items in one message, or `None` if there are none; a single item needs no list.
-    fn next_message<M: Drop>(&mut self) -> Option<Message<T, M>>
-        ensures told { IfSome result (λ message. (about : T → About) → notes_of about message ≡ notes_of_items about self.old.items.items) }
-        ensures nothing { IfNone result (self.old.items.items ≡ []) }
-        ensures none { self.new.items.items ≡ [] }
-    {
         if self.items.len() <= 1 {
             return match self.items.pop() {
-                Some(item) => Some(Message::Item(item)),
-                None => None,
+                Some(item) => to.tell(rt, Message::Item(item)),
+                None => Ok(()),
             };
         }
         let items = mem::replace(&mut self.items, Vec::new(self.alloc));
         let home = self.home.again();
-        Some(Message::Items(Batch { items, home }))
+        to.tell(rt, Message::Items(Batch { items, home }))
     }
 
     /// Takes a list if there is none at hand and one is free.

@@ -1,21 +1,20 @@
 //! One lane: a pipeline of four stages. The last one runs on the lane's own thread, which starts a thread for each
 //! other one.
-ghost use Rattle.std.specs.Prelude.{◌≡◌, ◌∷◌, ◌++◌, [], List, IfOk, IfSome, Some, vec_len};
-ghost use Rattle.ruled_lanes.specs.LinkEnds.{given, taken, AreEnds};
+ghost use Rattle.std.specs.Prelude.{◌≡◌, ◌∷◌, ◌++◌, [], List, IfOk, IfSome, Some};
+ghost use Rattle.ruled_lanes.specs.LinkEnds.{taken, AreEnds};
 ghost use Rattle.ruled_lanes.specs.FanEnds.{given_at, GivesToSameLane};
 ghost use Rattle.lanes.specs.declared.message.Message.{Message as AnyMessage};
 ghost use Rattle.lanes.specs.declared.message.Message.TheVariants.{Stop};
 ghost use Rattle.lanes.specs.Notes.{notes, GoOn};
 ghost use Rattle.lanes.specs.Stages.{IsHandedOn};
-ghost use Rattle.lanes.specs.Lanes.{TellsSeat, StartsToRead, StartsLane, LeavesLane};
+ghost use Rattle.lanes.specs.Lanes.{TellsSeat, StartsLane, LeavesLane};
 ghost use Rattle.lanes.specs.Accepting.{AcceptsAll};
 
 use crate::lane_kind::LaneKind;
-use crate::read_stage::FirstStage;
 use crate::running::{LaneFault, LaneReturn};
 use crate::settling::settle_links;
 use crate::shared::Shared;
-use crate::stages::{LastStage, MiddleStage, Stages, new_stages};
+use crate::stages::{LastStage, Stages, new_stages};
 use crate::starting::{Started, StartedRead, start_stage};
 use crate::{Gate, Message, Numbered, Opener, StageWork, run_until_stop};
 use ruled_lanes::{LaneGiver, Seat, Taker};
@@ -50,8 +49,8 @@ impl<'s, R: Threads + Wait + Sync, O: Opener, G: Gate, L: LaneKind + 's> Shared<
         LaneReturn { giver, stop, seat }
     }
 
-    /// Makes the stages of a lane, starts the first three and runs the last one; returns the lane's seat. It does not
-    /// give the stop: that is left to the caller.
+    /// Makes the stages of a lane, starts the first three, each in a thread of its own, and runs the last one; returns
+    /// the lane's seat. It does not give the stop: that is left to the caller.
     fn work_through_files<'e>(
         &'s self,
         scope: &'s Scope<'s, &'e ()>,
@@ -76,56 +75,28 @@ impl<'s, R: Threads + Wait + Sync, O: Opener, G: Gate, L: LaneKind + 's> Shared<
             shape,
             draw: LastStage { scratch, taker },
         } = stages;
-        let Some(started) = self.start_stages(scope, read, embed, shape) else {
+        // The first stage comes last: a lane that could not be started has drawn no file.
+        let Some(embed) = start_stage(scope, run.rt, run.alloc, run.gate, lane, embed) else {
             return Err(LaneFault::Thread);
         };
+        let Some(shape) = start_stage(scope, run.rt, run.alloc, run.gate, lane, shape) else {
+            // Without the end of its link the started stage does not wait.
+            drop(read);
+            let _embedded = embed.join(run.rt);
+            return Err(LaneFault::Thread);
+        };
+        let Some(read) = self.start_read(scope, read) else {
+            let _embedded = embed.join(run.rt);
+            let _shaped = shape.join(run.rt);
+            return Err(LaneFault::Thread);
+        };
+        let started = StartedStages::<L, O> { read, embed, shape };
         let work = StageWork { lane, scratch };
         let drew = run_until_stop(run.rt, run.alloc, run.gate, work, taker, giver);
         match started.join(run.rt, drew) {
             Some(seat) => Ok(seat),
             None => Err(LaneFault::LaneLost),
         }
-    }
-
-    /// Starts the first three stages of a lane, each in a thread of its own; `None` if one could not be started.
-    fn start_stages<'e>(
-        &'s self,
-        scope: &'s Scope<'s, &'e ()>,
-        read: FirstStage<L::Framed, L::End>,
-        embed: MiddleStage<L::Framed, L::End>,
-        shape: MiddleStage<L::Embedded, L::End>,
-    ) -> Option<StartedStages<L, O>>
-        requires read { StartsToRead self.now.tickets.now read.seat (vec_len read.buffer) read.giver
-            × AcceptsAll L.accepts L.ends (O.meaning self.now.run.now.opener.now) }
-        requires embed { (taken embed.taker ≡ []) × (given embed.giver ≡ []) }
-        requires shape { (taken shape.taker ≡ []) × (given shape.giver ≡ []) }
-        ensures choice { IfSome result (λ started. started.read.promise.choice ≡ self.now.run.now.choice) }
-        ensures opener { IfSome result (λ started. started.read.promise.opener.value ≡ self.now.run.now.opener.now) }
-        ensures tickets { IfSome result (λ started. started.read.promise.tickets.value ≡ self.now.tickets.now) }
-        ensures giver { IfSome result (λ started. started.read.promise.giver.value ≡ read.giver) }
-        ensures embed_taker { IfSome result (λ started. started.embed.promise.taker.value ≡ embed.taker) }
-        ensures embed_giver { IfSome result (λ started. started.embed.promise.giver.value ≡ embed.giver) }
-        ensures shape_taker { IfSome result (λ started. started.shape.promise.taker.value ≡ shape.taker) }
-        ensures shape_giver { IfSome result (λ started. started.shape.promise.giver.value ≡ shape.giver) }
-    {
-        let run = self.run;
-        let lane = read.lane;
-        // The first stage comes last: a lane that could not be started has drawn no file.
-        let Some(embed) = start_stage(scope, run.rt, run.alloc, run.gate, lane, embed) else {
-            return None;
-        };
-        let Some(shape) = start_stage(scope, run.rt, run.alloc, run.gate, lane, shape) else {
-            // Without the end of its link the started stage does not wait.
-            drop(read);
-            let _embedded = embed.join(run.rt);
-            return None;
-        };
-        let Some(read) = self.start_read(scope, read) else {
-            let _embedded = embed.join(run.rt);
-            let _shaped = shape.join(run.rt);
-            return None;
-        };
-        Some(StartedStages { read, embed, shape })
     }
 }
 

@@ -48,7 +48,6 @@ pub struct Gatherer<T: Drop> {
 
 impl<T: Drop> LaneGiver<T> {
     ghost use Rattle.std.specs.Prelude.{◌∷◌, ◌++◌, [], OnOk, OnErr, IfErr};
-    ghost use Rattle.crossbeam_channel.specs.Err.{try_send_message};
     ghost use Rattle.ruled_lanes.specs.FanEnds.{lane_of, given_at, GivesToSameLane};
     ghost use Rattle.ruled_lanes.specs.HandedBack.{handed_back};
 
@@ -72,17 +71,6 @@ impl<T: Drop> LaneGiver<T> {
         ensures in_range { result < LANES }
     {
         self.lane
-    }
-
-    // Appends an item of its lane if the fan has room for it; otherwise returns it.
-    fn try_give<R: Wait>(&mut self, rt: &R, item: T) -> Result<(), TrySendError<(u32, T)>>
-        ensures lane { GivesToSameLane self.old self.new }
-        ensures ok { OnOk result (given_at self.new ≡ given_at self.old ++ item ∷ []) }
-        ensures refused { OnErr result (given_at self.new ≡ given_at self.old) }
-        ensures item { IfErr result (λ e. (try_send_message e).1 ≡ item) }
-    {
-        self.sender
-            .try_send_as::<Gives, R>(rt, &mut self.pass, (self.lane, item))
     }
 
     // Appends an item of its lane. While the fan is full, its thread sleeps until it is woken.
@@ -117,7 +105,10 @@ impl<T: Drop> LaneGiver<T> {
     {
         let mut held = item;
         for tried in 0..TRIES {
-            match self.try_give(rt, held) {
+            match self
+                .sender
+                .try_send_as::<Gives, R>(rt, &mut self.pass, (self.lane, held))
+            {
                 Ok(()) => return Ok(()),
                 Err(TrySendError::Full((_, back))) => held = back,
                 Err(refused) => return Err(Closed(refused.into_inner().1)),

@@ -34,7 +34,6 @@ pub struct Taker<T: Drop> {
 
 impl<T: Drop> Giver<T> {
     ghost use Rattle.std.specs.Prelude.{◌∷◌, ◌++◌, OnOk, OnErr, IfErr};
-    ghost use Rattle.crossbeam_channel.specs.Err.{try_send_message};
     ghost use Rattle.ruled_lanes.specs.HandedBack.{handed_back};
     ghost use Rattle.ruled_lanes.specs.LinkEnds.{given, GivesToSame};
 
@@ -45,17 +44,6 @@ impl<T: Drop> Giver<T> {
         ensures { (result.sender ≡ sender) × (result.pass ≡ pass) }
     {
         Giver { sender, pass }
-    }
-
-    // Appends an item if the link has room for it; otherwise returns it.
-    fn try_give<R: Wait>(&mut self, rt: &R, item: T) -> Result<(), TrySendError<T>>
-        ensures link { GivesToSame self.old self.new }
-        ensures ok { OnOk result (given self.new ≡ given self.old ++ item ∷ []) }
-        ensures refused { OnErr result (given self.new ≡ given self.old) }
-        ensures item { IfErr result (λ e. try_send_message e ≡ item) }
-    {
-        self.sender
-            .try_send_as::<Gives, R>(rt, &mut self.pass, item)
     }
 
     // Appends an item. While the link is full, its thread sleeps until it is woken.
@@ -87,7 +75,10 @@ impl<T: Drop> Giver<T> {
     {
         let mut held = item;
         for tried in 0..TRIES {
-            match self.try_give(rt, held) {
+            match self
+                .sender
+                .try_send_as::<Gives, R>(rt, &mut self.pass, held)
+            {
                 Ok(()) => return Ok(()),
                 Err(TrySendError::Full(back)) => held = back,
                 Err(refused) => return Err(Closed(refused.into_inner())),
@@ -109,15 +100,6 @@ impl<T: Drop> Taker<T> {
         ensures { (result.receiver ≡ receiver) × (result.pass ≡ pass) }
     {
         Taker { receiver, pass }
-    }
-
-    // The first item in the channel, if there is one.
-    fn try_receive<R: Wait>(&mut self, rt: &R) -> Result<T, TryRecvError>
-        ensures link { TakesFromSame self.old self.new }
-        ensures ok { IfOk result (λ item. taken self.new ≡ taken self.old ++ item ∷ []) }
-        ensures refused { OnErr result (taken self.new ≡ taken self.old) }
-    {
-        self.receiver.try_recv_as::<Takes, R>(rt, &mut self.pass)
     }
 
     // The first item in the channel. While the channel is empty, its thread sleeps until it is woken.
@@ -145,7 +127,7 @@ impl<T: Drop> Taker<T> {
         ensures refused { OnErr result (taken self.new ≡ taken self.old) }
     {
         for tried in 0..TRIES {
-            match self.try_receive(rt) {
+            match self.receiver.try_recv_as::<Takes, R>(rt, &mut self.pass) {
                 Ok(item) => return Ok(item),
                 Err(TryRecvError::Empty) => back_off(rt, tried),
                 Err(TryRecvError::Disconnected) => return Err(Closed(())),
