@@ -10,13 +10,12 @@ ghost use Rattle.reports.specs.Lengths.{IsNear, IsNoLonger, IsQuick, edge_length
 ghost use Rattle.ortho_rep.specs.Points.{AreBelow};
 ghost use Rattle.answers.specs.Drawings.{IsDrawing};
 
-use crate::holder::{Holder, Shell};
+use crate::holder::Shell;
 use crate::length::{are_below, is_no_longer};
 use crate::shaped_plane::ShapedPlane;
 use common::DrawingKind;
 use compact::{BoxesScratch, CompactFault, compact_in, dissect_along};
 use drawing_check::{CheckFault, Drawing, check_in, outside_is_outer};
-use embedding::ReadFault;
 use faces::Plane;
 use lanes::ReturnQueue;
 use ortho_rep::{Points, Shape};
@@ -33,7 +32,7 @@ pub struct DrawScratch {
     compaction: visibility::Scratch,
     check: drawing_check::Scratch,
     // the holder of the shaped plane that was taken last
-    shell: Option<Shell<ShapedPlane>>,
+    pub(crate) shell: Option<Shell<ShapedPlane>>,
     pub(crate) back: ReturnQueue<Shell<ShapedPlane>>,
 }
 
@@ -70,18 +69,6 @@ impl DrawScratch {
         if let Some(shell) = self.shell.take() {
             self.back.send(rt, shell);
         }
-    }
-
-    /// The shaped plane out of its holder, which goes back.
-    pub(crate) fn unpack(
-        &mut self,
-        shaped_plane: Result<Holder<ShapedPlane>, ReadFault>,
-    ) -> Result<ShapedPlane, ReadFault>
-        ensures { result ≡ shaped_plane }
-    {
-        let (shaped_plane, shell) = shaped_plane?.take();
-        self.shell = Some(shell);
-        Ok(shaped_plane)
     }
 }
 

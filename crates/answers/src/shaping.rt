@@ -9,7 +9,7 @@ ghost use Rattle.answers.specs.Kept.{IsKeptPlane};
 ghost use Rattle.answers.specs.Steps.{IsTracedPlane, IsPlaneOf, IsShaped};
 ghost use Rattle.common.specs.declared.choice.Choice.{Choice};
 
-use crate::holder::{Holder, Shell};
+use crate::holder::Shell;
 use crate::kept_plane::KeptPlane;
 use crate::shaped_plane::ShapedPlane;
 use common::{Choice, DrawingKind};
@@ -34,7 +34,7 @@ pub struct ShapeScratch {
     directions: Vec<u8>,
     // a plane that is done with, the holder of the plane that was taken last, and the holder of the next shaped plane
     plane: Option<Plane>,
-    plane_shell: Option<Shell<Plane>>,
+    pub(crate) plane_shell: Option<Shell<Plane>>,
     pub(crate) shell: Option<Shell<ShapedPlane>>,
     pub(crate) return_queues: ReturnQueues,
 }
@@ -93,18 +93,6 @@ impl ShapeScratch {
             }
             self.return_queues.planes.send(rt, shell);
         }
-    }
-
-    /// The plane out of its holder, which is kept to be returned.
-    pub(crate) fn unpack(
-        &mut self,
-        plane: Result<Holder<Plane>, ReadFault>,
-    ) -> Result<Plane, ReadFault>
-        ensures { result ≡ plane }
-    {
-        let (plane, shell) = plane?.take();
-        self.plane_shell = Some(shell);
-        Ok(plane)
     }
 }
 
