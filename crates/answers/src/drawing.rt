@@ -156,6 +156,7 @@ pub(crate) fn drawing_of(
     shaped_plane: &ShapedPlane,
     drawing_kind: DrawingKind,
 ) -> Result<Drawing, AllocError>
+    requires { IsLeast shaped_plane.now.plane shaped_plane.now.shape }
     ensures drawn { IfOk result (IsDrawing shaped_plane.now.plane shaped_plane.now.shape) }
     ensures quick { drawing_kind ≡ DrawingKind.Quick
         → IfOk result (IsQuick shaped_plane.now.plane shaped_plane.now.shape) }
@@ -182,6 +183,7 @@ pub(crate) fn points_of(
     shaped_plane: &ShapedPlane,
     drawing_kind: DrawingKind,
 ) -> Result<Points, AllocError>
+    requires { IsLeast shaped_plane.now.plane shaped_plane.now.shape }
     ensures drawn { IfOk result (IsDrawing shaped_plane.now.plane shaped_plane.now.shape) }
     ensures quick { drawing_kind ≡ DrawingKind.Quick
         → IfOk result (IsQuick shaped_plane.now.plane shaped_plane.now.shape) }

@@ -6,11 +6,10 @@ ghost use Rattle.ortho_rep.specs.Prices.{IsProof};
 ghost use Rattle.compact.specs.Monotone.{AreDirectionsOf};
 ghost use Rattle.conditions.specs.Chosen.{IsKeepFault};
 ghost use Rattle.answers.specs.Kept.{IsKeptPlane};
-ghost use Rattle.answers.specs.Steps.{IsTracedPlane, IsPlaneOf, IsShaped};
+ghost use Rattle.answers.specs.Steps.{IsTracedPlane, IsPlaneOf, IsLeastPlane};
 ghost use Rattle.common.specs.declared.choice.Choice.{Choice};
 
 use crate::holder::Shell;
-use crate::kept_plane::KeptPlane;
 use crate::shaped_plane::ShapedPlane;
 use common::{Choice, DrawingKind};
 use compact::{DirectionSearch, directions_in};
@@ -112,7 +111,7 @@ pub(crate) fn with_least_shape(
     drawing_kind: DrawingKind,
 ) -> Result<ShapedPlane, AllocError>
     ensures shaped { IfOk result (λ shaped_plane. (g : List (List ℕ))
-        → IsTracedPlane g plane → IsPlaneOf choice g shaped_plane.plane) }
+        → IsTracedPlane g plane → IsLeastPlane choice g shaped_plane) }
     ensures kind { IfOk result (λ shaped_plane. shaped_plane.drawing_kind ≡ drawing_kind) }
 {
     let (shape, prices) = shape_of(alloc, &mut scratch.shapes, &mut plane, choice)?;
@@ -148,7 +147,7 @@ pub(crate) fn with_shape_keeping(
     conditions: &Conditions<'_>,
     choice: Choice,
     drawing_kind: DrawingKind,
-) -> Result<KeptPlane, KeepFault>
+) -> Result<ShapedPlane, KeepFault>
     ensures kept { IfOk result (λ made. (g : List (List ℕ))
         → IsTracedPlane g plane → IsKeptPlane conditions.now choice g made) }
     ensures kind { IfOk result (λ made. made.drawing_kind ≡ drawing_kind) }
@@ -160,7 +159,7 @@ pub(crate) fn with_shape_keeping(
     let _graph = plane.graph();
     let spare = mem::replace(&mut scratch.directions, Vec::new(alloc));
     let directions = directions_of(alloc, &mut scratch.search, spare, &plane, &shape)?;
-    Ok(KeptPlane {
+    Ok(ShapedPlane {
         plane,
         shape,
         prices,

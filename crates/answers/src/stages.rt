@@ -5,6 +5,7 @@ ghost use Rattle.reports.specs.Lengths.{IfDrawn, IsNear, IsNoLonger, IsQuick};
 ghost use Rattle.answers.specs.Steps.{IsRefused, IsEmbedded, IsShaped, IsFoundFor, answer_in};
 ghost use Rattle.common.specs.declared.choice.Choice.{Choice};
 ghost use Rattle.embedding.specs.Rules.{FirstBroken, KeepsBefore};
+ghost use Rattle.ortho_rep.specs.Representation.{IsLeast};
 ghost use Rattle.planar_code.specs.Stream.{lists_of};
 ghost use Rattle.reports.specs.Answers.{Answers};
 ghost use Rattle.answers.specs.DrawnAnswers.{IsDrawnIfLaid};
@@ -136,6 +137,7 @@ pub fn find_points(
     shaped_plane: Result<ShapedPlane, ReadFault>,
     drawing_kind: DrawingKind,
 ) -> PointsFound
+    requires { IfOk shaped_plane (λ made. IsLeast made.plane made.shape) }
     ensures answers { (choice : Choice) (g : List (List ℕ)) → IsShaped choice g shaped_plane → Answers choice g (answer_in result) }
     ensures same { IsFoundFor shaped_plane result }
     ensures quick { drawing_kind ≡ DrawingKind.Quick → IfDrawn IsQuick (answer_in result) }

@@ -10,7 +10,7 @@ unreachable-requires c =
     let cause = c.in-Err.field-0 in
     let is : IsCause shaped_plane.plane shaped_plane.shape cause =
     subst (IsDrawn shaped_plane.plane shaped_plane.shape) c.in-Err.is c.in_ok-drawing.ensures.drawn in
-    none_shown shaped_plane.plane shaped_plane.shape is.boxes cause c.graph-graph.ensures.plane shaped_plane.least is.boxed is.shown
+    none_shown shaped_plane.plane shaped_plane.shape is.boxes cause c.graph-graph.ensures.plane c.requires is.boxed is.shown
 
 pub returns-clause-drawn : goal.returns-clause-drawn
 returns-clause-drawn c =
