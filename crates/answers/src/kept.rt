@@ -15,8 +15,8 @@ ghost use Rattle.answers.specs.Steps.{IsEmbedded, IsShaped, IsTracedPlane};
 
 use crate::drawing::{DrawScratch, draw, points_of};
 use crate::shaped_plane::ShapedPlane;
-use crate::shaping::{ShapeScratch, with_shape_keeping};
-use crate::stages::{embed, embed_wide, shape};
+use crate::shaping::{ShapeScratch, shape, with_shape_keeping};
+use crate::stages::{embed, embed_wide};
 use common::{Choice, DrawingKind};
 use compact::CompactFault;
 use conditions::{Conditions, KeepFault};

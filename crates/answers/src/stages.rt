@@ -12,7 +12,7 @@ ghost use Rattle.answers.specs.DrawnAnswers.{IsDrawnIfLaid};
 
 use crate::drawing::{DrawScratch, draw, points_of};
 use crate::shaped_plane::ShapedPlane;
-use crate::shaping::{ShapeScratch, with_least_shape};
+use crate::shaping::{ShapeScratch, shape};
 use crate::state::PointsFound;
 use common::{Choice, DrawingKind};
 use embedding::{Graph, ReadFault, Rule, WideRecord, broken_rule, broken_wide_rule};
@@ -75,20 +75,6 @@ pub(crate) fn embed_wide(
         Err(ReadFault::Rule(broken)) => Err(ReadFault::Rule(broken)),
         Err(ReadFault::Memory) => Err(fault_without_graph(broken_wide_rule(rec))),
     }
-}
-
-/// A record's plane with the chosen outer face and a least shape for this drawing, or why there is none.
-pub(crate) fn shape(
-    alloc: Global,
-    scratch: &mut ShapeScratch,
-    plane: Result<Plane, ReadFault>,
-    choice: Choice,
-    drawing_kind: DrawingKind,
-) -> Result<ShapedPlane, ReadFault>
-    ensures shaped { (g : List (List ℕ)) → IsEmbedded g plane → IsShaped choice g result }
-    ensures kind { IfOk result (λ shaped_plane. shaped_plane.drawing_kind ≡ drawing_kind) }
-{
-    Ok(with_least_shape(alloc, scratch, plane?, choice, drawing_kind)?)
 }
 
 /// What is answered to a record with this shaped plane, which is drawn so, or without one.
