@@ -120,63 +120,9 @@ pub(crate) fn draw(
     }
 }
 
-/// The points of a quick drawing of a least shape, whose darts arrive in these directions: the least ones of its boxes.
+/// Points that draw a shaped plane. Each least shape has a drawing.
 ///
-/// That they draw it is proved, so they are not checked.
-pub(crate) fn least_points(
-    alloc: Global,
-    scratch: &mut DrawScratch,
-    plane: &Plane,
-    shape: &Shape,
-    directions: &[u8],
-) -> Result<Points, AllocError>
-    requires shape { IsShape plane.now shape.now }
-    requires least { IsLeast plane.now shape.now }
-    requires directions { AreDirectionsOf plane.now shape.now directions.now }
-    ensures drawn { IfOk result (IsDrawing plane.now shape.now) }
-    ensures quick { IfOk result (IsQuick plane.now shape.now) }
-{
-    // Only the proof needs this: `graph` says that the plane is one.
-    let _graph = plane.graph();
-    let boxes = dissect_along(alloc, &mut scratch.boxes, plane, shape, directions)?;
-    match compact_in(alloc, &mut scratch.points, &boxes) {
-        Ok(points) => {
-            boxes.give_back(&mut scratch.boxes);
-            Ok(points)
-        }
-        Err(CompactFault::Wide) => unreachable!(),
-        Err(CompactFault::Memory) => Err(AllocError),
-    }
-}
-
-/// A drawing of a shaped plane. Each least shape has one.
-pub(crate) fn drawing_of(
-    alloc: Global,
-    scratch: &mut DrawScratch,
-    shaped_plane: &ShapedPlane,
-    drawing_kind: DrawingKind,
-) -> Result<Drawing, AllocError>
-    requires { IsLeast shaped_plane.now.plane shaped_plane.now.shape }
-    ensures drawn { IfOk result (IsDrawing shaped_plane.now.plane shaped_plane.now.shape) }
-    ensures quick { drawing_kind ≡ DrawingKind.Quick
-        → IfOk result (IsQuick shaped_plane.now.plane shaped_plane.now.shape) }
-{
-    // Only the proof needs this: `graph` says that the plane is one.
-    let _graph = shaped_plane.plane.graph();
-    match draw(
-        alloc,
-        scratch,
-        &shaped_plane.plane,
-        &shaped_plane.shape,
-        &shaped_plane.directions,
-        drawing_kind,
-    )? {
-        Ok(drawing) => Ok(drawing),
-        Err(_) => unreachable!(),
-    }
-}
-
-/// Points that draw a shaped plane. Those of a quick drawing are not checked.
+/// Those of a quick drawing are the least points of its boxes. That they draw the shape is proved, so they are not checked.
 pub(crate) fn points_of(
     alloc: Global,
     scratch: &mut DrawScratch,
@@ -188,18 +134,27 @@ pub(crate) fn points_of(
     ensures quick { drawing_kind ≡ DrawingKind.Quick
         → IfOk result (IsQuick shaped_plane.now.plane shaped_plane.now.shape) }
 {
+    let plane = &shaped_plane.plane;
+    let shape = &shaped_plane.shape;
+    let directions = &shaped_plane.directions;
+    // Only the proof needs this: `graph` says that the plane is one.
+    let _graph = plane.graph();
     match drawing_kind {
-        DrawingKind::Quick => least_points(
-            alloc,
-            scratch,
-            &shaped_plane.plane,
-            &shaped_plane.shape,
-            &shaped_plane.directions,
-        ),
-        DrawingKind::Short => {
-            let drawing = drawing_of(alloc, scratch, shaped_plane, drawing_kind)?;
-            Ok(drawing.into_points())
+        DrawingKind::Quick => {
+            let boxes = dissect_along(alloc, &mut scratch.boxes, plane, shape, directions)?;
+            match compact_in(alloc, &mut scratch.points, &boxes) {
+                Ok(points) => {
+                    boxes.give_back(&mut scratch.boxes);
+                    Ok(points)
+                }
+                Err(CompactFault::Wide) => unreachable!(),
+                Err(CompactFault::Memory) => Err(AllocError),
+            }
         }
+        DrawingKind::Short => match draw(alloc, scratch, plane, shape, directions, drawing_kind)? {
+            Ok(drawing) => Ok(drawing.into_points()),
+            Err(_) => unreachable!(),
+        },
     }
 }
 

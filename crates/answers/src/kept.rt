@@ -144,7 +144,11 @@ impl RecordScratch {
     ///
     /// `Wide` if the shape, which may have more bends than a least one, needs points outside the grid; `Memory` if memory
     /// runs out.
-    pub fn draw_keeping(&mut self, alloc: Global, kept: &ShapedPlane) -> Result<Drawing, CompactFault>
+    pub fn draw_keeping(
+        &mut self,
+        alloc: Global,
+        kept: &ShapedPlane,
+    ) -> Result<Drawing, CompactFault>
         ensures drawn { IfOk result (IsDrawing kept.now.plane kept.now.shape) }
         ensures straight { IfOk result (AreDrawnStraight kept.now.plane kept.now.shape) }
         ensures kept { IfOk result (λ drawing. (conditions : Conditions) (choice : Choice)
