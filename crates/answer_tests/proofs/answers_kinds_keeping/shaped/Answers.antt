@@ -6,5 +6,5 @@ use Rattle.answer_tests.proofs.answers_kinds_keeping.shaped.Goals as goal
 
 pub returns : goal.returns
 returns g c =
-    let lists = lists_of c.record_of.result in
-    (subst (IsShaped First lists) c.expect-2.ensures (c.shape-made.ensures.shaped lists c.embed-plane.ensures)).least
+    let lists = lists_of c.expect-rec.result in
+    (subst (IsShaped First lists) c.expect.ensures (c.shape-made.ensures.shaped lists c.embed-plane.ensures)).least
