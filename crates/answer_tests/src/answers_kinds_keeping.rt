@@ -1,5 +1,7 @@
 //! The kind of drawing that is asked for is made, with conditions and without.
 
+ghost use Rattle.ortho_rep.specs.Representation.{IsLeast};
+
 use answers::{RecordScratch, ShapedPlane};
 use common::{Choice, DrawingKind};
 use conditions::{Conditions, TurnsAlong};
@@ -67,16 +69,20 @@ fn length_keeping(
 }
 
 /// The plane of a record with a shape for a drawing of this kind, without conditions.
-fn shaped(rt: &impl Abort, alloc: Global, bytes: &[u8], kind: DrawingKind) -> ShapedPlane {
+fn shaped(rt: &impl Abort, alloc: Global, bytes: &[u8], kind: DrawingKind) -> ShapedPlane
+    ensures { IsLeast result.plane result.shape }
+{
     let rec = record_of(alloc, bytes).expect(rt, "a record");
     let mut scratch = RecordScratch::empty(alloc);
     let plane = scratch.embed(alloc, &rec);
     let made = scratch.shape(alloc, plane, Choice::First, kind);
-    made.ok().expect(rt, "a plane")
+    made.expect(rt, "a plane")
 }
 
 /// The total length of the edges in a drawing of it.
-fn length_drawn(rt: &impl Abort, alloc: Global, shaped_plane: &ShapedPlane) -> u32 {
+fn length_drawn(rt: &impl Abort, alloc: Global, shaped_plane: &ShapedPlane) -> u32
+    requires { IsLeast shaped_plane.now.plane shaped_plane.now.shape }
+{
     let mut scratch = RecordScratch::empty(alloc);
     let points = scratch.points(alloc, shaped_plane);
     length_of(&shaped_plane.plane, &points.expect(rt, "memory"))

@@ -13,12 +13,12 @@ use Rattle.conditions.specs.declared.conditions.Conditions.{Conditions}
 use Rattle.conditions.specs.declared.fault.KeepFault.{KeepFault}
 use Rattle.conditions.specs.Asked.{AsksAngle, AsksTurns}
 use Rattle.conditions.specs.Chosen.{IsKept, IsKeepFault}
-use Rattle.answers.specs.declared.kept_plane.KeptPlane.{KeptPlane}
+use Rattle.answers.specs.declared.shaped_plane.ShapedPlane.{ShapedPlane}
 use Rattle.answers.specs.Steps.{IsTracedPlane}
 
 -- the plane of the lists with the chosen outer face among those that may be outside, and a shape of it with the
 -- fewest bends of all that keep the angles and turns, as the prices prove
-pub record IsKeptPlane (conditions : Conditions) (choice : Choice) (g : List (List ℕ)) (made : KeptPlane) : Type 0 where
+pub record IsKeptPlane (conditions : Conditions) (choice : Choice) (g : List (List ℕ)) (made : ShapedPlane) : Type 0 where
   pub lists : made.plane.lists ≡ g
   pub rules : IsPlane made.plane
   pub kept : IsKept conditions choice made.plane made.shape made.prices

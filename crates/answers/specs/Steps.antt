@@ -4,6 +4,8 @@ use Rattle.embedding.specs.Rules.{FirstBroken, KeepsBefore}
 use Rattle.common.specs.declared.choice.Choice.{Choice}
 use Rattle.faces.specs.Planes.{PlaneModel, IsPlane, HasGreatestOuter}
 use Rattle.ortho_rep.specs.Best.{IsChosen}
+use Rattle.ortho_rep.specs.Prices.{IsProof}
+use Rattle.ortho_rep.specs.Representation.{IsLeast}
 use Rattle.ortho_rep.specs.Points.{PointsModel}
 use Rattle.reports.specs.declared.answer.Answer.{Answer}
 use Rattle.reports.specs.declared.answer.Answer.TheVariants.{Laid, Refused, NoMemory}
@@ -25,6 +27,14 @@ pub record IsPlaneOf (choice : Choice) (g : List (List ℕ)) (plane : PlaneModel
   pub rules : IsPlane plane
   pub chosen : IsChosen choice plane
 
+-- such a plane with a shape of it that has the fewest bends, as the prices prove
+pub record IsLeastPlane (choice : Choice) (g : List (List ℕ)) (made : ShapedPlane) : Type 0 where
+  pub lists : made.plane.lists ≡ g
+  pub rules : IsPlane made.plane
+  pub chosen : IsChosen choice made.plane
+  pub least : IsLeast made.plane made.shape
+  pub proof : IsProof made.plane made.shape made.prices
+
 -- why such lists have no plane, or no shape: the rule is broken, and none before it; or memory ran out, and no rule is
 -- broken
 abbrev pub IsRefused : List (List ℕ) → ReadFault → Type 0
@@ -38,7 +48,7 @@ IsEmbedded g (Err fault) = IsRefused g fault
 
 -- the plane of the lists with the chosen outer face and a least shape, or why there is none
 abbrev pub IsShaped : Choice → List (List ℕ) → Result ShapedPlane ReadFault → Type 0
-IsShaped choice g (Ok shaped_plane) = IsPlaneOf choice g shaped_plane.plane
+IsShaped choice g (Ok shaped_plane) = IsLeastPlane choice g shaped_plane
 IsShaped choice g (Err fault) = IsRefused g fault
 
 -- the answer to a graph for which this was found

@@ -1,6 +1,7 @@
 //! The last stage of a lane, which draws shapes and makes what the lane gives.
 
 use crate::drawing::DrawScratch;
+use crate::holder::taken;
 use crate::item::Item;
 use crate::purpose::{KeepEntries, Purpose};
 use crate::state::ShapeFound;
@@ -28,7 +29,7 @@ impl<P: Purpose> Staged for Item<P, <P as Purpose>::Carried, ShapeFound> {
 
     fn work(self, alloc: Global, scratch: &mut DrawScratch) -> P::Entry {
         let task = self.task;
-        let shaped_plane = scratch.unpack(self.state);
+        let shaped_plane = taken(self.state, &mut scratch.shell);
         self.purpose
             .finish(alloc, scratch, task, self.rec, shaped_plane)
     }

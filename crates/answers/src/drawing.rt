@@ -10,13 +10,12 @@ ghost use Rattle.reports.specs.Lengths.{IsNear, IsNoLonger, IsQuick, edge_length
 ghost use Rattle.ortho_rep.specs.Points.{AreBelow};
 ghost use Rattle.answers.specs.Drawings.{IsDrawing};
 
-use crate::holder::{Holder, Shell};
+use crate::holder::Shell;
 use crate::length::{are_below, is_no_longer};
 use crate::shaped_plane::ShapedPlane;
 use common::DrawingKind;
 use compact::{BoxesScratch, CompactFault, compact_in, dissect_along};
 use drawing_check::{CheckFault, Drawing, check_in, outside_is_outer};
-use embedding::ReadFault;
 use faces::Plane;
 use lanes::ReturnQueue;
 use ortho_rep::{Points, Shape};
@@ -33,7 +32,7 @@ pub struct DrawScratch {
     compaction: visibility::Scratch,
     check: drawing_check::Scratch,
     // the holder of the shaped plane that was taken last
-    shell: Option<Shell<ShapedPlane>>,
+    pub(crate) shell: Option<Shell<ShapedPlane>>,
     pub(crate) back: ReturnQueue<Shell<ShapedPlane>>,
 }
 
@@ -70,18 +69,6 @@ impl DrawScratch {
         if let Some(shell) = self.shell.take() {
             self.back.send(rt, shell);
         }
-    }
-
-    /// The shaped plane out of its holder, which goes back.
-    pub(crate) fn unpack(
-        &mut self,
-        shaped_plane: Result<Holder<ShapedPlane>, ReadFault>,
-    ) -> Result<ShapedPlane, ReadFault>
-        ensures { result ≡ shaped_plane }
-    {
-        let (shaped_plane, shell) = shaped_plane?.take();
-        self.shell = Some(shell);
-        Ok(shaped_plane)
     }
 }
 
@@ -133,84 +120,41 @@ pub(crate) fn draw(
     }
 }
 
-/// The points of a quick drawing of a least shape, whose darts arrive in these directions: the least ones of its boxes.
+/// Points that draw a shaped plane. Each least shape has a drawing.
 ///
-/// That they draw it is proved, so they are not checked.
-pub(crate) fn least_points(
-    alloc: Global,
-    scratch: &mut DrawScratch,
-    plane: &Plane,
-    shape: &Shape,
-    directions: &[u8],
-) -> Result<Points, AllocError>
-    requires shape { IsShape plane.now shape.now }
-    requires least { IsLeast plane.now shape.now }
-    requires directions { AreDirectionsOf plane.now shape.now directions.now }
-    ensures drawn { IfOk result (IsDrawing plane.now shape.now) }
-    ensures quick { IfOk result (IsQuick plane.now shape.now) }
-{
-    // Only the proof needs this: `graph` says that the plane is one.
-    let _graph = plane.graph();
-    let boxes = dissect_along(alloc, &mut scratch.boxes, plane, shape, directions)?;
-    match compact_in(alloc, &mut scratch.points, &boxes) {
-        Ok(points) => {
-            boxes.give_back(&mut scratch.boxes);
-            Ok(points)
-        }
-        Err(CompactFault::Wide) => unreachable!(),
-        Err(CompactFault::Memory) => Err(AllocError),
-    }
-}
-
-/// A drawing of a shaped plane. Each least shape has one.
-pub(crate) fn drawing_of(
-    alloc: Global,
-    scratch: &mut DrawScratch,
-    shaped_plane: &ShapedPlane,
-    drawing_kind: DrawingKind,
-) -> Result<Drawing, AllocError>
-    ensures drawn { IfOk result (IsDrawing shaped_plane.now.plane shaped_plane.now.shape) }
-    ensures quick { drawing_kind ≡ DrawingKind.Quick
-        → IfOk result (IsQuick shaped_plane.now.plane shaped_plane.now.shape) }
-{
-    // Only the proof needs this: `graph` says that the plane is one.
-    let _graph = shaped_plane.plane.graph();
-    match draw(
-        alloc,
-        scratch,
-        &shaped_plane.plane,
-        &shaped_plane.shape,
-        &shaped_plane.directions,
-        drawing_kind,
-    )? {
-        Ok(drawing) => Ok(drawing),
-        Err(_) => unreachable!(),
-    }
-}
-
-/// Points that draw a shaped plane. Those of a quick drawing are not checked.
+/// Those of a quick drawing are the least points of its boxes. That they draw the shape is proved, so they are not checked.
 pub(crate) fn points_of(
     alloc: Global,
     scratch: &mut DrawScratch,
     shaped_plane: &ShapedPlane,
     drawing_kind: DrawingKind,
 ) -> Result<Points, AllocError>
+    requires { IsLeast shaped_plane.now.plane shaped_plane.now.shape }
     ensures drawn { IfOk result (IsDrawing shaped_plane.now.plane shaped_plane.now.shape) }
     ensures quick { drawing_kind ≡ DrawingKind.Quick
         → IfOk result (IsQuick shaped_plane.now.plane shaped_plane.now.shape) }
 {
+    let plane = &shaped_plane.plane;
+    let shape = &shaped_plane.shape;
+    let directions = &shaped_plane.directions;
+    // Only the proof needs this: `graph` says that the plane is one.
+    let _graph = plane.graph();
     match drawing_kind {
-        DrawingKind::Quick => least_points(
-            alloc,
-            scratch,
-            &shaped_plane.plane,
-            &shaped_plane.shape,
-            &shaped_plane.directions,
-        ),
-        DrawingKind::Short => {
-            let drawing = drawing_of(alloc, scratch, shaped_plane, drawing_kind)?;
-            Ok(drawing.into_points())
+        DrawingKind::Quick => {
+            let boxes = dissect_along(alloc, &mut scratch.boxes, plane, shape, directions)?;
+            match compact_in(alloc, &mut scratch.points, &boxes) {
+                Ok(points) => {
+                    boxes.give_back(&mut scratch.boxes);
+                    Ok(points)
+                }
+                Err(CompactFault::Wide) => unreachable!(),
+                Err(CompactFault::Memory) => Err(AllocError),
+            }
         }
+        DrawingKind::Short => match draw(alloc, scratch, plane, shape, directions, drawing_kind)? {
+            Ok(drawing) => Ok(drawing.into_points()),
+            Err(_) => unreachable!(),
+        },
     }
 }
 

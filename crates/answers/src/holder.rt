@@ -49,15 +49,6 @@ impl<T: Drop> Shell<T> {
         })
     }
 
-    /// The value in this holder.
-    pub(crate) fn fill(self, value: T) -> Holder<T>
-        ensures { result ≡ value }
-    {
-        let Shell { mut slot } = self;
-        *slot = Slot::Full(value);
-        Holder { slot }
-    }
-
     /// Puts a spent value into the holder.
     pub(crate) fn refill(&mut self, spent: T) {
         *self.slot = Slot::Spent(spent);
@@ -68,19 +59,6 @@ impl<T: Drop> Shell<T> {
         match mem::replace(&mut *self.slot, Slot::Empty) {
             Slot::Spent(spent) => Some(spent),
             Slot::Empty | Slot::Full(_) => None,
-        }
-    }
-}
-
-impl<T: Drop> Holder<T> {
-    /// The value, and the holder without it.
-    pub(crate) fn take(self) -> (T, Shell<T>)
-        ensures { result.0 ≡ self }
-    {
-        let Holder { mut slot } = self;
-        match mem::replace(&mut *slot, Slot::Empty) {
-            Slot::Full(value) => (value, Shell { slot }),
-            Slot::Empty | Slot::Spent(_) => unreachable!(),
         }
     }
 }
@@ -98,9 +76,27 @@ pub(crate) fn held<T: Drop>(
     ensures { IsHeld value result }
 {
     let value = value?;
-    let shell = match shell {
+    let Shell { mut slot } = match shell {
         Some(shell) => shell,
         None => Shell::new(alloc)?,
     };
-    Ok(shell.fill(value))
+    *slot = Slot::Full(value);
+    Ok(Holder { slot })
+}
+
+/// The value out of its holder, which becomes this shell; a fault stays as it is.
+pub(crate) fn taken<T: Drop>(
+    value: Result<Holder<T>, ReadFault>,
+    shell: &mut Option<Shell<T>>,
+) -> Result<T, ReadFault>
+    ensures { result ≡ value }
+{
+    let Holder { mut slot } = value?;
+    match mem::replace(&mut *slot, Slot::Empty) {
+        Slot::Full(full) => {
+            *shell = Some(Shell { slot });
+            Ok(full)
+        }
+        Slot::Empty | Slot::Spent(_) => unreachable!(),
+    }
 }

@@ -2,6 +2,7 @@
 
 ghost use Rattle.std.specs.Prelude.{◌≡◌, ℕ, List, IfOk, IfErr};
 ghost use Rattle.planar_code.specs.Stream.{lists_of};
+ghost use Rattle.ortho_rep.specs.Representation.{IsLeast};
 ghost use Rattle.reports.specs.declared.cause.Cause.TheVariants.{Wide};
 ghost use Rattle.reports.specs.Drawn.{IsCause};
 ghost use Rattle.answers.specs.Drawings.{IsDrawing};
@@ -13,10 +14,9 @@ ghost use Rattle.reports.specs.Lengths.{IsQuick};
 ghost use Rattle.answers.specs.Steps.{IsEmbedded, IsShaped, IsTracedPlane};
 
 use crate::drawing::{DrawScratch, draw, points_of};
-use crate::kept_plane::KeptPlane;
 use crate::shaped_plane::ShapedPlane;
-use crate::shaping::{ShapeScratch, with_shape_keeping};
-use crate::stages::{embed, embed_wide, shape};
+use crate::shaping::{ShapeScratch, shape, with_shape_keeping};
+use crate::stages::{embed, embed_wide};
 use common::{Choice, DrawingKind};
 use compact::CompactFault;
 use conditions::{Conditions, KeepFault};
@@ -96,6 +96,7 @@ impl RecordScratch {
         alloc: Global,
         shaped_plane: &ShapedPlane,
     ) -> Result<Points, AllocError>
+        requires { IsLeast shaped_plane.now.plane shaped_plane.now.shape }
         ensures drawn { IfOk result (IsDrawing shaped_plane.now.plane shaped_plane.now.shape) }
         ensures quick { shaped_plane.now.drawing_kind ≡ DrawingKind.Quick
             → IfOk result (IsQuick shaped_plane.now.plane shaped_plane.now.shape) }
@@ -124,7 +125,7 @@ impl RecordScratch {
         conditions: &Conditions<'_>,
         choice: Choice,
         drawing_kind: DrawingKind,
-    ) -> Result<KeptPlane, KeepFault>
+    ) -> Result<ShapedPlane, KeepFault>
         ensures kept { IfOk result (λ made. (g : List (List ℕ))
             → IsTracedPlane g plane → IsKeptPlane conditions.now choice g made) }
         ensures kind { IfOk result (λ made. made.drawing_kind ≡ drawing_kind) }
@@ -143,7 +144,11 @@ impl RecordScratch {
     ///
     /// `Wide` if the shape, which may have more bends than a least one, needs points outside the grid; `Memory` if memory
     /// runs out.
-    pub fn draw_keeping(&mut self, alloc: Global, kept: &KeptPlane) -> Result<Drawing, CompactFault>
+    pub fn draw_keeping(
+        &mut self,
+        alloc: Global,
+        kept: &ShapedPlane,
+    ) -> Result<Drawing, CompactFault>
         ensures drawn { IfOk result (IsDrawing kept.now.plane kept.now.shape) }
         ensures straight { IfOk result (AreDrawnStraight kept.now.plane kept.now.shape) }
         ensures kept { IfOk result (λ drawing. (conditions : Conditions) (choice : Choice)

@@ -1,11 +1,10 @@
 //! The stage of a lane that finds least shapes.
 
 use crate::draw_stage::Shaped;
-use crate::holder::held;
+use crate::holder::{held, taken};
 use crate::item::Item;
 use crate::purpose::{KeepEntries, Purpose};
-use crate::shaping::ShapeScratch;
-use crate::stages::shape;
+use crate::shaping::{ShapeScratch, shape};
 use crate::state::Traced;
 use lanes::{Stage, Staged};
 use std::alloc::Global;
@@ -32,7 +31,7 @@ impl<P: Purpose> Staged for Item<P, <P as Purpose>::Carried, Traced> {
 
     fn work(self, alloc: Global, scratch: &mut ShapeScratch) -> Shaped<P> {
         let task = self.task;
-        let plane = scratch.unpack(self.state);
+        let plane = taken(self.state, &mut scratch.plane_shell);
         let shaped_plane = shape(alloc, scratch, plane, task.choice, task.drawing_kind);
         Item {
             task,

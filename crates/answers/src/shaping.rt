@@ -1,16 +1,14 @@
 //! How a plane gets its least shape and the directions of its darts.
 
-ghost use Rattle.std.specs.Prelude.{◌≡◌, ℕ, List, IfOk, IfErr, OnOk};
-ghost use Rattle.ortho_rep.specs.Representation.{IsShape, IsLeast};
-ghost use Rattle.ortho_rep.specs.Prices.{IsProof};
+ghost use Rattle.std.specs.Prelude.{◌≡◌, ℕ, List, IfOk, IfErr};
+ghost use Rattle.ortho_rep.specs.Representation.{IsShape};
 ghost use Rattle.compact.specs.Monotone.{AreDirectionsOf};
 ghost use Rattle.conditions.specs.Chosen.{IsKeepFault};
 ghost use Rattle.answers.specs.Kept.{IsKeptPlane};
-ghost use Rattle.answers.specs.Steps.{IsTracedPlane, IsPlaneOf, IsShaped};
+ghost use Rattle.answers.specs.Steps.{IsEmbedded, IsShaped, IsTracedPlane};
 ghost use Rattle.common.specs.declared.choice.Choice.{Choice};
 
-use crate::holder::{Holder, Shell};
-use crate::kept_plane::KeptPlane;
+use crate::holder::Shell;
 use crate::shaped_plane::ShapedPlane;
 use common::{Choice, DrawingKind};
 use compact::{DirectionSearch, directions_in};
@@ -18,7 +16,7 @@ use conditions::{Conditions, KeepFault, shape_keeping_in};
 use embedding::ReadFault;
 use faces::Plane;
 use lanes::ReturnQueue;
-use ortho_rep::{Prices, Shape, best_shape, least_shape_in};
+use ortho_rep::{Shape, best_shape, least_shape_in};
 use std::alloc::{AllocError, Global};
 use std::mem;
 use std::sync::Wait;
@@ -34,7 +32,7 @@ pub struct ShapeScratch {
     directions: Vec<u8>,
     // a plane that is done with, the holder of the plane that was taken last, and the holder of the next shaped plane
     plane: Option<Plane>,
-    plane_shell: Option<Shell<Plane>>,
+    pub(crate) plane_shell: Option<Shell<Plane>>,
     pub(crate) shell: Option<Shell<ShapedPlane>>,
     pub(crate) return_queues: ReturnQueues,
 }
@@ -94,50 +92,40 @@ impl ShapeScratch {
             self.return_queues.planes.send(rt, shell);
         }
     }
-
-    /// The plane out of its holder, which is kept to be returned.
-    pub(crate) fn unpack(
-        &mut self,
-        plane: Result<Holder<Plane>, ReadFault>,
-    ) -> Result<Plane, ReadFault>
-        ensures { result ≡ plane }
-    {
-        let (plane, shell) = plane?.take();
-        self.plane_shell = Some(shell);
-        Ok(plane)
-    }
 }
 
-/// The plane with a least shape for this drawing; its outer face is then the chosen one.
+/// The plane with the chosen outer face and a least shape of it for this drawing, or why there is none.
 ///
-/// The directions of the darts are found here, and not where the shape is drawn, since drawing takes
-/// longest of all stages.
+/// The directions of the darts are found here, and not where the shape is drawn, since drawing takes longest of all
+/// stages.
 ///
 /// # Errors
 ///
-/// `AllocError` if there is no memory for it; the plane is then dropped.
-pub(crate) fn with_least_shape(
+/// That of the plane; `Memory` if there is no memory for its shape, and the plane is dropped then.
+pub(crate) fn shape(
     alloc: Global,
     scratch: &mut ShapeScratch,
-    mut plane: Plane,
+    plane: Result<Plane, ReadFault>,
     choice: Choice,
     drawing_kind: DrawingKind,
-) -> Result<ShapedPlane, AllocError>
-    ensures shaped { IfOk result (λ shaped_plane. (g : List (List ℕ))
-        → IsTracedPlane g plane → IsPlaneOf choice g shaped_plane.plane) }
+) -> Result<ShapedPlane, ReadFault>
+    ensures shaped { (g : List (List ℕ)) → IsEmbedded g plane → IsShaped choice g result }
     ensures kind { IfOk result (λ shaped_plane. shaped_plane.drawing_kind ≡ drawing_kind) }
 {
-    let (shape, prices) = shape_of(alloc, &mut scratch.shapes, &mut plane, choice)?;
-    let shape = shape_for(
-        alloc,
-        &mut scratch.straight,
-        &plane,
-        shape,
-        &prices,
-        drawing_kind,
-    )?;
-    let spare = mem::replace(&mut scratch.directions, Vec::new(alloc));
-    let directions = directions_of(alloc, &mut scratch.search, spare, &plane, &shape)?;
+    let mut plane = plane?;
+    let (shape, prices) = match choice {
+        Choice::First => least_shape_in(alloc, &mut scratch.shapes, &plane)?,
+        Choice::Best => best_shape(alloc, &mut plane)?,
+    };
+    // Only the proof needs this: `graph` says that the plane still is one.
+    let _graph = plane.graph();
+    let shape = match drawing_kind {
+        DrawingKind::Quick => shape,
+        DrawingKind::Short => {
+            straighten_in(alloc, &mut scratch.straight, &plane, shape, &prices)?
+        }
+    };
+    let directions = directions_of(alloc, scratch, &plane, &shape)?;
     Ok(ShapedPlane {
         plane,
         shape,
@@ -160,7 +148,7 @@ pub(crate) fn with_shape_keeping(
     conditions: &Conditions<'_>,
     choice: Choice,
     drawing_kind: DrawingKind,
-) -> Result<KeptPlane, KeepFault>
+) -> Result<ShapedPlane, KeepFault>
     ensures kept { IfOk result (λ made. (g : List (List ℕ))
         → IsTracedPlane g plane → IsKeptPlane conditions.now choice g made) }
     ensures kind { IfOk result (λ made. made.drawing_kind ≡ drawing_kind) }
@@ -170,9 +158,8 @@ pub(crate) fn with_shape_keeping(
     let (shape, prices) = shape_keeping_in(alloc, shapes, &mut plane, conditions, choice)?;
     // Only the proof needs this: `graph` says that the plane still is one.
     let _graph = plane.graph();
-    let spare = mem::replace(&mut scratch.directions, Vec::new(alloc));
-    let directions = directions_of(alloc, &mut scratch.search, spare, &plane, &shape)?;
-    Ok(KeptPlane {
+    let directions = directions_of(alloc, scratch, &plane, &shape)?;
+    Ok(ShapedPlane {
         plane,
         shape,
         prices,
@@ -181,65 +168,20 @@ pub(crate) fn with_shape_keeping(
     })
 }
 
-/// A least shape of the plane, whose outer face is then the chosen one, and prices that prove it least.
-fn shape_of(
-    alloc: Global,
-    scratch: &mut ortho_rep::Scratch,
-    plane: &mut Plane,
-    choice: Choice,
-) -> Result<(Shape, Prices), AllocError>
-    ensures chosen { OnOk result ((g : List (List ℕ))
-        → IsTracedPlane g plane.old → IsPlaneOf choice g plane.new) }
-    ensures shape { IfOk result (λ found. IsShape plane.new found.0) }
-    ensures least { IfOk result (λ found. IsLeast plane.new found.0) }
-    ensures proof { IfOk result (λ found. IsProof plane.new found.0 found.1) }
-{
-    let found = match choice {
-        Choice::First => least_shape_in(alloc, scratch, plane)?,
-        Choice::Best => best_shape(alloc, plane)?,
-    };
-    // Only the proof needs this: `graph` says that the plane still is one.
-    let _graph = plane.graph();
-    Ok(found)
-}
-
-/// The shape to draw: for a short drawing one in which few vertices of degree 2 turn, otherwise the shape as it is. The
-/// same prices prove it least.
-fn shape_for(
-    alloc: Global,
-    scratch: &mut straightening::Scratch,
-    plane: &Plane,
-    shape: Shape,
-    prices: &Prices,
-    drawing_kind: DrawingKind,
-) -> Result<Shape, AllocError>
-    requires shape { IsShape plane.now shape }
-    requires least { IsLeast plane.now shape }
-    requires proof { IsProof plane.now shape prices.now }
-    ensures shape { IfOk result (λ made. IsShape plane.now made) }
-    ensures least { IfOk result (λ made. IsLeast plane.now made) }
-    ensures proof { IfOk result (λ made. IsProof plane.now made prices.now) }
-{
-    match drawing_kind {
-        DrawingKind::Quick => Ok(shape),
-        DrawingKind::Short => straighten_in(alloc, scratch, plane, shape, prices),
-    }
-}
-
-/// The directions of the darts of a plane that is drawn by the shape. The next search has this spare list for its own.
+/// The directions of the darts of a plane that is drawn by the shape. The next search has the spare list for its own.
 fn directions_of(
     alloc: Global,
-    scratch: &mut DirectionSearch,
-    spare: Vec<u8>,
+    scratch: &mut ShapeScratch,
     plane: &Plane,
     shape: &Shape,
 ) -> Result<Vec<u8>, AllocError>
     requires { IsShape plane.now shape.now }
     ensures { IfOk result (λ directions. AreDirectionsOf plane.now shape.now directions.items) }
 {
-    let lent = mem::replace(scratch, DirectionSearch::empty(alloc));
+    let spare = mem::replace(&mut scratch.directions, Vec::new(alloc));
+    let lent = mem::replace(&mut scratch.search, DirectionSearch::empty(alloc));
     let mut search = directions_in(plane, shape, lent)?;
     let directions = mem::replace(&mut search.directions, spare);
-    *scratch = search;
+    scratch.search = search;
     Ok(directions)
 }

@@ -5,13 +5,14 @@ ghost use Rattle.reports.specs.Lengths.{IfDrawn, IsNear, IsNoLonger, IsQuick};
 ghost use Rattle.answers.specs.Steps.{IsRefused, IsEmbedded, IsShaped, IsFoundFor, answer_in};
 ghost use Rattle.common.specs.declared.choice.Choice.{Choice};
 ghost use Rattle.embedding.specs.Rules.{FirstBroken, KeepsBefore};
+ghost use Rattle.ortho_rep.specs.Representation.{IsLeast};
 ghost use Rattle.planar_code.specs.Stream.{lists_of};
 ghost use Rattle.reports.specs.Answers.{Answers};
 ghost use Rattle.answers.specs.DrawnAnswers.{IsDrawnIfLaid};
 
 use crate::drawing::{DrawScratch, draw, points_of};
 use crate::shaped_plane::ShapedPlane;
-use crate::shaping::{ShapeScratch, with_least_shape};
+use crate::shaping::{ShapeScratch, shape};
 use crate::state::PointsFound;
 use common::{Choice, DrawingKind};
 use embedding::{Graph, ReadFault, Rule, WideRecord, broken_rule, broken_wide_rule};
@@ -76,20 +77,6 @@ pub(crate) fn embed_wide(
     }
 }
 
-/// A record's plane with the chosen outer face and a least shape for this drawing, or why there is none.
-pub(crate) fn shape(
-    alloc: Global,
-    scratch: &mut ShapeScratch,
-    plane: Result<Plane, ReadFault>,
-    choice: Choice,
-    drawing_kind: DrawingKind,
-) -> Result<ShapedPlane, ReadFault>
-    ensures shaped { (g : List (List ℕ)) → IsEmbedded g plane → IsShaped choice g result }
-    ensures kind { IfOk result (λ shaped_plane. shaped_plane.drawing_kind ≡ drawing_kind) }
-{
-    Ok(with_least_shape(alloc, scratch, plane?, choice, drawing_kind)?)
-}
-
 /// What is answered to a record with this shaped plane, which is drawn so, or without one.
 pub(crate) fn answer_with(
     alloc: Global,
@@ -136,6 +123,7 @@ pub fn find_points(
     shaped_plane: Result<ShapedPlane, ReadFault>,
     drawing_kind: DrawingKind,
 ) -> PointsFound
+    requires { IfOk shaped_plane (λ made. IsLeast made.plane made.shape) }
     ensures answers { (choice : Choice) (g : List (List ℕ)) → IsShaped choice g shaped_plane → Answers choice g (answer_in result) }
     ensures same { IsFoundFor shaped_plane result }
     ensures quick { drawing_kind ≡ DrawingKind.Quick → IfDrawn IsQuick (answer_in result) }

@@ -1,5 +1,6 @@
 //! The lines of a run in each format. Files and places in a file are counted from 0 here, and from 1 in the text.
 ghost use Rattle.std.specs.Prelude.{◌≡◌, ◌+◌, ◌^◌, ◌≤◌, Ok as Drawn, IfOk, OnErr};
+ghost use Rattle.ortho_rep.specs.Prices.{HasPrices};
 ghost use Rattle.reports.specs.declared.answer.Answer.{Answer};
 ghost use Rattle.reports.specs.declared.answer.Answer.TheVariants.{Laid};
 ghost use Rattle.reports.specs.declared.entry.Entry.{Entry};
@@ -46,6 +47,7 @@ pub(crate) fn drawn_line(
     shaped_plane: &ShapedPlane,
     points: &Points,
 ) -> Result<Line, AllocError>
+    requires { HasPrices shaped_plane.now.plane shaped_plane.now.prices }
     ensures { IfOk result (λ line. (entry : Entry) → entry.file ≡ file → entry.ordinal ≡ ordinal
         → entry.answer ≡ Laid shaped_plane.now.plane shaped_plane.now.shape shaped_plane.now.prices (Drawn points.now)
         → line ≡ line_in form entry) }

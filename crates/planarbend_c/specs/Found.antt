@@ -51,7 +51,7 @@ finding plane shape prices kind points = record { plane = plane; shape = shape; 
 
 -- what a layout holds
 abbrev pub finding_of : Layout → Finding
-finding_of layout = finding layout.kept.plane layout.kept.shape layout.kept.prices layout.kept.drawing_kind layout.drawing
+finding_of layout = finding layout.laid.plane layout.laid.shape layout.laid.prices layout.laid.drawing_kind layout.drawing
 
 -- there are points exactly where a drawing is asked for, and the shape is for a drawing of that kind
 pub record IsAsAsked (kind : Option DrawingKind) (found : Finding) : Type 0 where

@@ -22,17 +22,17 @@ pub struct Counts {
 
 /// The counts of a layout, if the number of corners has 32 bits.
 pub(crate) fn counts_of(layout: &Layout) -> Option<Counts>
-    requires { IsDrawnIfAsked layout.now.kept.plane layout.now.kept.shape layout.now.drawing }
+    requires { IsDrawnIfAsked layout.now.laid.plane layout.now.laid.shape layout.now.drawing }
     ensures { IfSome result (AreCounts (finding_of layout.now)) }
 {
     let corners = corners_of(layout)?;
-    let plane = &layout.kept.plane;
+    let plane = &layout.laid.plane;
     let graph = plane.graph();
     Some(Counts {
         vertices: u32::from(graph.vertices()),
         edges: u32::from(graph.edges()),
         faces: u32::from(plane.face_count()),
-        bends: layout.kept.shape.bends(),
+        bends: layout.laid.shape.bends(),
         outer_face: u32::from(plane.outer()),
         corners,
     })
@@ -40,11 +40,11 @@ pub(crate) fn counts_of(layout: &Layout) -> Option<Counts>
 
 /// How many corners the drawing of a layout has, if there is one and the number has 32 bits.
 fn corners_of(layout: &Layout) -> Option<u32>
-    requires { IsDrawnIfAsked layout.now.kept.plane layout.now.kept.shape layout.now.drawing }
+    requires { IsDrawnIfAsked layout.now.laid.plane layout.now.laid.shape layout.now.drawing }
     ensures { IfSome result (λ count. count ≡ corners_drawn layout.now.drawing) }
 {
     match &layout.drawing {
-        Some(points) => corner_count(layout.kept.plane.graph().edges(), points),
+        Some(points) => corner_count(layout.laid.plane.graph().edges(), points),
         None => Some(0),
     }
 }

@@ -85,7 +85,7 @@ fn answer(
 
 /// Writes the counts of a layout, and the lists if each has room.
 fn tell(layout: &Layout, counts: &mut Counts, lists: &mut Lists<'_>) -> Outcome
-    requires { IsDrawnIfAsked layout.now.kept.plane layout.now.kept.shape layout.now.drawing }
+    requires { IsDrawnIfAsked layout.now.laid.plane layout.now.laid.shape layout.now.drawing }
     ensures told { IsTold (finding_of layout.now) counts.new (contents lists.new) result }
     ensures refused { ¬ (result ≡ Outcome.Laid) → contents lists.new ≡ contents lists.old }
     ensures rest { AreSameAfter counts.new (contents lists.old) (contents lists.new) }
@@ -105,18 +105,18 @@ fn tell(layout: &Layout, counts: &mut Counts, lists: &mut Lists<'_>) -> Outcome
 
 /// Writes the lists of a layout with these counts, except those that are left out.
 fn write(layout: &Layout, counts: Counts, lists: &mut Lists<'_>)
-    requires drawn { IsDrawnIfAsked layout.now.kept.plane layout.now.kept.shape layout.now.drawing }
+    requires drawn { IsDrawnIfAsked layout.now.laid.plane layout.now.laid.shape layout.now.drawing }
     requires counted { AreCounts (finding_of layout.now) counts }
     requires room { HaveRoom (is_some layout.now.drawing) counts (contents lists.old) }
     ensures held { HoldFinding (finding_of layout.now) (contents lists.new) }
     ensures rest { AreSameAfter counts (contents lists.old) (contents lists.new) }
     ensures undrawn { is_some layout.now.drawing ≡ false → HaveSamePoints (contents lists.old) (contents lists.new) }
 {
-    let plane = &layout.kept.plane;
-    put_angles(lists.angles, plane, &layout.kept.shape);
-    put_turns(lists.turns, plane, &layout.kept.shape);
-    put_vertex_prices(lists.vertex_prices, plane, &layout.kept.prices);
-    put_face_prices(lists.face_prices, plane, &layout.kept.prices);
+    let plane = &layout.laid.plane;
+    put_angles(lists.angles, plane, &layout.laid.shape);
+    put_turns(lists.turns, plane, &layout.laid.shape);
+    put_vertex_prices(lists.vertex_prices, plane, &layout.laid.prices);
+    put_face_prices(lists.face_prices, plane, &layout.laid.prices);
     if let Some(points) = &layout.drawing {
         let edges = plane.graph().edges();
         put_points(lists.points, points.vertices());

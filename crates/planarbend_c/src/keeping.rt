@@ -66,20 +66,20 @@ fn laid_keeping(
     ensures long { AreAsLong (cut_contents cut.old) (cut_contents cut.new) }
 {
     let mut scratch = RecordScratch::empty(alloc);
-    let kept = match rec.shape_keeping(alloc, &mut scratch, conditions, choice, shape_kind(kind)) {
-        Ok(Ok(kept)) => kept,
+    let laid = match rec.shape_keeping(alloc, &mut scratch, conditions, choice, shape_kind(kind)) {
+        Ok(Ok(laid)) => laid,
         Ok(Err(fault)) => return Err(unkept(fault, cut)),
         Err(ReadFault::Rule(rule)) => return Err(Outcome::Refused(rule)),
         Err(ReadFault::Memory) => return Err(Outcome::Memory),
     };
     if kind.is_none() {
         let drawing = None;
-        return Ok(Layout { kept, drawing });
+        return Ok(Layout { laid, drawing });
     }
-    match scratch.draw_keeping(alloc, &kept) {
+    match scratch.draw_keeping(alloc, &laid) {
         Ok(drawn) => {
             let drawing = Some(drawn.into_points());
-            Ok(Layout { kept, drawing })
+            Ok(Layout { laid, drawing })
         }
         Err(CompactFault::Wide) => Err(Outcome::Wide),
         Err(CompactFault::Memory) => Err(Outcome::Memory),

@@ -1,10 +1,11 @@
 //! What is found of a record.
 
 ghost use Rattle.std.specs.Prelude.{◌≡◌, IfOk, IfErr, is_some};
-ghost use Rattle.answers.specs.Steps.{IsPlaneOf};
+ghost use Rattle.ortho_rep.specs.Representation.{IsLeast};
+ghost use Rattle.answers.specs.Steps.{IsLeastPlane};
 ghost use Rattle.planarbend_c.specs.Requests.{shape_kind};
 ghost use Rattle.planarbend_c.specs.Sources.{IsOneRecord, input_lists, input_of, parsed_lists};
-ghost use Rattle.planarbend_c.specs.Found.{IsAsAsked, IsDrawnIfAsked, IsFound, IsQuickIfAsked, finding, finding_of};
+ghost use Rattle.planarbend_c.specs.Found.{IsAsAsked, IsDrawnIfAsked, IsFound, IsQuickIfAsked, finding_of};
 ghost use Rattle.planarbend_c.specs.Faults.{IsFault, IsFaultOf};
 
 use crate::laid::Layout;
@@ -12,7 +13,7 @@ use crate::outcome::Outcome;
 use crate::parsed::{Parsed, parse};
 use crate::request::shape_kind;
 use crate::source::Source;
-use answers::{KeptPlane, RecordScratch, ShapedPlane};
+use answers::{RecordScratch, ShapedPlane};
 use common::{Choice, DrawingKind};
 use embedding::ReadFault;
 use ortho_rep::Points;
@@ -47,30 +48,9 @@ fn laid_record(
     ensures asked { IfOk result (λ layout. IsAsAsked kind (finding_of layout)) }
     ensures fault { IfErr result (IsFault (parsed_lists rec.now)) }
 {
-    let shaped_plane = shaped(alloc, scratch, rec, choice, kind)?;
-    let drawing = drawn(alloc, scratch, &shaped_plane, kind)?;
-    Ok(laid_shape(shaped_plane, drawing))
-}
-
-/// A shaped plane as a layout, with this drawing or none.
-fn laid_shape(shaped_plane: ShapedPlane, drawing: Option<Points>) -> Layout
-    ensures { finding_of result ≡ finding shaped_plane.plane shaped_plane.shape shaped_plane.prices shaped_plane.drawing_kind drawing }
-{
-    let ShapedPlane {
-        plane,
-        shape,
-        prices,
-        directions,
-        drawing_kind,
-    } = shaped_plane;
-    let kept = KeptPlane {
-        plane,
-        shape,
-        prices,
-        directions,
-        drawing_kind,
-    };
-    Layout { kept, drawing }
+    let laid = shaped(alloc, scratch, rec, choice, kind)?;
+    let drawing = drawn(alloc, scratch, &laid, kind)?;
+    Ok(Layout { laid, drawing })
 }
 
 /// The plane of the record with prices and a least shape for this drawing, or for a quick one.
@@ -81,7 +61,7 @@ fn shaped(
     choice: Choice,
     kind: Option<DrawingKind>,
 ) -> Result<ShapedPlane, Outcome>
-    ensures plane { IfOk result (λ shaped_plane. IsPlaneOf choice (parsed_lists rec.now) shaped_plane.plane) }
+    ensures shaped { IfOk result (IsLeastPlane choice (parsed_lists rec.now)) }
     ensures kind { IfOk result (λ shaped_plane. shaped_plane.drawing_kind ≡ shape_kind kind) }
     ensures fault { IfErr result (IsFault (parsed_lists rec.now)) }
 {
@@ -99,6 +79,7 @@ fn drawn(
     shaped_plane: &ShapedPlane,
     kind: Option<DrawingKind>,
 ) -> Result<Option<Points>, Outcome>
+    requires { IsLeast shaped_plane.now.plane shaped_plane.now.shape }
     ensures drawn { IfOk result (IsDrawnIfAsked shaped_plane.now.plane shaped_plane.now.shape) }
     ensures quick { shaped_plane.now.drawing_kind ≡ DrawingKind.Quick
         → IfOk result (IsQuickIfAsked shaped_plane.now.plane shaped_plane.now.shape) }

@@ -9,7 +9,7 @@ ghost use Rattle.planarbend_c.specs.Faults.{IsUnparsed};
 
 use crate::outcome::Outcome;
 use crate::source::Source;
-use answers::{KeptPlane, RecordScratch, ShapedPlane};
+use answers::{RecordScratch, ShapedPlane};
 use common::{Choice, DrawingKind, MAX_VERTICES};
 use conditions::{Conditions, KeepFault};
 use embedding::{MAX_ENTRIES, ReadFault, WideFault, WideRecord};
@@ -58,7 +58,7 @@ impl Parsed {
         conditions: &Conditions<'_>,
         choice: Choice,
         drawing_kind: DrawingKind,
-    ) -> Result<Result<KeptPlane, KeepFault>, ReadFault>
+    ) -> Result<Result<ShapedPlane, KeepFault>, ReadFault>
         ensures kept { IfOk result (λ made. IfOk made (IsKeptPlane conditions.now choice (parsed_lists self.now))) }
         ensures kind { IfOk result (λ made. IfOk made (λ kept. kept.drawing_kind ≡ drawing_kind)) }
         ensures unkept { IfOk result (λ made. IfErr made (IsUnkept conditions.now choice (parsed_lists self.now))) }

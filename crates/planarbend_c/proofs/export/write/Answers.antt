@@ -16,15 +16,15 @@ put_corner_starts-requires-clause-few c =
 
 pub put_points-requires-clause-grid : goal.put_points-requires-clause-grid
 put_points-requires-clause-grid c =
-    let plane = c.args.layout.now.kept.plane in
-    let shape = c.args.layout.now.kept.shape in
+    let plane = c.args.layout.now.laid.plane in
+    let shape = c.args.layout.now.laid.shape in
     let drawing : IsDrawing plane shape c.in-Some.points = subst (IsDrawnIfAsked plane shape) c.in-Some.is c.requires.drawn in
     subst (λ (ps : List Point). All IsInGrid ps) (sym c.vertices.ensures) drawing.drawn.draws.grid.ends
 
 pub put_corners-requires-clause-grid : goal.put_corners-requires-clause-grid
 put_corners-requires-clause-grid c =
-    let plane = c.args.layout.now.kept.plane in
-    let shape = c.args.layout.now.kept.shape in
+    let plane = c.args.layout.now.laid.plane in
+    let shape = c.args.layout.now.laid.shape in
     let drawing : IsDrawing plane shape c.in-Some.points = subst (IsDrawnIfAsked plane shape) c.in-Some.is c.requires.drawn in
     drawing.drawn.draws.grid.bends
 
@@ -49,8 +49,8 @@ returns-in-Some-clause-rest c =
     let counts = c.args.counts in
     let counted = c.requires.counted in
     let points = c.in-Some.points in
-    let drawing : IsDrawing layout.kept.plane layout.kept.shape points = subst (IsDrawnIfAsked layout.kept.plane layout.kept.shape) c.in-Some.is c.requires.drawn in
-    let darts = layout.kept.shape_is.lengths in
+    let drawing : IsDrawing layout.laid.plane layout.laid.shape points = subst (IsDrawnIfAsked layout.laid.plane layout.laid.shape) c.in-Some.is c.requires.drawn in
+    let darts = layout.laid.shape_is.lengths in
     let edges : c.edges-edges.result ≡ counts.edges = omega (arith, c.edges-edges.ensures.count, ap dart_count c.graph.ensures.value, counted.edges) in
     record {
       angles = same_for _ _ _ _ (omega (arith, darts.angles, counted.edges)) c.put_angles.ensures.rest;

@@ -1,6 +1,6 @@
 use Rattle.std.proofs.Common.{◌≡◌, ◌∙◌, IfOk, IfErr, rules, subst, sym}
 use Rattle.planarbend_c.specs.Sources.{parsed_lists}
-use Rattle.answers.specs.declared.kept_plane.KeptPlane.{KeptPlane}
+use Rattle.answers.specs.declared.shaped_plane.ShapedPlane.{ShapedPlane}
 use Rattle.reports.specs.Lengths.{IsQuick}
 use Rattle.answers.specs.Drawings.{IsDrawing}
 use Rattle.answers.specs.Kept.{AreDrawnStraight, IsKeptPlane, IsUnkept, KeepsAsked}
@@ -12,12 +12,12 @@ returns-in-Ok-Err-clause-fault c = c.unkept.ensures.told c.args.conditions.now c
 
 pub returns-in-Err-Wide-clause-fault : goal.returns-in-Err-Wide-clause-fault
 returns-in-Err-Wide-clause-fault c =
-    let kept = c.in-Ok-Ok.kept in
-    let known : IsKeptPlane c.args.conditions.now c.args.choice (parsed_lists c.args.rec.now) c.in-Ok-Ok.kept = subst (λ made. IfOk made (IsKeptPlane c.args.conditions.now c.args.choice (parsed_lists c.args.rec.now))) c.in-Ok-Ok.field-0-is c.in-Ok-Ok.ensures.kept in
+    let laid = c.in-Ok-Ok.laid in
+    let known : IsKeptPlane c.args.conditions.now c.args.choice (parsed_lists c.args.rec.now) c.in-Ok-Ok.laid = subst (λ made. IfOk made (IsKeptPlane c.args.conditions.now c.args.choice (parsed_lists c.args.rec.now))) c.in-Ok-Ok.field-0-is c.in-Ok-Ok.ensures.kept in
     record {
-      plane = kept.plane;
-      shape = kept.shape;
-      prices = kept.prices;
+      plane = laid.plane;
+      shape = laid.shape;
+      prices = laid.prices;
       lists = known.lists;
       rules = known.rules;
       kept = known.kept;
@@ -26,12 +26,12 @@ returns-in-Err-Wide-clause-fault c =
 
 pub invariant_of-result : goal.invariant_of-result
 invariant_of-result c =
-    let known : IsKeptPlane c.args.conditions.now c.args.choice (parsed_lists c.args.rec.now) c.in-Ok-Ok.kept = subst (λ made. IfOk made (IsKeptPlane c.args.conditions.now c.args.choice (parsed_lists c.args.rec.now))) c.in-Ok-Ok.field-0-is c.in-Ok-Ok.ensures.kept in
+    let known : IsKeptPlane c.args.conditions.now c.args.choice (parsed_lists c.args.rec.now) c.in-Ok-Ok.laid = subst (λ made. IfOk made (IsKeptPlane c.args.conditions.now c.args.choice (parsed_lists c.args.rec.now))) c.in-Ok-Ok.field-0-is c.in-Ok-Ok.ensures.kept in
     record { priced = known.kept.proof.prices }
 
 pub returns-then-is_none-clause-found : goal.returns-then-is_none-clause-found
 returns-then-is_none-clause-found c =
-    let known : IsKeptPlane c.args.conditions.now c.args.choice (parsed_lists c.args.rec.now) c.in-Ok-Ok.kept = subst (λ made. IfOk made (IsKeptPlane c.args.conditions.now c.args.choice (parsed_lists c.args.rec.now))) c.in-Ok-Ok.field-0-is c.in-Ok-Ok.ensures.kept in
+    let known : IsKeptPlane c.args.conditions.now c.args.choice (parsed_lists c.args.rec.now) c.in-Ok-Ok.laid = subst (λ made. IfOk made (IsKeptPlane c.args.conditions.now c.args.choice (parsed_lists c.args.rec.now))) c.in-Ok-Ok.field-0-is c.in-Ok-Ok.ensures.kept in
     record {
       lists = known.lists;
       rules = known.rules;
@@ -44,31 +44,31 @@ returns-then-is_none-clause-found c =
 
 pub returns-then-is_none-clause-asked : goal.returns-then-is_none-clause-asked
 returns-then-is_none-clause-asked c =
-    let kind : c.in-Ok-Ok.kept.drawing_kind ≡ shape_kind c.args.kind =
-    subst (λ made. IfOk made (λ (kept : KeptPlane). kept.drawing_kind ≡ c.shape_kind.result)) c.in-Ok-Ok.field-0-is c.in-Ok-Ok.ensures.kind ∙ c.shape_kind.ensures in
+    let kind : c.in-Ok-Ok.laid.drawing_kind ≡ shape_kind c.args.kind =
+    subst (λ made. IfOk made (λ (laid : ShapedPlane). laid.drawing_kind ≡ c.shape_kind.result)) c.in-Ok-Ok.field-0-is c.in-Ok-Ok.ensures.kind ∙ c.shape_kind.ensures in
     record { points = search rules; shape = kind }
 
 pub invariant_of-result-in-Ok : goal.invariant_of-result-in-Ok
 invariant_of-result-in-Ok c =
-    let known : IsKeptPlane c.args.conditions.now c.args.choice (parsed_lists c.args.rec.now) c.in-Ok-Ok.kept = subst (λ made. IfOk made (IsKeptPlane c.args.conditions.now c.args.choice (parsed_lists c.args.rec.now))) c.in-Ok-Ok.field-0-is c.in-Ok-Ok.ensures.kept in
+    let known : IsKeptPlane c.args.conditions.now c.args.choice (parsed_lists c.args.rec.now) c.in-Ok-Ok.laid = subst (λ made. IfOk made (IsKeptPlane c.args.conditions.now c.args.choice (parsed_lists c.args.rec.now))) c.in-Ok-Ok.field-0-is c.in-Ok-Ok.ensures.kept in
     record { priced = known.kept.proof.prices }
 
 pub returns-in-Ok-clause-found : goal.returns-in-Ok-clause-found
 returns-in-Ok-clause-found c =
-    let known : IsKeptPlane c.args.conditions.now c.args.choice (parsed_lists c.args.rec.now) c.in-Ok-Ok.kept = subst (λ made. IfOk made (IsKeptPlane c.args.conditions.now c.args.choice (parsed_lists c.args.rec.now))) c.in-Ok-Ok.field-0-is c.in-Ok-Ok.ensures.kept in
-    let kept = c.in-Ok-Ok.kept in
+    let known : IsKeptPlane c.args.conditions.now c.args.choice (parsed_lists c.args.rec.now) c.in-Ok-Ok.laid = subst (λ made. IfOk made (IsKeptPlane c.args.conditions.now c.args.choice (parsed_lists c.args.rec.now))) c.in-Ok-Ok.field-0-is c.in-Ok-Ok.ensures.kept in
+    let laid = c.in-Ok-Ok.laid in
     record {
       lists = known.lists;
       rules = known.rules;
       kept = known.kept;
-      drawn = subst (IsDrawing kept.plane kept.shape) (sym c.into_points.ensures) c.in-Ok.ensures.drawn;
-      quick = λ is. subst (IsQuick kept.plane kept.shape) (sym c.into_points.ensures) (c.in-Ok.ensures.quick is);
-      straight = subst (AreDrawnStraight kept.plane kept.shape) (sym c.into_points.ensures) c.in-Ok.ensures.straight;
-      keeps = subst (KeepsAsked c.args.conditions.now kept.plane) (sym c.into_points.ensures) (c.in-Ok.ensures.kept c.args.conditions.now c.args.choice known.kept);
+      drawn = subst (IsDrawing laid.plane laid.shape) (sym c.into_points.ensures) c.in-Ok.ensures.drawn;
+      quick = λ is. subst (IsQuick laid.plane laid.shape) (sym c.into_points.ensures) (c.in-Ok.ensures.quick is);
+      straight = subst (AreDrawnStraight laid.plane laid.shape) (sym c.into_points.ensures) c.in-Ok.ensures.straight;
+      keeps = subst (KeepsAsked c.args.conditions.now laid.plane) (sym c.into_points.ensures) (c.in-Ok.ensures.kept c.args.conditions.now c.args.choice known.kept);
     }
 
 pub returns-in-Ok-clause-asked : goal.returns-in-Ok-clause-asked
 returns-in-Ok-clause-asked c =
-    let kind : c.in-Ok-Ok.kept.drawing_kind ≡ shape_kind c.args.kind =
-    subst (λ made. IfOk made (λ (kept : KeptPlane). kept.drawing_kind ≡ c.shape_kind.result)) c.in-Ok-Ok.field-0-is c.in-Ok-Ok.ensures.kind ∙ c.shape_kind.ensures in
+    let kind : c.in-Ok-Ok.laid.drawing_kind ≡ shape_kind c.args.kind =
+    subst (λ made. IfOk made (λ (laid : ShapedPlane). laid.drawing_kind ≡ c.shape_kind.result)) c.in-Ok-Ok.field-0-is c.in-Ok-Ok.ensures.kind ∙ c.shape_kind.ensures in
     record { points = search rules; shape = kind }

@@ -1,11 +1,23 @@
-use Rattle.std.proofs.Common.{ap, refl, sym, subst}
+use Rattle.std.proofs.Common.{ℕ, List, Result, Ok, Err, IfOk, ap, refl, sym, subst}
 use Rattle.std.proofs.Math.Logic.{∥∥₁_map, ∥∥₁_elim}
 use Rattle.std.proofs.Props.{props}
 use Rattle.planar_code.specs.Stream.{lists_of}
-use Rattle.answers.specs.Steps.{answer_in}
+use Rattle.common.specs.declared.choice.Choice.{Choice}
+use Rattle.ortho_rep.specs.Representation.{IsLeast}
+use Rattle.embedding.specs.declared.faults.ReadFault.{ReadFault}
+use Rattle.answers.specs.declared.shaped_plane.ShapedPlane.{ShapedPlane}
+use Rattle.answers.specs.Steps.{IsShaped, answer_in}
 use Rattle.reports.specs.Answers.{Answers}
 use Rattle.collector.specs.Answered.{entry_of}
 use Rattle.collector.proofs.print_lines.PrintLinesPurpose.finish.Goals as goal
+
+least_of : (choice : Choice) (g : List (List ℕ)) (shaped : Result ShapedPlane ReadFault) → ∥ IsShaped choice g shaped ∥₁
+    → IfOk shaped (λ (made : ShapedPlane). IsLeast made.plane made.shape)
+least_of choice g (Ok made) shaped = ∥∥₁_elim shaped (hlevel props) (λ known. known.least)
+least_of choice g (Err fault) shaped = tt
+
+pub find_points-found-requires : goal.find_points-found-requires
+find_points-found-requires g c = least_of c.args.task.choice (lists_of c.args.rec.value) c.args.shaped_plane c.requires.shaped
 
 pub found_line-line-requires : goal.found_line-line-requires
 found_line-line-requires g c =
