@@ -57,16 +57,6 @@ impl From<AllocError> for Fault {
     }
 }
 
-impl From<BatchFault> for Fault {
-    ghost use Rattle.command_line.specs.declared.faults.Fault.{Fault};
-
-    ghost from_gives = { λ fault e. e ≡ Fault.Run fault };
-
-    fn from(fault: BatchFault) -> Fault {
-        Fault::Run(fault)
-    }
-}
-
 impl From<RunFault<SinkFault>> for Fault {
     ghost use Rattle.command_line.specs.Faults.{fault_of};
 

@@ -1,9 +1,9 @@
 //! The meaning of the arguments of a command line, one after another.
-ghost use Rattle.std.specs.Prelude.{◌≡◌, ◌<◌, ◌↔◌, IfOk, codes, map, option_map, true};
+ghost use Rattle.std.specs.Prelude.{◌≡◌, ◌<◌, ◌↔◌, IfOk, map, option_map, true};
 ghost use Rattle.std.specs.List.{count_by};
 ghost use Rattle.named_sources.specs.Naming as naming;
-ghost use Rattle.command_line.specs.Requests.{group_of, role_after, setting_of, asks, asks_in, files_in, given_after, has_prefix, is_file, is_help, prefix_of, setting_text, setting_text_in};
-ghost use Rattle.command_line.specs.Requests.{AreValid, fit_from, fits, is_condition, is_drawing, is_of, is_of_with, is_option, is_option_of, is_outer, is_run_option, is_use, may_end, uses_in};
+ghost use Rattle.command_line.specs.Requests.{role_after, setting_of, asks, asks_in, files_in, given_after, has_prefix, is_file, is_help, prefix_of, setting_text, setting_text_in};
+ghost use Rattle.command_line.specs.Requests.{AreValid, fit_from, fits, is_condition, is_drawing, is_of, is_option, is_option_of, is_outer, is_run_option, is_use, may_end, uses_in};
 ghost use Rattle.command_line.specs.declared.reading.Role.{Role};
 
 use named_sources::is_input;
@@ -70,7 +70,10 @@ impl Role {
         ensures { result ≡ role_after self word.now }
     {
         match self {
-            Role::Command => Role::Any(group_of(word)),
+            Role::Command => Role::Any(match word {
+                "pick" | "count" => Group::Selecting,
+                _ => Group::Other,
+            }),
             Role::Any(_) if word == "--" => Role::File,
             Role::Any(group) => match setting_of(group, word) {
                 Some(setting) => Role::Value(group, setting),
@@ -161,16 +164,6 @@ impl Role {
     }
 }
 
-/// The group of the command with this name.
-fn group_of(word: &str) -> Group
-    ensures { result ≡ group_of word.now }
-{
-    match word {
-        "pick" | "count" => Group::Selecting,
-        _ => Group::Other,
-    }
-}
-
 /// The option of this group of commands whose value is the argument after this one, if this is its name.
 fn setting_of(group: Group, word: &str) -> Option<Setting>
     ensures { result ≡ setting_of group word.now }
@@ -240,7 +233,8 @@ fn is_option_of(command: Keyword, word: &str) -> bool
         Keyword::Layout => is_run_option(word)
             || word == "--json"
             || is_of("--waiting", word)
-            || is_drawing_option(word),
+            || word == "--drawing"
+            || given_after("--drawing=", word).is_some_and(is_drawing),
         Keyword::Check => word == "--json" || word == "--faces",
         Keyword::Pick => is_run_option(word) || is_of("--waiting", word) || is_condition(word),
         Keyword::Count => is_run_option(word) || is_of("--by", word) || is_condition(word),
@@ -252,7 +246,10 @@ fn is_option_of(command: Keyword, word: &str) -> bool
 fn is_run_option(word: &str) -> bool
     ensures { result ≡ is_run_option word.now }
 {
-    word == "--progress" || is_of("--lanes", word) || is_outer_option(word)
+    word == "--progress"
+        || is_of("--lanes", word)
+        || word == "--outer"
+        || given_after("--outer=", word).is_some_and(is_outer)
 }
 
 /// Whether an argument is an option that sets a condition, or asks for the other graphs.
@@ -267,20 +264,6 @@ fn is_condition(word: &str) -> bool
         _ if is_of("--bends", word) => true,
         _ => is_of("--rule", word),
     }
-}
-
-/// Whether an argument is the option `--outer`, alone or with `=` and a choice.
-fn is_outer_option(word: &str) -> bool
-    ensures { result ≡ is_of_with (codes "--outer") is_outer word.now }
-{
-    word == "--outer" || given_after("--outer=", word).is_some_and(is_outer)
-}
-
-/// Whether an argument is the option `--drawing`, alone or with `=` and a kind of drawing.
-fn is_drawing_option(word: &str) -> bool
-    ensures { result ≡ is_of_with (codes "--drawing") is_drawing word.now }
-{
-    word == "--drawing" || given_after("--drawing=", word).is_some_and(is_drawing)
 }
 
 /// Whether an argument is a choice of the outer face.

@@ -1,10 +1,9 @@
 //! The graphs that a command line selects, and the columns of their table.
 ghost use Rattle.std.specs.Prelude.{◌≡◌, Option, IfNone, IfSome, option_map};
 ghost use Rattle.graph_facts.specs.declared.range.Range.{Range};
-ghost use Rattle.graph_facts.specs.declared.selecting.RuleCondition.{RuleCondition};
 ghost use Rattle.graph_facts.specs.declared.selecting.Selection.{Selection};
 ghost use Rattle.command_line.specs.Requests as requests;
-ghost use Rattle.command_line.specs.Requests.{IsRangeOf, IsRuleOf, IsSelectedBy};
+ghost use Rattle.command_line.specs.Requests.{IsRangeOf, IsSelectedBy};
 
 use crate::reading::{Keyword, Setting, asks, setting_text};
 use graph_facts::{Columns, Conditions, Range, RuleCondition, Selection};
@@ -21,7 +20,10 @@ pub(crate) fn selection_of(words: &[String]) -> Option<Selection>
             edges: range_of(setting_text(Setting::Edges, words))?,
             faces: range_of(setting_text(Setting::Faces, words))?,
             bends: range_of(setting_text(Setting::Bends, words))?,
-            rule: rule_of(setting_text(Setting::Rule, words))?,
+            rule: match setting_text(Setting::Rule, words) {
+                Some(text) => Some(RuleCondition::parse(text)?),
+                None => None,
+            },
         },
         others: asks(Keyword::Others, words),
     })
@@ -38,17 +40,6 @@ fn range_of(text: Option<&str>) -> Option<Option<Range>>
             Ok(range) => Some(Some(range)),
             Err(_) => None,
         },
-    }
-}
-
-/// The condition on the first broken rule that a text names, if there is a text; `None` if the text names none.
-fn rule_of(text: Option<&str>) -> Option<Option<RuleCondition>>
-    ensures some { IfSome result (IsRuleOf (option_map (λ t. t.now) text.entry)) }
-    ensures none { IfNone result ((rule : Option RuleCondition) → ¬ IsRuleOf (option_map (λ t. t.now) text.entry) rule) }
-{
-    match text {
-        None => Some(None),
-        Some(text) => Some(Some(RuleCondition::parse(text)?)),
     }
 }
 

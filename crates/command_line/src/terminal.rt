@@ -113,21 +113,17 @@ impl<W: io::Write, R: Clock + Wait, E: io::Write + IsTerminal + Copy> io::Write
         }
         let outcome = self.writer.write(buf);
         if let Ok(count) = &outcome {
-            *last = last_line_after(&buf[..*count]);
+            let text = &buf[..*count];
+            *last = if text.is_empty() || text.ends_with(b"\n") {
+                LastLine::Empty
+            } else {
+                LastLine::Text
+            };
         }
         outcome
     }
 
     fn flush(&mut self) -> io::Result<()> {
         self.writer.flush()
-    }
-}
-
-/// The content of the last line after this text.
-fn last_line_after(text: &[u8]) -> LastLine {
-    if text.is_empty() || text.ends_with(b"\n") {
-        LastLine::Empty
-    } else {
-        LastLine::Text
     }
 }

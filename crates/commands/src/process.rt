@@ -59,7 +59,10 @@ fn arguments<R: Env + AllocGlobal>(rt: &R) -> Result<Vec<String>, Fault> {
     for argument in 1..u32::MAX {
         match rt.arg(argument as usize, buffer.as_mut_slice()) {
             Ok(len) => {
-                let word = word_of(rt.alloc(), argument, &buffer[..len])?;
+                let Ok(word) = str::from_utf8(&buffer[..len]) else {
+                    return Err(Fault::NotText(argument));
+                };
+                let word = String::from_str(rt.alloc(), word)?;
                 if words.push(word).is_err() {
                     return Err(Fault::Memory);
                 }
@@ -69,12 +72,4 @@ fn arguments<R: Env + AllocGlobal>(rt: &R) -> Result<Vec<String>, Fault> {
         }
     }
     Ok(words)
-}
-
-/// The text of an argument.
-fn word_of(alloc: Global, argument: u32, bytes: &[u8]) -> Result<String, Fault> {
-    let Ok(text) = str::from_utf8(bytes) else {
-        return Err(Fault::NotText(argument));
-    };
-    String::from_str(alloc, text).map_err(|_| Fault::Memory)
 }

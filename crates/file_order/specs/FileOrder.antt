@@ -1,6 +1,9 @@
 -- A reorder buffer for the texts of files.
-use Rattle.std.specs.Prelude.{◌≡◌, ℕ, ◌==◌, List, [], All, Some, length, if◌then◌else◌}
+use Rattle.std.specs.Prelude.{◌≡◌, ◌≢◌, ℕ, ◌+◌, ◌^◌, ◌==◌, List, [], All, Some, length, if◌then◌else◌, ⊤}
+use Rattle.streams.specs.declared.output.SinkFault.{SinkFault}
 use Rattle.streams.specs.declared.reading.SourceEnd.{SourceEnd}
+use Rattle.lanes.specs.declared.fault.RunFault.{RunFault}
+use Rattle.lanes.specs.declared.fault.RunFault.TheVariants.{Memory, LaneLost, Thread, Refused}
 use Rattle.file_order.specs.declared.waiting.Waiting.{Waiting}
 use Rattle.file_order.specs.Waits.{IsNothing}
 
@@ -30,6 +33,14 @@ for_later current file text = if file == current then [] else text
 pub record StaysAt (before after : OrderModel) : Type 0 where
   pub current : after.current ≡ before.current
   pub count : length after.waiting ≡ length before.waiting
+
+-- Why an entry of this file was not added: the sink refused its text; there was no memory to buffer it, and the file is
+-- not the current one; or the file has as many entries as can be counted, one less than 2^32.
+abbrev pub IsAddFault : ℕ → ℕ → Waiting → RunFault SinkFault → Type 0
+IsAddFault current file waiting (Refused fault) = ⊤
+IsAddFault current file waiting Memory = file ≢ current
+IsAddFault current file waiting LaneLost = waiting.count + 1 ≡ 2 ^ 32
+IsAddFault current file waiting Thread = ⊥
 
 -- the file has this end
 pub record HasEnd (end : SourceEnd) (waiting : Waiting) : Type 0 where

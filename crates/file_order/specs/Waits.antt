@@ -35,8 +35,9 @@ pub record IsNext (ordinal : ℕ) (waiting : Waiting) : Type 0 where
   pub count : waiting.count ≡ ordinal
   pub few : ordinal < MAX_RECORDS
 
--- nothing is said of the lines
+-- the buffered lines are taken: nothing is left of them
 pub record IsTaken (before after : Waiting) : Type 0 where
+  pub lines : after.lines ≡ []
   pub count : after.count ≡ before.count
   pub mark : after.mark ≡ before.mark
 

@@ -1,5 +1,5 @@
 -- Texts that go on to a sink, and how that fails.
-use Rattle.std.specs.Prelude.{◌≡◌, ℕ, Bool, true, false, List, ◌++◌, Option, Result, OnOk, IfErr}
+use Rattle.std.specs.Prelude.{◌≡◌, ℕ, Bool, true, false, List, ◌++◌, Option, Result, OnOk, IfErr, ⊤}
 use Rattle.streams.specs.declared.output.SinkFault.{SinkFault}
 use Rattle.streams.specs.Sink.{AppendsPrefix, IsInTransit}
 use Rattle.lanes.specs.declared.fault.RunFault.{RunFault}
@@ -24,6 +24,13 @@ HasFailedBy failed Thread = failed ≡ false
 pub record TellsFailure {A : Type 0} (failed : Bool) (result : Result A (RunFault SinkFault)) : Type 0 where
   pub stands : OnOk result (failed ≡ false)
   pub gave_up : IfErr result (GivesUp failed)
+
+-- the sink refused a text: there is no other fault
+abbrev pub IsRefused : RunFault SinkFault → Type 0
+IsRefused (Refused fault) = ⊤
+IsRefused Memory = ⊥
+IsRefused LaneLost = ⊥
+IsRefused Thread = ⊥
 
 -- whatever text was in transit, it is now in transit followed by `more`
 abbrev pub GoesOn : Option (List ℕ) → List ℕ → Option (List ℕ) → List ℕ → List ℕ → Type 0

@@ -1,7 +1,7 @@
 //! Text that grows without being moved, in chunks.
-ghost use Rattle.std.specs.Prelude.{◌≡◌, ◌++◌, [], false, OnOk, OnErr};
+ghost use Rattle.std.specs.Prelude.{◌≡◌, ◌++◌, [], false, IfErr, OnOk, OnErr};
 ghost use Rattle.file_order.specs.Concatenated.{concatenated};
-ghost use Rattle.file_order.specs.Writing.{GoesOn, IsPartlyAdded, TellsFailure};
+ghost use Rattle.file_order.specs.Writing.{GoesOn, IsPartlyAdded, IsRefused, TellsFailure};
 
 use crate::writing::put;
 use lanes::RunFault;
@@ -88,6 +88,7 @@ impl Chunks {
         ensures put { OnOk result (GoesOn (S.taken sink.old) buffer.old (S.taken sink.new) buffer.new self.now) }
         ensures partial { OnErr result (IsPartlyAdded (S.taken sink.old) buffer.old (S.taken sink.new) self.now) }
         ensures stands { TellsFailure (S.failed sink.new) result }
+        ensures refused { IfErr result IsRefused }
     {
         put_each(self.full.as_slice(), buffer, sink)?;
         put(buffer, sink, self.last.as_slice())
@@ -104,6 +105,7 @@ fn put_each<S: Sink>(
     ensures put { OnOk result (GoesOn (S.taken sink.old) buffer.old (S.taken sink.new) buffer.new (concatenated chunks.now)) }
     ensures partial { OnErr result (IsPartlyAdded (S.taken sink.old) buffer.old (S.taken sink.new) (concatenated chunks.now)) }
     ensures stands { TellsFailure (S.failed sink.new) result }
+    ensures refused { IfErr result IsRefused }
 {
     for chunk in chunks {
         put(buffer, sink, chunk.as_slice())?;

@@ -5,9 +5,9 @@ ghost use Rattle.streams.specs.declared.text_buffer.TheConstants.{ROOM};
 ghost use Rattle.streams.specs.Sink.{AppendsPrefix};
 ghost use Rattle.lanes.specs.Opening.{IsEndAt};
 ghost use Rattle.file_order.specs.declared.waiting.Waiting.{Waiting};
-ghost use Rattle.file_order.specs.FileOrder.{HasEnd, IsBegun, StaysAt, at_once, for_later};
+ghost use Rattle.file_order.specs.FileOrder.{HasEnd, IsAddFault, IsBegun, StaysAt, at_once, for_later};
 ghost use Rattle.file_order.specs.Waits.{ChangesAt, GetsMark, IsNext, IsTaken, IsUnmarked, TakesIn};
-ghost use Rattle.file_order.specs.Writing.{GoesOn, IsPartlyAdded, TellsFailure};
+ghost use Rattle.file_order.specs.Writing.{GoesOn, IsPartlyAdded, IsRefused, TellsFailure};
 
 use crate::chunks::Chunks;
 use crate::known_files::{KnownEnd, KnownFiles};
@@ -108,8 +108,8 @@ impl FileOrder {
     ///
     /// # Errors
     ///
-    /// `Refused` exactly if the sink has then failed; `Memory` if there is no memory for a text that is to be buffered;
-    /// `LaneLost` if there are too many entries to count.
+    /// `Refused` exactly if the sink has then failed; `Memory` only if the file is not current, and there is no memory to
+    /// buffer its text; `LaneLost` only if 2^32 - 1 entries of the file are counted already.
     pub fn add<S: Sink>(
         &mut self,
         alloc: Global,
@@ -123,6 +123,7 @@ impl FileOrder {
         ensures kept { OnOk result (ChangesAt file (TakesIn (for_later self.old.current file text.now)) self.old.waiting self.new.waiting) }
         ensures partial { OnErr result (IsPartlyAdded (S.taken sink.old) self.old.buffer (S.taken sink.new) (at_once self.old.current file text.now)) }
         ensures stands { TellsFailure (S.failed sink.new) result }
+        ensures cause { IfErr result (λ fault. (other : Waiting) → IsAddFault self.old.current file (slice_index_or self.old.waiting file other) fault) }
         ensures same { StaysAt self.old self.new }
     {
         let here = &mut self.waiting[file as usize];
@@ -218,6 +219,7 @@ impl FileOrder {
         ensures partial { OnErr result ((other : Waiting) → IsPartlyAdded (S.taken sink.old) self.old.buffer (S.taken sink.new)
             (slice_index_or self.old.waiting self.old.current other).lines) }
         ensures stands { TellsFailure (S.failed sink.new) result }
+        ensures refused { IfErr result IsRefused }
         ensures taken { ChangesAt self.old.current IsTaken self.old.waiting self.new.waiting }
         ensures current { self.new.current ≡ self.old.current }
     {
@@ -237,6 +239,7 @@ impl FileOrder {
         ensures goes_on { OnOk result (GoesOn (S.taken sink.old) self.old.buffer (S.taken sink.new) self.new.buffer text.now) }
         ensures partial { OnErr result (IsPartlyAdded (S.taken sink.old) self.old.buffer (S.taken sink.new) text.now) }
         ensures stands { TellsFailure (S.failed sink.new) result }
+        ensures refused { IfErr result IsRefused }
         ensures same { self.new ≡ record self.old { buffer = self.new.buffer } }
     {
         put(&mut self.buffer, sink, text)
@@ -261,6 +264,7 @@ impl FileOrder {
         ensures flushed { OnOk result (self.new ≡ record self.old { buffer = [] }) }
         ensures failed { OnErr result (S.failed sink.new ≡ true) }
         ensures stands { TellsFailure (S.failed sink.new) result }
+        ensures refused { IfErr result IsRefused }
         ensures same { StaysAt self.old self.new }
     {
         match self.buffer.flush(sink) {

@@ -1,6 +1,6 @@
 //! Writing text to a sink through a buffer.
-ghost use Rattle.std.specs.Prelude.{◌≡◌, false, OnOk, OnErr};
-ghost use Rattle.file_order.specs.Writing.{GoesOn, IsPartlyAdded, TellsFailure};
+ghost use Rattle.std.specs.Prelude.{◌≡◌, false, IfErr, OnOk, OnErr};
+ghost use Rattle.file_order.specs.Writing.{GoesOn, IsPartlyAdded, IsRefused, TellsFailure};
 
 use lanes::RunFault;
 use reports::push_line;
@@ -20,6 +20,7 @@ pub(crate) fn put<S: Sink>(
     ensures put { OnOk result (GoesOn (S.taken sink.old) buffer.old (S.taken sink.new) buffer.new text.now) }
     ensures partial { OnErr result (IsPartlyAdded (S.taken sink.old) buffer.old (S.taken sink.new) text.now) }
     ensures stands { TellsFailure (S.failed sink.new) result }
+    ensures refused { IfErr result IsRefused }
 {
     match push_line(buffer, sink, text) {
         Ok(()) => Ok(()),

@@ -60,8 +60,8 @@ pub record AreRefusedFacts (g : List (List ℕ)) (facts : Facts) : Type 0 where
   pub broken : FirstBroken g rule
   pub same : facts ≡ refused_facts g rule
 
--- What is known of a graph with these lists under this choice. Nothing is only if memory ran out for it, and it breaks no
--- rule.
+-- The facts of a graph with these lists under this choice. They are missing only if the graph breaks no rule, and memory
+-- ran out for it.
 abbrev pub AreFacts : Choice → List (List ℕ) → Option Facts → Type 0
 AreFacts choice g None = KeepsBefore g 9
 AreFacts choice g (Some facts) = AreLaidFacts choice g facts ⊎ AreRefusedFacts g facts

@@ -26,7 +26,7 @@ is_colon byte = byte == 58
 abbrev pub HasColon : List ℕ → Type 0
 HasColon text = position_or_len is_colon text < length text
 
--- the text is this number, in decimal and below 2^32
+-- the text is this number, in decimal and below 2^32; it may begin with a plus sign
 abbrev pub IsNumber : List ℕ → ℕ → Type 0
 IsNumber text n = ParsesUnsigned {E = ⊤} 32 10 text (Ok n)
 
