@@ -1,6 +1,6 @@
 //! Fans: ends that are gone, givers that wait, all lanes at once.
 ghost use Rattle.std.specs.Prelude.{◌≤◌};
-ghost use Rattle.ruled_lanes.specs.declared.limits.TheConstants.{MAX_CAPACITY};
+ghost use Rattle.ruled_lanes.specs.declared.channel.TheConstants.{MAX_CAPACITY};
 
 use crate::ends::{answer, joins};
 use ruled_lanes::{Gatherer, LANES, LaneGiver, MAX_CAPACITY, Memory, fan_in};

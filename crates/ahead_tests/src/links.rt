@@ -1,6 +1,6 @@
 //! Links: ends that are gone, a giver that waits, messages in order.
 ghost use Rattle.std.specs.Prelude.{◌≤◌};
-ghost use Rattle.ruled_lanes.specs.declared.limits.TheConstants.{MAX_CAPACITY};
+ghost use Rattle.ruled_lanes.specs.declared.channel.TheConstants.{MAX_CAPACITY};
 
 use crate::ends::{answer, joins};
 use ruled_lanes::{Giver, MAX_CAPACITY, Memory, Taker, link};

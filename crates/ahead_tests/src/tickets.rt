@@ -1,6 +1,6 @@
 //! Tickets: nothing to draw, and threads that draw each number once.
 ghost use Rattle.std.specs.Prelude.{◌≡◌, ◌<◌, ◌≤◌, All, vec_len};
-ghost use Rattle.ruled_lanes.specs.declared.limits.TheConstants.{LANES};
+ghost use Rattle.ruled_lanes.specs.declared.channel.TheConstants.{LANES};
 ghost use Rattle.ruled_lanes.specs.TicketSeats.{IsSeatOf};
 
 use ruled_lanes::{MAX_TICKETS, Memory, Seat, Tickets};

@@ -1,6 +1,6 @@
 -- Boxes of a least shape show no cause, so a laid answer has a drawing.
 use Rattle.std.proofs.Common.{◌≡◌, ℕ, List, Result, Ok, Err, refl, subst}
-use Rattle.common.specs.declared.choice.Choice.{Choice}
+use Rattle.common.specs.declared.parameters.Choice.{Choice}
 use Rattle.faces.specs.Planes.{PlaneModel, IsPlane}
 use Rattle.ortho_rep.specs.Shapes.{ShapeModel}
 use Rattle.ortho_rep.specs.Points.{PointsModel}
@@ -9,7 +9,7 @@ use Rattle.ortho_rep.specs.Representation.{IsLeast}
 use Rattle.dissect.specs.Boxes.{BoxesModel}
 use Rattle.dissect.specs.Boxed.{IsBoxed}
 use Rattle.drawing_laws.proofs.Coordinates.{boxes_monotone}
-use Rattle.reports.specs.declared.cause.Cause.{Cause}
+use Rattle.reports.specs.declared.answer.Cause.{Cause}
 use Rattle.reports.specs.Drawn.{ShowsCause, IsDrawingOf}
 use Rattle.reports.specs.declared.answer.Answer.{Answer}
 use Rattle.reports.specs.declared.answer.Answer.TheVariants.{Laid, Refused, NoMemory}

@@ -2,10 +2,10 @@
 use Rattle.std.proofs.Common.{◌≡◌, ℕ, List, Ok, Err, inl, inr, sym, subst}
 use Rattle.std.specs.Prelude.{Result}
 use Rattle.std.proofs.lemmas.Bool.{false≢true}
-use Rattle.common.specs.declared.choice.Choice.{Choice}
+use Rattle.common.specs.declared.parameters.Choice.{Choice}
 use Rattle.embedding.specs.Rules.{KeepsBefore}
-use Rattle.embedding.specs.declared.faults.ReadFault.{ReadFault}
-use Rattle.embedding.specs.declared.faults.ReadFault.TheVariants.{Memory}
+use Rattle.embedding.specs.declared.breaks.ReadFault.{ReadFault}
+use Rattle.embedding.specs.declared.breaks.ReadFault.TheVariants.{Memory}
 use Rattle.faces.specs.Planes.{PlaneModel, IsPlane}
 use Rattle.answers.specs.declared.shaped_plane.ShapedPlane.{ShapedPlane}
 use Rattle.answers.specs.Held.{IsHeld}

@@ -1,8 +1,8 @@
 -- What is left of the causes.
 use Rattle.std.proofs.Common.{ℕ, ◌+◌, ◌<◌, ◌≤◌, arith, inl, inr, List, Err}
-use Rattle.common.specs.declared.choice.Choice.{Choice}
+use Rattle.common.specs.declared.parameters.Choice.{Choice}
 use Rattle.faces.specs.Planes.{PlaneModel, IsPlane}
-use Rattle.ortho_rep.specs.declared.points.TheConstants.{MAX_COORDINATE}
+use Rattle.ortho_rep.specs.declared.grid_points.TheConstants.{MAX_COORDINATE}
 use Rattle.ortho_rep.specs.Shapes.{ShapeModel}
 use Rattle.ortho_rep.specs.Prices.{PricesModel}
 use Rattle.ortho_rep.specs.Representation.{IsLeast}
@@ -12,8 +12,8 @@ use Rattle.drawing_check.specs.Draws.{AreInGrid, IsInGrid}
 use Rattle.dissect.specs.Boxes.{BoxesModel, AreBoxes}
 use Rattle.dissect.specs.Boxed.{IsBoxed}
 use Rattle.dissect.specs.Monotone.{AreLeastPoints, FitsNoGrid, point_at}
-use Rattle.reports.specs.declared.cause.Cause.{Cause}
-use Rattle.reports.specs.declared.cause.Cause.TheVariants.{Wide, OutOfGrid, NotAxis, WrongTurn, Meet}
+use Rattle.reports.specs.declared.answer.Cause.{Cause}
+use Rattle.reports.specs.declared.answer.Cause.TheVariants.{Wide, OutOfGrid, NotAxis, WrongTurn, Meet}
 use Rattle.reports.specs.Drawn.{ShowsCause}
 use Rattle.reports.specs.Answers.{IsLaid}
 use Rattle.drawing_laws.specs.Least.{HasNoCoordinates}

@@ -1,7 +1,7 @@
 -- What a drawing keeps of its shape: edges without turns, and what is asked for.
 use Rattle.std.proofs.Common.{◌≡◌, ◌∙◌, ◌++◌, ◌∷◌, [], length, ap, arith, subst, length-append}
 use Rattle.std.proofs.lemmas.List.{nil_from_length}
-use Rattle.common.specs.declared.choice.Choice.{Choice}
+use Rattle.common.specs.declared.parameters.Choice.{Choice}
 use Rattle.geometry.specs.Directions.{left_quarters}
 use Rattle.faces.specs.Planes.{PlaneModel, head, next}
 use Rattle.ortho_rep.specs.Prices.{PricesModel}

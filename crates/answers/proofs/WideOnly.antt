@@ -1,14 +1,14 @@
 -- The least points of boxes of a shape draw it, so of the causes one alone is left.
 use Rattle.std.proofs.Common.{◌≡◌, ℕ, List, Err, refl, subst}
-use Rattle.common.specs.declared.choice.Choice.{Choice}
+use Rattle.common.specs.declared.parameters.Choice.{Choice}
 use Rattle.faces.specs.Planes.{PlaneModel, IsPlane}
 use Rattle.ortho_rep.specs.Shapes.{ShapeModel}
 use Rattle.ortho_rep.specs.Prices.{PricesModel}
 use Rattle.dissect.specs.Boxes.{BoxesModel}
 use Rattle.dissect.specs.Boxed.{IsBoxed}
 use Rattle.drawing_laws.proofs.Drawn.{least_points_draw}
-use Rattle.reports.specs.declared.cause.Cause.{Cause}
-use Rattle.reports.specs.declared.cause.Cause.TheVariants.{Wide, OutOfGrid, NotAxis, WrongTurn, Meet}
+use Rattle.reports.specs.declared.answer.Cause.{Cause}
+use Rattle.reports.specs.declared.answer.Cause.TheVariants.{Wide, OutOfGrid, NotAxis, WrongTurn, Meet}
 use Rattle.reports.specs.Drawn.{ShowsCause}
 use Rattle.reports.specs.Answers.{IsLaid}
 use Rattle.drawing_laws.specs.Least.{HasNoCoordinates}

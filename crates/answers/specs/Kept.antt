@@ -1,6 +1,6 @@
 -- What is known of a graph, given by its neighbour lists, whose layout keeps conditions.
 use Rattle.std.specs.Prelude.{◌≡◌, ℕ, ℤ, ◌<◌, true, List, []}
-use Rattle.common.specs.declared.choice.Choice.{Choice}
+use Rattle.common.specs.declared.parameters.Choice.{Choice}
 use Rattle.geometry.specs.Directions.{left_quarters}
 use Rattle.faces.specs.Planes.{PlaneModel, IsPlane, darts, reverse_dart, next}
 use Rattle.ortho_rep.specs.Shapes.{ShapeModel, turns_at}
@@ -10,7 +10,7 @@ use Rattle.ortho_rep.specs.Keeping.{one_way}
 use Rattle.drawing_check.specs.Paths.{path_along}
 use Rattle.drawing_check.specs.Draws.{IsTurning, leaving}
 use Rattle.conditions.specs.declared.conditions.Conditions.{Conditions}
-use Rattle.conditions.specs.declared.fault.KeepFault.{KeepFault}
+use Rattle.conditions.specs.declared.cuts.KeepFault.{KeepFault}
 use Rattle.conditions.specs.Asked.{AsksAngle, AsksTurns}
 use Rattle.conditions.specs.Chosen.{IsKept, IsKeepFault}
 use Rattle.answers.specs.declared.shaped_plane.ShapedPlane.{ShapedPlane}

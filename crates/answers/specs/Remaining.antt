@@ -1,8 +1,8 @@
 -- What boxes may show in place of a drawing.
 use Rattle.std.specs.Prelude.{⊤}
 use Rattle.dissect.specs.Boxes.{BoxesModel}
-use Rattle.reports.specs.declared.cause.Cause.{Cause}
-use Rattle.reports.specs.declared.cause.Cause.TheVariants.{Wide, OutOfGrid, NotAxis, WrongTurn, Meet}
+use Rattle.reports.specs.declared.answer.Cause.{Cause}
+use Rattle.reports.specs.declared.answer.Cause.TheVariants.{Wide, OutOfGrid, NotAxis, WrongTurn, Meet}
 use Rattle.drawing_laws.specs.Least.{HasNoCoordinates}
 
 -- `Wide` only where no coordinates at all grow along the darts of the boxes, and `OutOfGrid` never

@@ -1,7 +1,7 @@
 -- What is known of a graph, given by its neighbour lists, between the stages that answer it.
 use Rattle.std.specs.Prelude.{◌≡◌, ℕ, List, Result, Ok, Err}
 use Rattle.embedding.specs.Rules.{FirstBroken, KeepsBefore}
-use Rattle.common.specs.declared.choice.Choice.{Choice}
+use Rattle.common.specs.declared.parameters.Choice.{Choice}
 use Rattle.faces.specs.Planes.{PlaneModel, IsPlane, HasGreatestOuter}
 use Rattle.ortho_rep.specs.Best.{IsChosen}
 use Rattle.ortho_rep.specs.Prices.{IsProof}
@@ -9,8 +9,8 @@ use Rattle.ortho_rep.specs.Representation.{IsLeast}
 use Rattle.ortho_rep.specs.Points.{PointsModel}
 use Rattle.reports.specs.declared.answer.Answer.{Answer}
 use Rattle.reports.specs.declared.answer.Answer.TheVariants.{Laid, Refused, NoMemory}
-use Rattle.embedding.specs.declared.faults.ReadFault.{ReadFault}
-use Rattle.embedding.specs.declared.faults.ReadFault.TheVariants.{Rule, Memory}
+use Rattle.embedding.specs.declared.breaks.ReadFault.{ReadFault}
+use Rattle.embedding.specs.declared.breaks.ReadFault.TheVariants.{Rule, Memory}
 use Rattle.answers.specs.declared.shaped_plane.ShapedPlane.{ShapedPlane}
 
 -- the plane of these neighbour lists, once its faces are traced

@@ -1,21 +1,107 @@
-//! The lanes that answer the records of a run.
+//! The lanes that answer the records of a run. The first stage after reading reads graphs and traces their faces, the
+//! next one finds least shapes, and the last one draws them and makes what the lane gives.
 ghost use Rattle.std.specs.Prelude.{◌≡◌};
 ghost use Rattle.lanes.specs.Notes.{About};
 ghost use Rattle.answers.specs.Spelt.{IsSpelt};
 
-use crate::draw_stage::Shaped;
 use crate::drawing::DrawScratch;
-use crate::embed_stage::Framed;
-use crate::purpose::Purpose;
-use crate::scratch::{EmbedScratch, joined_scratch};
-use crate::shape_stage::Embedded;
-use crate::shaping::ShapeScratch;
-use crate::task::Task;
+use crate::holder::{EmbedScratch, held, joined_scratch, taken};
+use crate::item::{Carried, Item, KeepEntries, Purpose, ShapeFound, Task, Traced};
+use crate::shaping::{ShapeScratch, shape};
+use crate::stages::embed;
 use common::{Choice, DrawingKind};
-use lanes::{LaneKind, LaneScratch, Numbered};
+use lanes::{LaneKind, LaneScratch, Numbered, Stage, Staged};
 use planar_code::Record;
 use std::alloc::{AllocError, Global};
+use std::sync::Wait;
 use streams::SourceEnd;
+
+/// A record of a file that no stage has worked on yet.
+pub type Framed<P = KeepEntries> = Item<P, Record, ()>;
+
+impl<P: Purpose> Staged for Item<P, Record, ()> {
+    type Next = Embedded<P>;
+
+    type Scratch = EmbedScratch;
+
+    const STAGE: Stage = Stage::Embed;
+
+    fn scratch(alloc: Global) -> EmbedScratch {
+        EmbedScratch::empty(alloc)
+    }
+
+    fn exchange<R: Wait>(rt: &R, scratch: &mut EmbedScratch) {
+        scratch.restock(rt);
+    }
+
+    fn work(self, alloc: Global, scratch: &mut EmbedScratch) -> Embedded<P> {
+        let plane = embed(alloc, &mut scratch.planes, &self.rec);
+        Item {
+            task: self.task,
+            purpose: self.purpose,
+            rec: P::Carried::of(self.rec),
+            state: held(alloc, scratch.shell.take(), plane),
+        }
+    }
+}
+
+/// A record of a file with its plane, or the reason why it has none.
+pub type Embedded<P = KeepEntries> = Item<P, <P as Purpose>::Carried, Traced>;
+
+impl<P: Purpose> Staged for Item<P, <P as Purpose>::Carried, Traced> {
+    type Next = Shaped<P>;
+
+    type Scratch = ShapeScratch;
+
+    const STAGE: Stage = Stage::Shape;
+
+    fn scratch(alloc: Global) -> ShapeScratch {
+        ShapeScratch::empty(alloc)
+    }
+
+    fn exchange<R: Wait>(rt: &R, scratch: &mut ShapeScratch) {
+        scratch.restock(rt);
+        scratch.send_back(rt);
+    }
+
+    fn work(self, alloc: Global, scratch: &mut ShapeScratch) -> Shaped<P> {
+        let task = self.task;
+        let plane = taken(self.state, &mut scratch.plane_shell);
+        let shaped_plane = shape(alloc, scratch, plane, task.choice, task.drawing_kind);
+        Item {
+            task,
+            purpose: self.purpose,
+            rec: self.rec,
+            state: held(alloc, scratch.shell.take(), shaped_plane),
+        }
+    }
+}
+
+/// A record of a file and its plane with a least shape, or the reason why there is none.
+pub type Shaped<P = KeepEntries> = Item<P, <P as Purpose>::Carried, ShapeFound>;
+
+impl<P: Purpose> Staged for Item<P, <P as Purpose>::Carried, ShapeFound> {
+    type Next = P::Entry;
+
+    type Scratch = DrawScratch;
+
+    const STAGE: Stage = Stage::Draw;
+
+    fn scratch(alloc: Global) -> DrawScratch {
+        DrawScratch::empty(alloc)
+    }
+
+    fn exchange<R: Wait>(rt: &R, scratch: &mut DrawScratch) {
+        scratch.send_back(rt);
+    }
+
+    fn work(self, alloc: Global, scratch: &mut DrawScratch) -> P::Entry {
+        let task = self.task;
+        let shaped_plane = taken(self.state, &mut scratch.shell);
+        self.purpose
+            .finish(alloc, scratch, task, self.rec, shaped_plane)
+    }
+}
 
 /// The `LaneKind` of lanes that answer records, for one purpose and with drawings of one kind.
 #[derive(Drop)]

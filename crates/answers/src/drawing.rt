@@ -1,28 +1,98 @@
-//! How a shape is drawn.
-
-ghost use Rattle.std.specs.Prelude.{◌≡◌, ◌≤◌, length, IfOk, IfSome};
+//! How a shape is drawn, how long the edges of a drawing are, and how far it reaches.
+ghost use Rattle.std.specs.Prelude.{◌≡◌, ◌≤◌, ◌↔◌, All, IfSome, IsTrue, length, IfOk};
+ghost use Rattle.drawing_check.specs.Draws.{HasPoints, Draws};
+ghost use Rattle.drawing_check.specs.Routes.{path_of};
+ghost use Rattle.reports.specs.Lengths.{edge_length, path_length, IsNear, IsNoLonger, IsQuick};
+ghost use Rattle.ortho_rep.specs.Points.{AreBelow, IsBelow};
 ghost use Rattle.ortho_rep.specs.Representation.{IsLeast, IsShape};
 ghost use Rattle.compact.specs.Monotone.{AreDirectionsOf};
-ghost use Rattle.drawing_check.specs.Draws.{HasPoints, Draws};
 ghost use Rattle.drawing_check.specs.Regions.{HasRegions};
 ghost use Rattle.reports.specs.Drawn.{IsDrawn};
-ghost use Rattle.reports.specs.Lengths.{IsNear, IsNoLonger, IsQuick, edge_length};
-ghost use Rattle.ortho_rep.specs.Points.{AreBelow};
 ghost use Rattle.answers.specs.Drawings.{IsDrawing};
 
 use crate::holder::Shell;
-use crate::length::{are_below, is_no_longer};
 use crate::shaped_plane::ShapedPlane;
 use common::DrawingKind;
 use compact::{BoxesScratch, CompactFault, compact_in, dissect_along};
-use drawing_check::{CheckFault, Drawing, check_in, outside_is_outer};
+use drawing_check::{CheckFault, Drawing, Route, check_in, distance, outside_is_outer, route_of};
 use faces::Plane;
 use lanes::ReturnQueue;
-use ortho_rep::{Points, Shape};
+use ortho_rep::{Point, Points, Shape};
 use reports::Cause;
 use std::alloc::{AllocError, Global};
 use std::sync::Wait;
 use visibility::compact_by_visibility_in;
+
+/// Whether the edges of some points are together no longer than those of others. False if a length takes more than 64
+/// bits.
+pub(crate) fn is_no_longer(plane: &Plane, points: &Points, others: &Points) -> bool
+    requires points { HasPoints plane.now points.now }
+    requires others { HasPoints plane.now others.now }
+    ensures { IsTrue result → edge_length plane.now points.now ≤ edge_length plane.now others.now }
+{
+    match (edge_length(plane, points), edge_length(plane, others)) {
+        (Some(length), Some(other_length)) => length <= other_length,
+        _ => false,
+    }
+}
+
+/// The length of all edges together; `None` if it takes more than 64 bits.
+fn edge_length(plane: &Plane, points: &Points) -> Option<u64>
+    requires points { HasPoints plane.now points.now }
+    ensures { IfSome result (λ found. found ≡ edge_length plane.now points.now) }
+{
+    let graph = plane.graph();
+    let mut length = 0u64;
+    let mut edge = 0;
+    for dart in 0..graph.darts() {
+        let reverse = graph.reverse(dart);
+        if dart < reverse {
+            let route = route_of(plane, points, dart, reverse, edge);
+            let more = path_length(&route)?;
+            length = length.checked_add(more)?;
+            edge += 1;
+        }
+    }
+    Some(length)
+}
+
+/// The number of steps along a path; `None` if it takes more than 64 bits.
+fn path_length(route: &Route<'_>) -> Option<u64>
+    ensures { IfSome result (λ found. found ≡ path_length (path_of route.now)) }
+{
+    let mut length = 0u64;
+    let mut from = route.start;
+    for corner in route.corners {
+        length = length.checked_add(distance(from, *corner))?;
+        from = *corner;
+    }
+    length.checked_add(distance(from, route.end))
+}
+
+/// Whether all coordinates of the vertices and of the corners of all `edges` edges are less than a limit.
+pub(crate) fn are_below(points: &Points, edges: u16, limit: u32) -> bool
+    requires { edges ≡ length points.now.corners }
+    ensures { IsTrue result ↔ AreBelow limit points.now }
+{
+    if !all_below(points.vertices(), limit) {
+        return false;
+    }
+    for edge in 0..edges {
+        if !all_below(points.corners(edge), limit) {
+            return false;
+        }
+    }
+    true
+}
+
+/// Whether both coordinates of all points of a list are less than a limit.
+fn all_below(points: &[Point], limit: u32) -> bool
+    ensures { IsTrue result ↔ All (IsBelow limit) points.now }
+{
+    points
+        .iter()
+        .all(|point| point.x < limit && point.y < limit)
+}
 
 /// The buffers of the stage that draws shapes, reused for the next shape.
 #[derive(Drop)]

@@ -3,11 +3,11 @@
 ghost use Rattle.std.specs.Prelude.{◌≡◌, ℕ, List, IfOk, IfErr};
 ghost use Rattle.planar_code.specs.Stream.{lists_of};
 ghost use Rattle.ortho_rep.specs.Representation.{IsLeast};
-ghost use Rattle.reports.specs.declared.cause.Cause.TheVariants.{Wide};
+ghost use Rattle.reports.specs.declared.answer.Cause.TheVariants.{Wide};
 ghost use Rattle.reports.specs.Drawn.{IsCause};
 ghost use Rattle.answers.specs.Drawings.{IsDrawing};
 ghost use Rattle.answers.specs.Kept.{IsKeptPlane, AreDrawnStraight, KeepsAsked};
-ghost use Rattle.common.specs.declared.choice.Choice.{Choice};
+ghost use Rattle.common.specs.declared.parameters.Choice.{Choice};
 ghost use Rattle.conditions.specs.declared.conditions.Conditions.{Conditions};
 ghost use Rattle.conditions.specs.Chosen.{IsKeepFault, IsKept};
 ghost use Rattle.reports.specs.Lengths.{IsQuick};

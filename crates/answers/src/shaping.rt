@@ -6,7 +6,7 @@ ghost use Rattle.compact.specs.Monotone.{AreDirectionsOf};
 ghost use Rattle.conditions.specs.Chosen.{IsKeepFault};
 ghost use Rattle.answers.specs.Kept.{IsKeptPlane};
 ghost use Rattle.answers.specs.Steps.{IsEmbedded, IsShaped, IsTracedPlane};
-ghost use Rattle.common.specs.declared.choice.Choice.{Choice};
+ghost use Rattle.common.specs.declared.parameters.Choice.{Choice};
 
 use crate::holder::Shell;
 use crate::shaped_plane::ShapedPlane;

@@ -3,7 +3,7 @@
 ghost use Rattle.std.specs.Prelude.{◌≡◌, ℕ, List, IfOk, MatchOption};
 ghost use Rattle.reports.specs.Lengths.{IfDrawn, IsNear, IsNoLonger, IsQuick};
 ghost use Rattle.answers.specs.Steps.{IsRefused, IsEmbedded, IsShaped, IsFoundFor, answer_in};
-ghost use Rattle.common.specs.declared.choice.Choice.{Choice};
+ghost use Rattle.common.specs.declared.parameters.Choice.{Choice};
 ghost use Rattle.embedding.specs.Rules.{FirstBroken, KeepsBefore};
 ghost use Rattle.ortho_rep.specs.Representation.{IsLeast};
 ghost use Rattle.planar_code.specs.Stream.{lists_of};
@@ -11,9 +11,9 @@ ghost use Rattle.reports.specs.Answers.{Answers};
 ghost use Rattle.answers.specs.DrawnAnswers.{IsDrawnIfLaid};
 
 use crate::drawing::{DrawScratch, draw, points_of};
+use crate::item::PointsFound;
 use crate::shaped_plane::ShapedPlane;
 use crate::shaping::{ShapeScratch, shape};
-use crate::state::PointsFound;
 use common::{Choice, DrawingKind};
 use embedding::{Graph, ReadFault, Rule, WideRecord, broken_rule, broken_wide_rule};
 use faces::{Plane, TraceFault};

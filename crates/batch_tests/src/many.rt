@@ -1,6 +1,6 @@
 //! Runs over many files. How long the reports are is counted from the description of the report.
 ghost use Rattle.std.specs.Prelude.{◌≤◌};
-ghost use Rattle.ruled_lanes.specs.declared.limits.TheConstants.{MAX_CAPACITY};
+ghost use Rattle.ruled_lanes.specs.declared.channel.TheConstants.{MAX_CAPACITY};
 
 use crate::shared::{opener_of, report_of, text_of_lanes};
 use collector::{

@@ -1,17 +1,17 @@
 -- What is told of a line tells whether it is the end of a run, unless memory ran out.
 use Rattle.std.proofs.Common.{◌≡◌, ◌≢◌, ℕ, Bool, List, Option, None, Some, inl, inr, ap, subst, arith}
 use Rattle.planar_code.specs.Stream.{lists_of}
-use Rattle.checking.specs.declared.fault.LineFault.{LineFault}
-use Rattle.checking.specs.declared.fault.LineFault.TheVariants.{Memory}
+use Rattle.checking.specs.declared.json.LineFault.{LineFault}
+use Rattle.checking.specs.declared.json.LineFault.TheVariants.{Memory}
 use Rattle.checking.specs.LineContents.{IsEndLine, SaysDrawing, Says}
 use Rattle.checking.specs.Verdicts.{IsVerdict}
-use Rattle.checking.specs.declared.inputs.DrawingInput.{DrawingInput}
-use Rattle.checking.specs.declared.inputs.DrawingInput.TheVariants as given
+use Rattle.checking.specs.declared.line_content.DrawingInput.{DrawingInput}
+use Rattle.checking.specs.declared.line_content.DrawingInput.TheVariants as given
 use Rattle.checking.specs.declared.line_content.LineContent.{LineContent}
 use Rattle.checking.specs.declared.line_content.LineContent.TheVariants as said
 use Rattle.checking.specs.declared.line_content.ClaimedDrawing.{ClaimedDrawing}
-use Rattle.checking.specs.declared.verdict.Verdict.{Verdict}
-use Rattle.checking.specs.declared.verdict.Verdict.TheVariants as verdict
+use Rattle.checking.specs.declared.judging.Verdict.{Verdict}
+use Rattle.checking.specs.declared.judging.Verdict.TheVariants as verdict
 use Rattle.checking.specs.Pairs.{EndsRun, GivesNone, TellsOf, GoesOn, IsVerdictOf}
 
 -- no line is a drawing and the end of a run

@@ -7,10 +7,10 @@ use Rattle.std.proofs.lemmas.List.Elements.{All-append, All-push}
 use Rattle.streams.specs.Reading.{IsKnownOf}
 use Rattle.streams.specs.Tap.{IsAtItsEnd, IsAtItsFailure}
 use Rattle.checking.specs.declared.line_buffer.TheConstants.{MAX_LINE}
-use Rattle.checking.specs.declared.lines.LineOutcome.{LineOutcome}
-use Rattle.checking.specs.declared.lines.LineOutcome.TheVariants as next
-use Rattle.checking.specs.declared.lines.SourceState.{SourceState}
-use Rattle.checking.specs.declared.lines.SourceState.TheVariants as state
+use Rattle.checking.specs.declared.line_reader.LineOutcome.{LineOutcome}
+use Rattle.checking.specs.declared.line_reader.LineOutcome.TheVariants as next
+use Rattle.checking.specs.declared.line_reader.SourceState.{SourceState}
+use Rattle.checking.specs.declared.line_reader.SourceState.TheVariants as state
 use Rattle.checking.specs.Lines.{IsNoEnd, lines_in, ended_line, IsOpenAfter, HasGivenAll, GivesNext, IsCollected, IsWhole, IsLast}
 use Rattle.checking.proofs.Dividing.{lines-last, ended_lines-none, lines-given, ended_lines-given}
 

@@ -1,15 +1,15 @@
 -- Verdicts, step by step.
 use Rattle.std.proofs.Common.{◌≡◌, ℕ, ◌<◌, Bool, List, ap, subst, arith}
-use Rattle.embedding.specs.declared.rules.Rule.{Rule}
+use Rattle.embedding.specs.declared.breaks.Rule.{Rule}
 use Rattle.faces.specs.Planes.{PlaneModel, IsPlane, with_outer}
 use Rattle.ortho_rep.specs.Points.{PointsModel}
 use Rattle.ortho_rep.specs.Shapes.{ShapeModel}
 use Rattle.referee.specs.declared.claims.Claims.{Claims}
 use Rattle.referee.specs.Drawings.{IsDrawnBy}
-use Rattle.checking.specs.declared.inputs.DrawingInput.{DrawingInput}
-use Rattle.checking.specs.declared.inputs.DrawingInput.TheVariants as given
-use Rattle.checking.specs.declared.verdict.Verdict.{Verdict}
-use Rattle.checking.specs.declared.verdict.Verdict.TheVariants as verdict
+use Rattle.checking.specs.declared.line_content.DrawingInput.{DrawingInput}
+use Rattle.checking.specs.declared.line_content.DrawingInput.TheVariants as given
+use Rattle.checking.specs.declared.judging.Verdict.{Verdict}
+use Rattle.checking.specs.declared.judging.Verdict.TheVariants as verdict
 use Rattle.checking.specs.Verdicts.{IsFound, IsVerdictOnDrawing, IsVerdictOnPlane, IsVerdict}
 
 -- what is given for a plane is not refused

@@ -1,6 +1,6 @@
 -- One line more, and one verdict more.
 use Rattle.std.proofs.Common.{◌≡◌, ◌≤◌, ℕ, Bool, List, [], ◌∷◌, ◌++◌, None, Some, length, suc, inl, inr, refl, ap, sym, subst, arith}
-use Rattle.checking.specs.declared.verdict.Verdict.{Verdict}
+use Rattle.checking.specs.declared.judging.Verdict.{Verdict}
 use Rattle.checking.specs.Pairs.{EndsRun, KeepsAllBut, IsVerdictOf, AreVerdicts}
 
 -- a line more that is kept

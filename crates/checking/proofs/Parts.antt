@@ -4,9 +4,9 @@ use Rattle.std.proofs.lemmas.List.{length-map, map-append, map_more}
 use Rattle.serde_json.specs.Data.{Data, string, array}
 use Rattle.serde_json.specs.View.{view, items_of}
 use Rattle.serde_json.specs.declared.value.Value.{Value}
-use Rattle.ortho_rep.specs.declared.turn.Turn.{Turn}
-use Rattle.ortho_rep.specs.declared.turn.Turn.TheVariants.{Left}
-use Rattle.ortho_rep.specs.declared.points.Point.{Point}
+use Rattle.ortho_rep.specs.declared.turn_strings.Turn.{Turn}
+use Rattle.ortho_rep.specs.declared.turn_strings.Turn.TheVariants.{Left}
+use Rattle.ortho_rep.specs.declared.grid_points.Point.{Point}
 use Rattle.checking.specs.Values.{natural, array_of, point_data, letter_of}
 
 same_items : (ds es : List Data) → items_of ds ≡ items_of es → ds ≡ es

@@ -3,21 +3,21 @@ use Rattle.std.proofs.Common.{◌≡◌, ◌≢◌, ◌≤◌, ◌-◌, ◌^◌,
 use Rattle.std.proofs.lemmas.List.Elements.{All-nil, All-push}
 use Rattle.planar_code.specs.Stream.{lists_of}
 use Rattle.checking.specs.declared.line_buffer.TheConstants.{MAX_LINE}
-use Rattle.checking.specs.declared.lines.Lines.{Lines}
-use Rattle.checking.specs.declared.lines.LineOutcome.TheVariants as next
-use Rattle.checking.specs.declared.lines.SourceState.{SourceState}
-use Rattle.checking.specs.declared.lines.SourceState.TheVariants as state
+use Rattle.checking.specs.declared.line_reader.Lines.{Lines}
+use Rattle.checking.specs.declared.line_reader.LineOutcome.TheVariants as next
+use Rattle.checking.specs.declared.line_reader.SourceState.{SourceState}
+use Rattle.checking.specs.declared.line_reader.SourceState.TheVariants as state
 use Rattle.checking.specs.Lines.{HasGiven, GivesNext, StaysClosed, state_in, rest_in, fails_in, line_in}
-use Rattle.checking.specs.declared.fault.LineFault.TheVariants.{Memory, Malformed}
-use Rattle.checking.specs.declared.fault.LineFault.{LineFault}
-use Rattle.checking.specs.declared.fault.LineFault.TheVariants as fault
-use Rattle.checking.specs.declared.inputs.Trailing.TheVariants as behind
+use Rattle.checking.specs.declared.json.LineFault.TheVariants.{Memory, Malformed}
+use Rattle.checking.specs.declared.json.LineFault.{LineFault}
+use Rattle.checking.specs.declared.json.LineFault.TheVariants as fault
+use Rattle.checking.specs.declared.line_content.Trailing.TheVariants as behind
 use Rattle.checking.specs.LineContents.{IsEndLine}
 use Rattle.checking.specs.Verdicts.{IsVerdict}
-use Rattle.checking.specs.declared.inputs.DrawingInput.{DrawingInput}
-use Rattle.checking.specs.declared.inputs.DrawingInput.TheVariants as given
-use Rattle.checking.specs.declared.verdict.Verdict.{Verdict}
-use Rattle.checking.specs.declared.verdict.Verdict.TheVariants as verdict
+use Rattle.checking.specs.declared.line_content.DrawingInput.{DrawingInput}
+use Rattle.checking.specs.declared.line_content.DrawingInput.TheVariants as given
+use Rattle.checking.specs.declared.judging.Verdict.{Verdict}
+use Rattle.checking.specs.declared.judging.Verdict.TheVariants as verdict
 use Rattle.checking.specs.Pairs.{EndsRun, TellsOf, AreVerdicts, IsVerdictOf}
 use Rattle.checking.specs.UnderWay.{trailing_of, MayFail, closed, Keeps, HasKept, KeepsNoMore, KeepsOneMore, KeepsNext, KeepsMore, KeepsRest}
 use Rattle.checking.proofs.Ends.{judged_as, told_goes_on}

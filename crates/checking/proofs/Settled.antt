@@ -8,12 +8,12 @@ use Rattle.streams.specs.declared.frames.Mark.{Mark}
 use Rattle.streams.specs.Sink.{AppendsPrefix}
 use Rattle.streams.specs.Reading.{IsKnownOf}
 use Rattle.streams.proofs.Sinks.{added_none}
-use Rattle.checking.specs.declared.lines.Lines.{Lines}
-use Rattle.checking.specs.declared.lines.SourceState.{SourceState}
-use Rattle.checking.specs.declared.lines.SourceState.TheVariants as state
+use Rattle.checking.specs.declared.line_reader.Lines.{Lines}
+use Rattle.checking.specs.declared.line_reader.SourceState.{SourceState}
+use Rattle.checking.specs.declared.line_reader.SourceState.TheVariants as state
 use Rattle.checking.specs.Lines.{IsNoEnd, IsOpenAfter, HasGivenAll, HasGiven, lines_of, ended_line, state_in, rest_in, fails_in}
 use Rattle.checking.proofs.Dividing.{lines-given, ended_lines-given}
-use Rattle.checking.specs.declared.verdict.Verdict.{Verdict}
+use Rattle.checking.specs.declared.judging.Verdict.{Verdict}
 use Rattle.checking.specs.Text.{verdict_lines, last_line}
 use Rattle.checking.specs.declared.run.CheckOptions.{CheckOptions}
 use Rattle.checking.specs.Pairs.{KeepsAllBut, AreVerdicts}

@@ -7,14 +7,14 @@ use Rattle.streams.specs.Sink.{AppendsPrefix, IsInTransit, StaysInTransit}
 use Rattle.streams.specs.declared.frames.Mark.{Mark}
 use Rattle.streams.proofs.Sinks.{added_none}
 use Rattle.checking.specs.Lines.{HasGiven, state_in, rest_in, fails_in}
-use Rattle.checking.specs.declared.fault.LineFault.TheVariants.{Memory}
+use Rattle.checking.specs.declared.json.LineFault.TheVariants.{Memory}
 use Rattle.checking.specs.Verdicts.{IsVerdict}
 use Rattle.checking.specs.Text.{verdict_line, verdict_lines, last_line}
-use Rattle.checking.specs.declared.inputs.DrawingInput.{DrawingInput}
-use Rattle.checking.specs.declared.inputs.DrawingInput.TheVariants as given
-use Rattle.checking.specs.declared.verdict.Verdict.{Verdict}
-use Rattle.checking.specs.declared.verdict.Verdict.TheVariants as verdict
-use Rattle.checking.specs.declared.checker.Checker.{Checker}
+use Rattle.checking.specs.declared.line_content.DrawingInput.{DrawingInput}
+use Rattle.checking.specs.declared.line_content.DrawingInput.TheVariants as given
+use Rattle.checking.specs.declared.judging.Verdict.{Verdict}
+use Rattle.checking.specs.declared.judging.Verdict.TheVariants as verdict
+use Rattle.checking.specs.declared.run.Checker.{Checker}
 use Rattle.checking.specs.declared.run.CheckOptions.{CheckOptions}
 use Rattle.checking.specs.Pairs.{AreVerdicts}
 use Rattle.checking.specs.Runs.{IsOk, verdicts_text}

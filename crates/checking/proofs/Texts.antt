@@ -3,12 +3,12 @@ use Rattle.std.proofs.Common.{◌≡◌, ◌↔◌, ◌<◌, ◌≤◌, ℕ, tru
 use Rattle.std.proofs.Math.Seq.{take-append_seam, take-suc}
 use Rattle.std.proofs.lemmas.List.{take_all}
 use Rattle.std.proofs.lemmas.List.Elements.{All-take, All-contains, Contains-push}
-use Rattle.streams.specs.declared.form.Form.{Form}
-use Rattle.streams.specs.declared.faults.WriteFault.{WriteFault}
-use Rattle.streams.specs.declared.faults.WriteFault.TheVariants.{Write, Memory}
+use Rattle.streams.specs.declared.frames.Form.{Form}
+use Rattle.streams.specs.declared.output.WriteFault.{WriteFault}
+use Rattle.streams.specs.declared.output.WriteFault.TheVariants.{Write, Memory}
 use Rattle.streams.specs.Sink.{AppendsPrefix, IsInTransit, StaysInTransit, Writes}
 use Rattle.streams.proofs.Sinks.{sent_front, line_waits}
-use Rattle.checking.specs.declared.verdict.Verdict.{Verdict}
+use Rattle.checking.specs.declared.judging.Verdict.{Verdict}
 use Rattle.checking.specs.Text.{verdict_line, verdict_lines}
 
 -- one line more

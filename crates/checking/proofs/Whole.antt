@@ -5,24 +5,24 @@ use Rattle.std.proofs.Math.Seq.{drop-append_seam}
 use Rattle.std.proofs.lemmas.List.{drop_all}
 use Rattle.std.proofs.lemmas.List.Elements.{All-nil}
 use Rattle.std.specs.Io.KnownBytes.{Appends}
-use Rattle.planar_code.specs.declared.ending.Ending.{Ending}
-use Rattle.planar_code.specs.declared.ending.Ending.TheVariants as ending
+use Rattle.planar_code.specs.declared.partial_record.Ending.{Ending}
+use Rattle.planar_code.specs.declared.partial_record.Ending.TheVariants as ending
 use Rattle.streams.specs.declared.frames.Mark.{Mark}
 use Rattle.streams.specs.declared.frames.Mark.TheVariants as mark
 use Rattle.streams.specs.Marks.{IsBeginningOf}
-use Rattle.streams.specs.declared.reading.SourceEnd.{SourceEnd}
+use Rattle.streams.specs.declared.source.SourceEnd.{SourceEnd}
 use Rattle.streams.specs.Reading.{IsKnownOf, IsFoundIn}
 use Rattle.streams.specs.Sink.{AppendsPrefix}
-use Rattle.checking.specs.declared.lines.Lines.{Lines}
-use Rattle.checking.specs.declared.lines.SourceState.{SourceState}
+use Rattle.checking.specs.declared.line_reader.Lines.{Lines}
+use Rattle.checking.specs.declared.line_reader.SourceState.{SourceState}
 use Rattle.checking.specs.Lines.{HasGivenAll, HasGiven, lines_of, rest_in, fails_in}
-use Rattle.checking.specs.declared.verdict.Verdict.{Verdict}
-use Rattle.checking.specs.declared.verdict.Verdict.TheVariants as verdict
+use Rattle.checking.specs.declared.judging.Verdict.{Verdict}
+use Rattle.checking.specs.declared.judging.Verdict.TheVariants as verdict
 use Rattle.checking.specs.declared.run.CheckOptions.{CheckOptions}
-use Rattle.streams.specs.declared.faults.WriteFault.{WriteFault}
+use Rattle.streams.specs.declared.output.WriteFault.{WriteFault}
 use Rattle.checking.specs.declared.run.CheckOutcome.{CheckOutcome}
-use Rattle.checking.specs.declared.checker.Checker.{Checker}
-use Rattle.checking.specs.declared.inputs.TrailingLines.{TrailingLines}
+use Rattle.checking.specs.declared.run.Checker.{Checker}
+use Rattle.checking.specs.declared.line_content.TrailingLines.{TrailingLines}
 use Rattle.checking.specs.Pairs.{EndsRun, KeepsAllBut, AreVerdicts, AreSurplus}
 use Rattle.checking.specs.Runs.{IsOk, IsWhole, verdicts_text, IsTextOfVerdicts, IsBegunTextOfVerdicts}
 use Rattle.checking.specs.UnderWay.{MayFail, closed, Keeps, KeepsRest, IsUnderWay, IsCutShort}

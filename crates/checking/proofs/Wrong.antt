@@ -6,8 +6,8 @@ use Rattle.serde_json.specs.Data.{Data, Items, array}
 use Rattle.serde_json.specs.Find.{get}
 use Rattle.serde_json.specs.View.{view, items_of}
 use Rattle.serde_json.specs.declared.value.Value.{Value}
-use Rattle.checking.specs.declared.fault.LineFault.{LineFault}
-use Rattle.checking.specs.declared.fault.LineFault.TheVariants.{Malformed, Points, Number, Angles, Turns, Prices, Memory}
+use Rattle.checking.specs.declared.json.LineFault.{LineFault}
+use Rattle.checking.specs.declared.json.LineFault.TheVariants.{Malformed, Points, Number, Angles, Turns, Prices, Memory}
 use Rattle.checking.specs.Values.{natural}
 use Rattle.checking.specs.Wrong.{HasWrongElement, IsMissingOrWrong, IsWrongPriceList, IsWrongPriceValue, IsWrongPoint}
 use Rattle.checking.proofs.Parts.{same_arrays, says_none}

@@ -3,13 +3,13 @@ use Rattle.std.specs.Prelude.{◌≡◌, ◌≢◌, ℕ, ◌^◌, ◌<◌, ◌�
 use Rattle.serde_json.specs.Data.{Data}
 use Rattle.serde_json.specs.Find.{get, as_object}
 use Rattle.std.specs.declared.alloc.Global.{Global}
-use Rattle.ortho_rep.specs.declared.turn.Turn.{Turn}
+use Rattle.ortho_rep.specs.declared.turn_strings.Turn.{Turn}
 use Rattle.ortho_rep.specs.Points.{PointsModel}
 use Rattle.ortho_rep.specs.Prices.{PricesModel}
 use Rattle.ortho_rep.specs.Storage.{lists_in}
 use Rattle.checking.specs.Values.{natural, array_of, turns_data, IsTextOf, SaysPoints, SaysPrices, AreShort, AreOf32Bits}
-use Rattle.checking.specs.declared.fault.LineFault.{LineFault}
-use Rattle.checking.specs.declared.fault.LineFault.TheVariants as line
+use Rattle.checking.specs.declared.json.LineFault.{LineFault}
+use Rattle.checking.specs.declared.json.LineFault.TheVariants as line
 use Rattle.checking.specs.Wrong.{IsWrongField, IsWrongAngles, IsWrongTurns, IsWrongPrices, IsWrongPoints}
 use Rattle.referee.specs.declared.claims.Claims.{Claims}
 use Rattle.checking.specs.declared.line_content.LineContent.{LineContent}

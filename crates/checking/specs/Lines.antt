@@ -6,13 +6,13 @@ use Rattle.planar_code.specs.Stream.{before_first}
 use Rattle.streams.specs.Reading.{IsKnownOf}
 use Rattle.streams.specs.Tap.{IsAtItsEnd, IsAtItsFailure}
 use Rattle.checking.specs.declared.line_buffer.TheConstants.{MAX_LINE}
-use Rattle.checking.specs.declared.read_buffer.Refill.{Refill}
-use Rattle.checking.specs.declared.read_buffer.Refill.TheVariants as refill
-use Rattle.checking.specs.declared.lines.Lines.{Lines}
-use Rattle.checking.specs.declared.lines.LineOutcome.{LineOutcome}
-use Rattle.checking.specs.declared.lines.LineOutcome.TheVariants as next
-use Rattle.checking.specs.declared.lines.SourceState.{SourceState}
-use Rattle.checking.specs.declared.lines.SourceState.TheVariants as state
+use Rattle.checking.specs.declared.line_reader.Refill.{Refill}
+use Rattle.checking.specs.declared.line_reader.Refill.TheVariants as refill
+use Rattle.checking.specs.declared.line_reader.Lines.{Lines}
+use Rattle.checking.specs.declared.line_reader.LineOutcome.{LineOutcome}
+use Rattle.checking.specs.declared.line_reader.LineOutcome.TheVariants as next
+use Rattle.checking.specs.declared.line_reader.SourceState.{SourceState}
+use Rattle.checking.specs.declared.line_reader.SourceState.TheVariants as state
 
 -- there is no byte 0A among these
 abbrev pub IsNoEnd : List ℕ → Type 0

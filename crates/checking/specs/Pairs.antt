@@ -2,14 +2,14 @@
 use Rattle.std.specs.Prelude.{◌≡◌, ◌≢◌, ◌⊎◌, ◌<◌, ◌≤◌, ◌-◌, ◌^◌, min, ℕ, Bool, true, false, List, [], ◌∷◌, length, drop, Option, Some, None, All, ⊤}
 use Rattle.planar_code.specs.Stream.{lists_of}
 use Rattle.checking.specs.declared.line_buffer.TheConstants.{MAX_LINE}
-use Rattle.checking.specs.declared.fault.LineFault.{LineFault}
-use Rattle.checking.specs.declared.fault.LineFault.TheVariants as line
+use Rattle.checking.specs.declared.json.LineFault.{LineFault}
+use Rattle.checking.specs.declared.json.LineFault.TheVariants as line
 use Rattle.checking.specs.LineContents.{IsEndLine, SaysDrawing, SaysNothing, IsWrongLine}
 use Rattle.checking.specs.Verdicts.{IsVerdict}
-use Rattle.checking.specs.declared.inputs.DrawingInput.{DrawingInput}
-use Rattle.checking.specs.declared.inputs.DrawingInput.TheVariants as given
-use Rattle.checking.specs.declared.verdict.Verdict.{Verdict}
-use Rattle.checking.specs.declared.verdict.Verdict.TheVariants as verdict
+use Rattle.checking.specs.declared.line_content.DrawingInput.{DrawingInput}
+use Rattle.checking.specs.declared.line_content.DrawingInput.TheVariants as given
+use Rattle.checking.specs.declared.judging.Verdict.{Verdict}
+use Rattle.checking.specs.declared.judging.Verdict.TheVariants as verdict
 
 -- a line is the end of a run: its value has a field `end`, and it is not too long to be read
 pub record EndsRun (line : List ℕ) : Type 0 where

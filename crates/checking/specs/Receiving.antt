@@ -1,6 +1,6 @@
 -- Records that are checked list by list.
 use Rattle.std.proofs.Common.{◌≡◌, ℕ, ◌+◌, Bool, List, [], ◌++◌, Option, length, sym, subst, append_assoc, append-nil, length-append, arith}
-use Rattle.checking.specs.declared.checker.Checker.{Checker}
+use Rattle.checking.specs.declared.run.Checker.{Checker}
 use Rattle.checking.specs.declared.run.CheckOptions.{CheckOptions}
 use Rattle.checking.specs.UnderWay.{IsUnderWay, IsCutShortWithin, GoesOnBy, IsCutShortBy}
 

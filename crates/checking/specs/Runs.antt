@@ -1,14 +1,14 @@
 -- The text of a run, and its status.
 use Rattle.std.specs.Prelude.{◌≡◌, ◌≢◌, ◌↔◌, ◌⊎◌, ℕ, Bool, false, List, ◌++◌, length, Option, Some, All, ⊤}
 use Rattle.std.specs.Io.KnownBytes.{Appends}
-use Rattle.planar_code.specs.declared.ending.Ending.{Ending}
-use Rattle.streams.specs.declared.form.Form.{Form}
+use Rattle.planar_code.specs.declared.partial_record.Ending.{Ending}
+use Rattle.streams.specs.declared.frames.Form.{Form}
 use Rattle.streams.specs.declared.frames.Mark.{Mark}
 use Rattle.streams.specs.Marks.{IsMarked}
 use Rattle.streams.specs.Sink.{AppendsPrefix}
 use Rattle.checking.specs.Lines.{lines_of}
-use Rattle.checking.specs.declared.verdict.Verdict.{Verdict}
-use Rattle.checking.specs.declared.verdict.Verdict.TheVariants as verdict
+use Rattle.checking.specs.declared.judging.Verdict.{Verdict}
+use Rattle.checking.specs.declared.judging.Verdict.TheVariants as verdict
 use Rattle.checking.specs.Text.{verdict_lines, last_line}
 use Rattle.checking.specs.declared.run.CheckOptions.{CheckOptions}
 use Rattle.checking.specs.Pairs.{KeepsAllBut, AreVerdicts, AreSurplus}

@@ -1,23 +1,23 @@
 -- A run under way: what was said of the records so far. Only private contracts speak of it.
 use Rattle.std.specs.Prelude.{◌≡◌, ◌≢◌, ◌↔◌, ◌⊎◌, ◌≤◌, ◌-◌, ◌^◌, min, ℕ, Bool, true, false, List, [], ◌∷◌, ◌++◌, length, Option, Some, All, ⊤}
-use Rattle.checking.specs.declared.lines.Lines.{Lines}
-use Rattle.checking.specs.declared.lines.SourceState.{SourceState}
-use Rattle.checking.specs.declared.lines.SourceState.TheVariants as state
+use Rattle.checking.specs.declared.line_reader.Lines.{Lines}
+use Rattle.checking.specs.declared.line_reader.SourceState.{SourceState}
+use Rattle.checking.specs.declared.line_reader.SourceState.TheVariants as state
 use Rattle.checking.specs.Lines.{HasGiven, lines_of, state_in, rest_in, fails_in}
 use Rattle.streams.specs.declared.frames.Mark.{Mark}
 use Rattle.streams.specs.Marks.{IsBeginningOf}
 use Rattle.streams.specs.Reading.{IsKnownOf}
 use Rattle.streams.specs.Sink.{AppendsPrefix, IsInTransit}
-use Rattle.checking.specs.declared.fault.LineFault.TheVariants as fault
-use Rattle.checking.specs.declared.inputs.DrawingInput.{DrawingInput}
-use Rattle.checking.specs.declared.inputs.DrawingInput.TheVariants as given
-use Rattle.checking.specs.declared.verdict.Verdict.{Verdict}
-use Rattle.checking.specs.declared.verdict.Verdict.TheVariants as verdict
+use Rattle.checking.specs.declared.json.LineFault.TheVariants as fault
+use Rattle.checking.specs.declared.line_content.DrawingInput.{DrawingInput}
+use Rattle.checking.specs.declared.line_content.DrawingInput.TheVariants as given
+use Rattle.checking.specs.declared.judging.Verdict.{Verdict}
+use Rattle.checking.specs.declared.judging.Verdict.TheVariants as verdict
 use Rattle.checking.specs.Text.{verdict_lines}
-use Rattle.checking.specs.declared.checker.Checker.{Checker}
-use Rattle.checking.specs.declared.inputs.Trailing.{Trailing}
-use Rattle.checking.specs.declared.inputs.Trailing.TheVariants as behind
-use Rattle.checking.specs.declared.inputs.TrailingLines.{TrailingLines}
+use Rattle.checking.specs.declared.run.Checker.{Checker}
+use Rattle.checking.specs.declared.line_content.Trailing.{Trailing}
+use Rattle.checking.specs.declared.line_content.Trailing.TheVariants as behind
+use Rattle.checking.specs.declared.line_content.TrailingLines.{TrailingLines}
 use Rattle.checking.specs.declared.run.CheckOptions.{CheckOptions}
 use Rattle.checking.specs.Pairs.{EndsRun, KeepsAllBut, TellsOf, AreVerdicts, AreSurplus}
 use Rattle.checking.specs.Runs.{IsOk, verdicts_text}

@@ -4,9 +4,9 @@ use Rattle.serde_json.specs.Data.{Data, number, unsigned, string, array}
 use Rattle.serde_json.specs.Find.{get, as_number, as_integer}
 use Rattle.serde_json.specs.Read.{read}
 use Rattle.serde_json.specs.View.{items_of}
-use Rattle.ortho_rep.specs.declared.turn.Turn.{Turn}
-use Rattle.ortho_rep.specs.declared.turn.Turn.TheVariants.{Left, Right}
-use Rattle.ortho_rep.specs.declared.points.Point.{Point}
+use Rattle.ortho_rep.specs.declared.turn_strings.Turn.{Turn}
+use Rattle.ortho_rep.specs.declared.turn_strings.Turn.TheVariants.{Left, Right}
+use Rattle.ortho_rep.specs.declared.grid_points.Point.{Point}
 use Rattle.ortho_rep.specs.Points.{PointsModel}
 use Rattle.ortho_rep.specs.Prices.{PricesModel}
 

@@ -7,16 +7,16 @@ use Rattle.ortho_rep.specs.Shapes.{ShapeModel, turns_at}
 use Rattle.ortho_rep.specs.Representation.{bends_of}
 use Rattle.ortho_rep.specs.Best.{HasRep, NeedsBends}
 use Rattle.drawing_check.specs.Regions.{HasRegions}
-use Rattle.checking.specs.declared.fault.LineFault.TheVariants as line
+use Rattle.checking.specs.declared.json.LineFault.TheVariants as line
 use Rattle.referee.specs.declared.claims.Claims.{Claims}
 use Rattle.referee.specs.Claims.{Hold, IsFirstFalse}
-use Rattle.referee.specs.declared.fault.Fault.TheVariants as drawn
+use Rattle.referee.specs.declared.judge.Fault.TheVariants as drawn
 use Rattle.referee.specs.Drawings.{IsDrawn, IsDrawnBy}
 use Rattle.referee.specs.Faults.{IsFirstFailure}
-use Rattle.checking.specs.declared.inputs.DrawingInput.{DrawingInput}
-use Rattle.checking.specs.declared.inputs.DrawingInput.TheVariants as given
-use Rattle.checking.specs.declared.verdict.Verdict.{Verdict}
-use Rattle.checking.specs.declared.verdict.Verdict.TheVariants as verdict
+use Rattle.checking.specs.declared.line_content.DrawingInput.{DrawingInput}
+use Rattle.checking.specs.declared.line_content.DrawingInput.TheVariants as given
+use Rattle.checking.specs.declared.judging.Verdict.{Verdict}
+use Rattle.checking.specs.declared.judging.Verdict.TheVariants as verdict
 
 -- where faces are asked for, each region is its face
 abbrev pub KeepsFaces : Bool → PlaneModel → PointsModel → Type 0

@@ -1,14 +1,14 @@
 -- The words of verdicts.
 use Rattle.std.specs.Prelude.{ℕ, List, ◌++◌, codes}
 use Rattle.embedding.specs.Words as rules
-use Rattle.checking.specs.declared.fault.LineFault.{LineFault}
-use Rattle.checking.specs.declared.fault.LineFault.TheVariants as line
-use Rattle.referee.specs.declared.fault.Fault.{Fault}
-use Rattle.referee.specs.declared.fault.Fault.TheVariants as fault
+use Rattle.checking.specs.declared.json.LineFault.{LineFault}
+use Rattle.checking.specs.declared.json.LineFault.TheVariants as line
+use Rattle.referee.specs.declared.judge.Fault.{Fault}
+use Rattle.referee.specs.declared.judge.Fault.TheVariants as fault
 use Rattle.referee.specs.declared.claims.FalseClaim.{FalseClaim}
 use Rattle.referee.specs.declared.claims.FalseClaim.TheVariants as claim
-use Rattle.checking.specs.declared.verdict.Verdict.{Verdict}
-use Rattle.checking.specs.declared.verdict.Verdict.TheVariants as verdict
+use Rattle.checking.specs.declared.judging.Verdict.{Verdict}
+use Rattle.checking.specs.declared.judging.Verdict.TheVariants as verdict
 
 abbrev pub line_word : LineFault → List ℕ
 line_word line.Malformed = codes "line=malformed"

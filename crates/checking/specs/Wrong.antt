@@ -4,10 +4,10 @@ use Rattle.std.specs.Prelude.{◌≡◌, ◌≢◌, ℕ, ◌≤◌, ◌⊎◌, �
 use Rattle.serde_json.specs.Data.{Data, Items, array}
 use Rattle.serde_json.specs.Find.{get}
 use Rattle.serde_json.specs.View.{items_of}
-use Rattle.ortho_rep.specs.declared.turn.Turn.{Turn}
-use Rattle.ortho_rep.specs.declared.points.Point.{Point}
-use Rattle.checking.specs.declared.fault.LineFault.{LineFault}
-use Rattle.checking.specs.declared.fault.LineFault.TheVariants.{Points, Number, Angles, Turns, Prices}
+use Rattle.ortho_rep.specs.declared.turn_strings.Turn.{Turn}
+use Rattle.ortho_rep.specs.declared.grid_points.Point.{Point}
+use Rattle.checking.specs.declared.json.LineFault.{LineFault}
+use Rattle.checking.specs.declared.json.LineFault.TheVariants.{Points, Number, Angles, Turns, Prices}
 use Rattle.checking.specs.Values.{natural, array_of, point_data, list_data, IsShort, turns_data, AreIntegers, HasIntegers, IsOf32Bits}
 
 abbrev pub IsArray : Data → Type 0

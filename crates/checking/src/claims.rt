@@ -2,15 +2,14 @@
 ghost use Rattle.std.specs.Prelude.{◌≡◌, ◌≢◌, ◌^◌, ◌<◌, ◌≤◌, ℕ, ℤ, List, IfOk, IfErr, IfNone, IfSome, All, MatchOption, None, Some, option_map, codes, map};
 ghost use Rattle.serde_json.specs.Find.{get};
 ghost use Rattle.serde_json.specs.View.{view};
-ghost use Rattle.ortho_rep.specs.declared.turn.Turn.{Turn};
+ghost use Rattle.ortho_rep.specs.declared.turn_strings.Turn.{Turn};
 ghost use Rattle.ortho_rep.specs.Prices.{PricesModel};
 ghost use Rattle.ortho_rep.specs.Storage.{lists_in};
 ghost use Rattle.checking.specs.Values.{natural, array_of, letter_of, turns_data, IsOf32Bits, AreOf32Bits, AreIntegers, HasIntegers, HasPriceLists, SaysPrices};
 ghost use Rattle.checking.specs.Wrong.{IsWrongField, IsWrongAngles, IsWrongTurns, IsWrongPriceList, IsWrongPrices, IsWrongPriceValue};
-ghost use Rattle.checking.specs.declared.fault.LineFault.TheVariants.{Number, Turns, Memory};
+ghost use Rattle.checking.specs.declared.json.LineFault.TheVariants.{Number, Turns, Memory};
 
-use crate::fault::LineFault;
-use crate::json::{field_in, integer_in, list_in, number_in, text_in};
+use crate::json::{LineFault, field_in, integer_in, list_in, number_in, text_in};
 use ortho_rep::{Prices, Turn};
 use serde_json::Value;
 use std::alloc::Global;

@@ -1,22 +1,47 @@
-//! The verdict on a record and its input.
+//! The verdict on a record and its input: what is said of a record and its line.
 ghost use Rattle.std.specs.Prelude.{◌≡◌, ◌↔◌, true, false, IfOk};
 ghost use Rattle.planar_code.specs.Stream.{lists_of};
 ghost use Rattle.referee.specs.Drawings.{IsDrawnBy};
-ghost use Rattle.checking.specs.declared.fault.LineFault.TheVariants as line;
-ghost use Rattle.checking.specs.declared.inputs.DrawingInput.TheVariants as given;
-ghost use Rattle.checking.specs.declared.verdict.Verdict.TheVariants as verdict;
 ghost use Rattle.checking.specs.Verdicts.{IsVerdict, IsVerdictOnPlane, IsVerdictOnDrawing, IsFound, KeepsFaces};
+ghost use Rattle.checking.specs.declared.json.LineFault.TheVariants as line;
+ghost use Rattle.checking.specs.declared.line_content.DrawingInput.TheVariants as given;
+ghost use Rattle.checking.specs.declared.judging.Verdict.TheVariants as verdict;
 
-use crate::fault::LineFault;
-use crate::inputs::DrawingInput;
-use crate::line_content::ClaimedDrawing;
-use crate::verdict::Verdict;
+use crate::json::LineFault;
+use crate::line_content::{ClaimedDrawing, DrawingInput};
 use drawing_check::outside_is_outer;
 use embedding::{Graph, ReadFault, Rule};
 use faces::{Plane, TraceFault};
 use planar_code::Record;
-use referee::{Claims, Fault, Judged, false_claim, fewest_in, judge_in};
+use referee::{Claims, FalseClaim, Fault, Judged, false_claim, fewest_in, judge_in};
 use std::alloc::{AllocError, Global};
+
+/// The verdict on a record and the line of its drawing: the first variant that applies, in this order.
+#[derive(Clone, Copy, Debug, PartialEq, Eq)]
+pub(crate) enum Verdict {
+    /// The first rule that the record breaks.
+    Refused(Rule),
+    /// There is no line for the record.
+    Missing,
+    /// A read of the lines failed before this record's line.
+    Unread,
+    /// The line describes no drawing, for this reason.
+    Line(LineFault),
+    /// The points do not draw the record's embedding: the first condition that fails, and where.
+    Drawn(Fault),
+    /// A region of the drawing is not its face.
+    Regions,
+    /// The first claim about the drawing that does not hold.
+    Claim(FalseClaim),
+    /// The points draw the record's embedding with this many bends, and all claims hold.
+    Ok {
+        bends: u32,
+        /// The least number of bends of a representation with the drawing's outer face.
+        fewest: u32,
+    },
+    /// Memory ran out; this says nothing of the record and its line.
+    Memory,
+}
 
 /// The buffers of `record_verdict`, reused for the next record. Their contents between two calls do not matter.
 #[derive(Drop)]

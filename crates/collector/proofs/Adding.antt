@@ -4,10 +4,10 @@ use Rattle.std.proofs.lemmas.Bool.{cases_eq, eq-eqb, ne_eqb}
 use Rattle.streams.specs.declared.frames.Mark.{Mark}
 use Rattle.streams.specs.Sink.{IsInTransit}
 use Rattle.streams.specs.FrameLines.{added_none}
-use Rattle.reports.specs.declared.entry.Entry.{Entry}
-use Rattle.streams.specs.declared.form.Form.{Form}
+use Rattle.reports.specs.declared.answer.Entry.{Entry}
+use Rattle.streams.specs.declared.frames.Form.{Form}
 use Rattle.collector.specs.FormLines.{line_in, preamble_in, lines_in}
-use Rattle.file_order.specs.declared.waiting.Waiting.{Waiting}
+use Rattle.file_order.specs.declared.chunks.Waiting.{Waiting}
 use Rattle.collector.specs.Came.{Came, nothing, HasMark, HasEntryMore, HasMarkMore}
 use Rattle.file_order.specs.FileOrder.{OrderModel, StaysAt, at_once, for_later}
 use Rattle.file_order.specs.Waits.{ChangesAt, IsNothing, TakesIn, GetsMark}

@@ -5,18 +5,18 @@ use Rattle.std.proofs.lemmas.List.{map-append, length-map}
 use Rattle.std.proofs.lemmas.List.Sums.{sum_by_push, sum_by-cons}
 use Rattle.planar_code.specs.declared.TheConstants.{MAX_RECORDS}
 use Rattle.streams.specs.declared.frames.Mark.{Mark}
-use Rattle.common.specs.declared.choice.Choice.{Choice}
+use Rattle.common.specs.declared.parameters.Choice.{Choice}
 use Rattle.lanes.specs.Notes.{Note, Item, End}
 use Rattle.lanes.specs.Opening.{Meaning, IsEndAt}
-use Rattle.reports.specs.declared.entry.Entry.{Entry}
+use Rattle.reports.specs.declared.answer.Entry.{Entry}
 use Rattle.answers.specs.Spelt.{IsSpelt}
 use Rattle.collector.specs.Came.{Came, mark_or_memory}
 use Rattle.collector.specs.Came as collected
 use Rattle.collector.specs.Orders.{IsKnownAt, IsInOrder}
 use Rattle.collector.proofs.Notes.{all_told_item, all_told_end}
 use Rattle.collector.proofs.Ordering.{order_none, order_item, order_end, order_but}
-use Rattle.graph_facts.specs.declared.facts.Facts.{Facts}
-use Rattle.collector.specs.declared.flaws.Flaws.{Flaws}
+use Rattle.graph_facts.specs.declared.selection.Facts.{Facts}
+use Rattle.collector.specs.declared.find_facts.Flaws.{Flaws}
 use Rattle.collector.specs.FactBooks.{FactEntry, flaws_of, unanswered, first_unanswered}
 use Rattle.collector.specs.Arrived.{Arrived, none_arrived, HasEntryMore, HasEndMore, book_so_far, record_of, records_of, flaws_with}
 use Rattle.collector.specs.PicksHolding.{AreArrived}

@@ -1,13 +1,13 @@
 -- The text of books is that of their entries' lines.
 use Rattle.std.proofs.Common.{◌≡◌, ℕ, ◌+◌, List, [], ◌∷◌, ◌++◌, map, length, refl, ap, ◌∙◌}
-use Rattle.common.specs.declared.choice.Choice.{Choice}
+use Rattle.common.specs.declared.parameters.Choice.{Choice}
 use Rattle.lanes.specs.Notes.{About, numbered}
 use Rattle.lanes.specs.Opening.{Meaning}
-use Rattle.reports.specs.declared.entry.Entry.{Entry}
+use Rattle.reports.specs.declared.answer.Entry.{Entry}
 use Rattle.reports.specs.Abouts.{about_of}
 use Rattle.reports.specs.Books.{BookModel, AreBooks}
-use Rattle.streams.specs.declared.form.Form.{Form}
-use Rattle.streams.specs.declared.form.Form.TheVariants.{Report, Json}
+use Rattle.streams.specs.declared.frames.Form.{Form}
+use Rattle.streams.specs.declared.frames.Form.TheVariants.{Report, Json}
 use Rattle.reports.specs.Report.{numbered_texts, entry_line, end_line, file_line, book_text}
 use Rattle.reports.specs.Json.{entry_json, end_json, book_json}
 use Rattle.reports.specs.Forms.{text_in}

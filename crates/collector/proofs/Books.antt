@@ -1,7 +1,7 @@
 -- The books of a run are of graphs that are drawn.
 use Rattle.std.proofs.Common.{ℕ, zero, suc, ◌+◌, List, [], ◌∷◌, arith}
 use Rattle.std.proofs.Math.Logic.{∥∥₁_map}
-use Rattle.common.specs.declared.choice.Choice.{Choice}
+use Rattle.common.specs.declared.parameters.Choice.{Choice}
 use Rattle.lanes.specs.Opening.{Meaning}
 use Rattle.reports.specs.Books.{BookModel, IsBook, AreBooks}
 use Rattle.answers.proofs.DrawnAnswers.{answer_drawn}

@@ -7,18 +7,18 @@ use Rattle.std.proofs.lemmas.Bool.{cases_eq}
 use Rattle.std.proofs.lemmas.List.Concat.{flat_map-append}
 use Rattle.std.proofs.lemmas.List.Sorted.{IsPermutation-refl, IsPermutation-trans, IsPermutation-append_left, IsPermutation-append_right, IsPermutation-append_comm}
 use Rattle.streams.specs.declared.frames.Mark.{Mark}
-use Rattle.common.specs.declared.choice.Choice.{Choice}
+use Rattle.common.specs.declared.parameters.Choice.{Choice}
 use Rattle.lanes.specs.Notes.{Note, Item, End}
 use Rattle.lanes.specs.Opening.{Meaning, IsPlacedAt, IsEndAt}
 use Rattle.lanes.specs.Accepting.{AcceptsFiles}
 use Rattle.lanes.specs.Faults.{IsOfLanes, HoldsOnFault}
 use Rattle.lanes.specs.Files.{AreToldWhole}
-use Rattle.lanes.specs.declared.fault.RunFault.{RunFault}
+use Rattle.lanes.specs.declared.gathering.RunFault.{RunFault}
 use Rattle.collector.proofs.Notes.{all_told_item, all_told_end}
-use Rattle.graph_facts.specs.declared.combination.Columns.{Columns}
-use Rattle.graph_facts.specs.declared.selecting.Selection.{Selection}
-use Rattle.graph_facts.specs.declared.facts.Facts.{Facts}
-use Rattle.collector.specs.declared.flaws.Flaws.{Flaws}
+use Rattle.graph_facts.specs.declared.table.Columns.{Columns}
+use Rattle.graph_facts.specs.declared.selection.Selection.{Selection}
+use Rattle.graph_facts.specs.declared.selection.Facts.{Facts}
+use Rattle.collector.specs.declared.find_facts.Flaws.{Flaws}
 use Rattle.collector.specs.FactBooks.{FactEntry, flaws_of}
 use Rattle.graph_facts.specs.Conditions.{chooses}
 use Rattle.collector.specs.Picked.{chosen_of, chosen_of_book, chosen_in}

@@ -1,9 +1,9 @@
 -- The line of a record that is drawn.
 use Rattle.std.proofs.Common.{◌≡◌, ◌+◌, ◌∙◌, ℕ, List, ap, sym}
 use Rattle.reports.specs.declared.answer.Answer.{Answer}
-use Rattle.reports.specs.declared.entry.Entry.{Entry}
-use Rattle.streams.specs.declared.form.Form.{Form}
-use Rattle.streams.specs.declared.form.Form.TheVariants.{Report}
+use Rattle.reports.specs.declared.answer.Entry.{Entry}
+use Rattle.streams.specs.declared.frames.Form.{Form}
+use Rattle.streams.specs.declared.frames.Form.TheVariants.{Report}
 use Rattle.reports.specs.Report.{graph_line}
 use Rattle.collector.specs.FormLines.{line_in}
 

@@ -5,21 +5,21 @@ use Rattle.std.proofs.lemmas.List.Elements.{All-push, All-nil}
 use Rattle.std.specs.Io.KnownBytes.{Appends}
 use Rattle.streams.specs.declared.frames.Mark.{Mark}
 use Rattle.streams.specs.FrameLines.{added_both}
-use Rattle.common.specs.declared.choice.Choice.{Choice}
+use Rattle.common.specs.declared.parameters.Choice.{Choice}
 use Rattle.lanes.specs.Notes.{About, Note, numbered, Item}
 use Rattle.lanes.specs.Opening.{Meaning}
 use Rattle.lanes.specs.Drafts.{abouts, mark_after}
 use Rattle.lanes.specs.Files.{HasFile}
 use Rattle.reports.specs.Books.{BookModel, IsBook, AreBooks}
 use Rattle.reports.proofs.KeptBooks.{all_answered, books_more}
-use Rattle.streams.specs.declared.form.Form.{Form}
+use Rattle.streams.specs.declared.frames.Form.{Form}
 use Rattle.reports.specs.Report.{numbered_texts}
 use Rattle.reports.specs.Forms.{text_in}
 use Rattle.reports.specs.FlawlessBooks.{IsFlawlessBook}
 use Rattle.reports.proofs.TextParts.{texts-append}
 use Rattle.collector.specs.FormLines.{book_in}
 use Rattle.collector.proofs.BookTexts.{text_by_lines}
-use Rattle.file_order.specs.declared.waiting.Waiting.{Waiting}
+use Rattle.file_order.specs.declared.chunks.Waiting.{Waiting}
 use Rattle.collector.specs.Came.{Came, IsToldByNotes, IsFlawlessSoFar}
 use Rattle.collector.specs.Written.{ended_texts, begun, last_in}
 use Rattle.collector.specs.Holding.{HoldsNotes}

@@ -4,20 +4,20 @@ use Rattle.std.proofs.lemmas.Bool.{cases_eq}
 use Rattle.std.proofs.lemmas.Fmt.{length-decimal-le}
 use Rattle.std.proofs.lemmas.List.Elements.{All-nil}
 use Rattle.std.proofs.lemmas.Grind.{merely}
-use Rattle.common.specs.declared.choice.Choice.{Choice}
-use Rattle.planar_code.specs.declared.ending.Ending.{Ending}
+use Rattle.common.specs.declared.parameters.Choice.{Choice}
+use Rattle.planar_code.specs.declared.partial_record.Ending.{Ending}
 use Rattle.streams.specs.declared.frames.Mark.{Mark}
 use Rattle.lanes.specs.Notes.{Note, Item, End}
 use Rattle.lanes.specs.Opening.{Meaning, IsEndAt}
 use Rattle.reports.specs.declared.answer.Answer.{Answer}
-use Rattle.reports.specs.declared.entry.Entry.{Entry}
+use Rattle.reports.specs.declared.answer.Entry.{Entry}
 use Rattle.reports.specs.Abouts.{about_of}
-use Rattle.streams.specs.declared.form.Form.{Form}
-use Rattle.streams.specs.declared.form.Form.TheVariants.{Report, Json}
+use Rattle.streams.specs.declared.frames.Form.{Form}
+use Rattle.streams.specs.declared.frames.Form.TheVariants.{Report, Json}
 use Rattle.collector.specs.FormLines.{preamble_in}
-use Rattle.file_order.specs.declared.waiting.Waiting.{Waiting}
+use Rattle.file_order.specs.declared.chunks.Waiting.{Waiting}
 use Rattle.file_order.specs.FileOrder.{OrderModel}
-use Rattle.collector.specs.declared.run_lines.Lines.{Lines}
+use Rattle.collector.specs.declared.texts.Lines.{Lines}
 use Rattle.collector.specs.Came.{Came, HasEntryMore, HasMarkMore, IsFlawlessSoFar, nothing}
 use Rattle.file_order.specs.Waits.{IsNothing}
 use Rattle.collector.specs.Orders.{IsKnownAt, IsInOrder}

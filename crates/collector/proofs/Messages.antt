@@ -3,8 +3,8 @@ use Rattle.std.proofs.Common.{◌≡◌, ℕ, List, [], ◌∷◌, ◌++◌, Opt
 use native.Mathlib.Omega.{arith}
 use Rattle.std.specs.Prelude.{unwrap_or}
 use Rattle.streams.specs.declared.frames.Mark.{Mark}
-use Rattle.collector.specs.declared.read_message.ReadMessage.{ReadMessage}
-use Rattle.collector.specs.declared.read_message.ReadMessage.TheVariants.{Records, End, Stop}
+use Rattle.collector.specs.declared.frames_run.ReadMessage.{ReadMessage}
+use Rattle.collector.specs.declared.frames_run.ReadMessage.TheVariants.{Records, End, Stop}
 use Rattle.collector.specs.ReadMessage.{GiveRecords, IsTold, GoOn, records_in, mark_after, Gathers, GathersAll}
 
 -- one more message that gives records

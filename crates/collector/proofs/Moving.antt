@@ -2,11 +2,11 @@
 use Rattle.std.proofs.Common.{◌≡◌, ◌↔◌, ℕ, ◌+◌, ◌<◌, ◌≤◌, Bool, false, IsTrue, List, ◌++◌, length, get_or, Option, Some, inl, inr, refl, sym, ap, subst, ◌∙◌, arith, add-one, append_assoc}
 use Rattle.std.proofs.lemmas.Bool.{cases_lt, false≢true}
 use Rattle.streams.specs.declared.frames.Mark.{Mark}
-use Rattle.streams.specs.declared.reading.SourceEnd.{SourceEnd}
+use Rattle.streams.specs.declared.source.SourceEnd.{SourceEnd}
 use Rattle.streams.specs.Sink.{IsInTransit}
-use Rattle.streams.specs.declared.form.Form.{Form}
+use Rattle.streams.specs.declared.frames.Form.{Form}
 use Rattle.collector.specs.FormLines.{preamble_in, lines_in, end_in}
-use Rattle.file_order.specs.declared.waiting.Waiting.{Waiting}
+use Rattle.file_order.specs.declared.chunks.Waiting.{Waiting}
 use Rattle.collector.specs.Came.{Came, HasMark}
 use Rattle.file_order.specs.FileOrder.{HasEnd, OrderModel}
 use Rattle.file_order.specs.Waits.{ChangesAt, IsTaken}

@@ -6,7 +6,7 @@ use Rattle.std.proofs.lemmas.List.Elements.{filter-append}
 use Rattle.streams.specs.declared.frames.Mark.{Mark}
 use Rattle.lanes.specs.Notes.{About, Note, is_of, of_file, Item, End, Stop}
 use Rattle.lanes.specs.Drafts.{abouts, mark_after}
-use Rattle.reports.specs.declared.entry.Entry.{Entry}
+use Rattle.reports.specs.declared.answer.Entry.{Entry}
 use Rattle.reports.specs.Abouts.{about_of}
 use Rattle.collector.specs.Came.{Came, HasEntryMore, HasMarkMore, IsToldByNotes}
 use Rattle.collector.specs.Stops.{told_same}

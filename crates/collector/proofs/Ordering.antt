@@ -10,15 +10,15 @@ use Rattle.planar_code.specs.Stream.{IsRecord}
 use Rattle.streams.specs.declared.frames.Mark.{Mark}
 use Rattle.streams.specs.Sink.{AppendsPrefix}
 use Rattle.streams.specs.FrameLines.{added_none}
-use Rattle.common.specs.declared.choice.Choice.{Choice}
+use Rattle.common.specs.declared.parameters.Choice.{Choice}
 use Rattle.lanes.specs.Notes.{Note, numbered}
 use Rattle.streams.specs.Placing.{EachAt}
 use Rattle.lanes.specs.Opening.{Meaning, Silent, Unopened, Opened, IsFoundAt, IsEndAt}
-use Rattle.reports.specs.declared.entry.Entry.{Entry}
+use Rattle.reports.specs.declared.answer.Entry.{Entry}
 use Rattle.reports.specs.Abouts.{about_of}
 use Rattle.reports.specs.Books.{BookModel, IsBook, AreBooks}
 use Rattle.reports.proofs.KeptBooks.{all_answered, books_more}
-use Rattle.streams.specs.declared.form.Form.{Form}
+use Rattle.streams.specs.declared.frames.Form.{Form}
 use Rattle.reports.specs.Report.{numbered_texts}
 use Rattle.reports.specs.Forms.{text_in}
 use Rattle.collector.specs.FormLines.{preamble_in, lines_in, book_in}

@@ -3,11 +3,11 @@ use Rattle.std.proofs.Common.{◌≡◌, ℕ, ◌+◌, ◌<◌, ◌≤◌, List,
 use Rattle.std.proofs.lemmas.Bool.{cases_lt, cases_eq, eq-eqb, ne_eqb}
 use Rattle.streams.specs.Sink.{AppendsPrefix, IsInTransit}
 use Rattle.streams.specs.FrameLines.{added_both}
-use Rattle.reports.specs.declared.entry.Entry.{Entry}
-use Rattle.streams.specs.declared.form.Form.{Form}
+use Rattle.reports.specs.declared.answer.Entry.{Entry}
+use Rattle.streams.specs.declared.frames.Form.{Form}
 use Rattle.collector.specs.FormLines.{line_in, preamble_in, lines_in, end_in}
-use Rattle.streams.specs.declared.reading.SourceEnd.{SourceEnd}
-use Rattle.file_order.specs.declared.waiting.Waiting.{Waiting}
+use Rattle.streams.specs.declared.source.SourceEnd.{SourceEnd}
+use Rattle.file_order.specs.declared.chunks.Waiting.{Waiting}
 use Rattle.collector.specs.Came.{Came, HasMark, HasEntryMore}
 use Rattle.collector.specs.Written.{begun, ended_texts, AreWritten, IsPartialText}
 use Rattle.file_order.specs.FileOrder.{HasEnd, OrderModel, at_once}

@@ -1,14 +1,14 @@
 -- What is known of a run that failed.
 use Rattle.std.proofs.Common.{◌≡◌, ℕ, Bool, false, List, Option, Result, Ok, Err, IfErr, subst}
 use Rattle.streams.specs.declared.output.SinkFault.{SinkFault}
-use Rattle.common.specs.declared.choice.Choice.{Choice}
+use Rattle.common.specs.declared.parameters.Choice.{Choice}
 use Rattle.lanes.specs.Opening.{Meaning}
 use Rattle.lanes.specs.Faults.{IsOfLanes}
-use Rattle.lanes.specs.declared.fault.RunFault.{RunFault}
-use Rattle.lanes.specs.declared.fault.RunFault.TheVariants.{Memory, LaneLost, Thread, Refused}
+use Rattle.lanes.specs.declared.gathering.RunFault.{RunFault}
+use Rattle.lanes.specs.declared.gathering.RunFault.TheVariants.{Memory, LaneLost, Thread, Refused}
 use Rattle.file_order.specs.Writing.{GivesUp, HasFailedBy}
-use Rattle.graph_facts.specs.declared.selecting.Selection.{Selection}
-use Rattle.collector.specs.declared.picks.Picks.{Picks}
+use Rattle.graph_facts.specs.declared.selection.Selection.{Selection}
+use Rattle.collector.specs.declared.picking.Picks.{Picks}
 use Rattle.collector.specs.Picked.{IsPickBegun}
 use Rattle.collector.specs.PicksHolding.{IsPartlyPicked, PicksPartly, files_of}
 use Rattle.collector.proofs.PicksFinishing.{begun_left_off}

@@ -2,10 +2,10 @@
 use Rattle.std.proofs.Common.{◌≡◌, ◌≢◌, inl, inr, ℕ, suc, Bool, true, Option, None, Some, List, [], ◌∷◌, ◌++◌, All, map, if◌then◌else◌, sym, refl, ap, ◌∙◌, append-nil, arith}
 use Rattle.std.specs.List.{concat, flat_map}
 use Rattle.planar_code.specs.declared.TheConstants.{HEADER}
-use Rattle.planar_code.specs.declared.ending.Ending.{Ending}
-use Rattle.planar_code.specs.declared.ending.Ending.TheVariants as ending
+use Rattle.planar_code.specs.declared.partial_record.Ending.{Ending}
+use Rattle.planar_code.specs.declared.partial_record.Ending.TheVariants as ending
 use Rattle.planar_code.specs.Split.{IsSplit, IsSplitAfterHeader}
-use Rattle.graph_facts.specs.declared.facts.Facts.{Facts}
+use Rattle.graph_facts.specs.declared.selection.Facts.{Facts}
 use Rattle.collector.specs.FactBooks.{FactEntry, FactBook}
 use Rattle.graph_facts.specs.Conditions.{is_chosen, no_condition, those_meeting}
 use Rattle.collector.specs.Picked.{picked_of, picked_text}

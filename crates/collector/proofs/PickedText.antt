@@ -7,7 +7,7 @@ use Rattle.planar_code.specs.declared.TheConstants.{HEADER}
 use Rattle.streams.specs.declared.frames.Mark.{Mark}
 use Rattle.streams.specs.Sink.{AppendsPrefix, IsInTransit}
 use Rattle.streams.specs.FrameLines.{added_none, added_both}
-use Rattle.file_order.specs.declared.waiting.Waiting.{Waiting}
+use Rattle.file_order.specs.declared.chunks.Waiting.{Waiting}
 use Rattle.collector.specs.Came.{Came}
 use Rattle.file_order.specs.FileOrder.{OrderModel, StaysAt, at_once, for_later}
 use Rattle.file_order.specs.Waits.{ChangesAt, IsNothing, TakesIn, GetsMark, IsTaken}
@@ -16,7 +16,7 @@ use Rattle.file_order.specs.Writing.{GoesOn, IsPartlyAdded}
 use Rattle.collector.proofs.Adding.{counted_one}
 use Rattle.file_order.proofs.Prefixes.{Longer, appends_longer, way_front}
 use Rattle.file_order.proofs.Waits.{after_change, some_waiting}
-use Rattle.graph_facts.specs.declared.selecting.Selection.{Selection}
+use Rattle.graph_facts.specs.declared.selection.Selection.{Selection}
 use Rattle.collector.specs.FactBooks.{FactEntry}
 use Rattle.collector.specs.Picked.{picked_in, picked_of}
 use Rattle.collector.specs.Arrived.{Arrived, none_arrived, HasEntryMore, HasEndMore, record_of, picked_up_to}

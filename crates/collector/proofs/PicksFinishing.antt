@@ -10,20 +10,20 @@ use Rattle.std.specs.List.{flat_map}
 use Rattle.planar_code.specs.declared.TheConstants.{HEADER}
 use Rattle.streams.specs.FrameLines.{added_both, added_none}
 use Rattle.streams.specs.Sink.{AppendsPrefix}
-use Rattle.common.specs.declared.choice.Choice.{Choice}
+use Rattle.common.specs.declared.parameters.Choice.{Choice}
 use Rattle.lanes.specs.Notes.{Note}
 use Rattle.lanes.specs.Opening.{Meaning, IsFoundAt}
 use Rattle.lanes.specs.Files.{HasFile, AreToldWhole}
-use Rattle.reports.specs.declared.entry.Entry.{Entry}
+use Rattle.reports.specs.declared.answer.Entry.{Entry}
 use Rattle.reports.specs.Abouts as reported
 use Rattle.collector.specs.Came.{IsToldByNotes, mark_or_memory}
 use Rattle.collector.specs.Orders.{IsInOrder}
 use Rattle.collector.proofs.Finishing.{book_told, mark_told}
 use Rattle.collector.proofs.Ordering.{found_come, order_none}
 use Rattle.collector.proofs.ToldEnds.{both}
-use Rattle.graph_facts.specs.declared.selecting.Selection.{Selection}
-use Rattle.collector.specs.declared.flaws.Flaws.{Flaws}
-use Rattle.collector.specs.declared.picks.Picks.{Picks}
+use Rattle.graph_facts.specs.declared.selection.Selection.{Selection}
+use Rattle.collector.specs.declared.find_facts.Flaws.{Flaws}
+use Rattle.collector.specs.declared.picking.Picks.{Picks}
 use Rattle.collector.specs.FactBooks.{FactEntry, FactBook, IsFactBook, AreFactBooks, AreAllFactBooks, about_of, flaws_of}
 use Rattle.collector.specs.Picked.{picked_of_book, picked_text, IsAllPicked, IsPickBegun}
 use Rattle.collector.specs.Arrived.{Arrived, none_arrived, book_so_far, books_up_to, record_of, records_of, picked_up_to}

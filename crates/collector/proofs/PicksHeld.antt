@@ -7,18 +7,18 @@ use Rattle.planar_code.specs.declared.TheConstants.{HEADER}
 use Rattle.streams.specs.declared.frames.Mark.{Mark}
 use Rattle.streams.specs.FrameLines.{added_both}
 use Rattle.streams.specs.Sink.{AppendsPrefix}
-use Rattle.common.specs.declared.choice.Choice.{Choice}
+use Rattle.common.specs.declared.parameters.Choice.{Choice}
 use Rattle.lanes.specs.Notes.{Note, Item, End}
 use Rattle.lanes.specs.Opening.{Meaning, IsEndAt}
 use Rattle.answers.specs.Spelt.{IsSpelt}
-use Rattle.file_order.specs.declared.waiting.Waiting.{Waiting}
+use Rattle.file_order.specs.declared.chunks.Waiting.{Waiting}
 use Rattle.file_order.specs.FileOrder.{OrderModel}
 use Rattle.collector.specs.Orders.{IsKnownAt, IsInOrder}
 use Rattle.file_order.specs.Waits.{IsNext}
 use Rattle.file_order.specs.Waits.{IsNothing}
 use Rattle.file_order.proofs.Waits.{some_waiting}
-use Rattle.collector.specs.declared.flaws.Flaws.{Flaws}
-use Rattle.collector.specs.declared.picks.Picks.{Picks}
+use Rattle.collector.specs.declared.find_facts.Flaws.{Flaws}
+use Rattle.collector.specs.declared.picking.Picks.{Picks}
 use Rattle.collector.specs.FactBooks.{FactEntry, flaws_of}
 use Rattle.collector.specs.Arrived.{Arrived, none_arrived, HasEntryMore, HasEndMore, book_so_far, record_of, records_of, flaws_with}
 use Rattle.collector.specs.PicksHolding.{AreArrived, ArePicked, ArePicksOf, IsPartOfPicked, PicksHold, PicksPartly, PicksWrite, files_of}

@@ -1,11 +1,11 @@
 -- What has arrived of the files of a run so far.
 use Rattle.std.specs.Prelude.{◌≡◌, ◌≢◌, ℕ, List, [], ◌∷◌, ◌++◌, map, Option, None, Some, All}
-use Rattle.planar_code.specs.declared.ending.Ending.{Ending}
+use Rattle.planar_code.specs.declared.partial_record.Ending.{Ending}
 use Rattle.streams.specs.declared.frames.Mark.{Mark}
 use Rattle.lanes.specs.Notes.{Note, of_file}
 use Rattle.lanes.specs.Drafts.{abouts, mark_after}
 use Rattle.reports.specs.declared.answer.Answer.{Answer}
-use Rattle.reports.specs.declared.entry.Entry.{Entry}
+use Rattle.reports.specs.declared.answer.Entry.{Entry}
 use Rattle.reports.specs.Abouts.{about_of}
 
 -- what has arrived of one file: entries in order, and its mark once it has ended

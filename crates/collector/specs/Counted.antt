@@ -1,10 +1,10 @@
 -- The table of the chosen graphs of files.
 use Rattle.std.specs.Prelude.{◌≡◌, ℕ, List, map}
-use Rattle.common.specs.declared.choice.Choice.{Choice}
+use Rattle.common.specs.declared.parameters.Choice.{Choice}
 use Rattle.lanes.specs.Opening.{Meaning}
-use Rattle.graph_facts.specs.declared.combination.Columns.{Columns}
-use Rattle.graph_facts.specs.declared.selecting.Selection.{Selection}
-use Rattle.collector.specs.declared.flaws.Flaws.{Flaws}
+use Rattle.graph_facts.specs.declared.table.Columns.{Columns}
+use Rattle.graph_facts.specs.declared.selection.Selection.{Selection}
+use Rattle.collector.specs.declared.find_facts.Flaws.{Flaws}
 use Rattle.collector.specs.FactBooks.{FactBook, AreAllFactBooks, flaws_of}
 use Rattle.collector.specs.Picked.{chosen_in}
 use Rattle.graph_facts.specs.Tables.{IsTable, TableModel}

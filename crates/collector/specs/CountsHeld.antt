@@ -4,9 +4,9 @@ use Rattle.std.proofs.Common.{refl}
 use Rattle.lanes.specs.Notes.{Note, Stop}
 use Rattle.collector.specs.Came.{IsToldByNotes}
 use Rattle.collector.specs.Stops.{told_same}
-use Rattle.graph_facts.specs.declared.selecting.Selection.{Selection}
-use Rattle.graph_facts.specs.declared.facts.Facts.{Facts}
-use Rattle.collector.specs.declared.flaws.Flaws.{Flaws}
+use Rattle.graph_facts.specs.declared.selection.Selection.{Selection}
+use Rattle.graph_facts.specs.declared.selection.Facts.{Facts}
+use Rattle.collector.specs.declared.find_facts.Flaws.{Flaws}
 use Rattle.collector.specs.FactBooks.{flaws_of}
 use Rattle.collector.specs.Picked.{chosen_of_book}
 use Rattle.collector.specs.Arrived.{Arrived, book_so_far, records_of}

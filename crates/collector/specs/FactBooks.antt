@@ -1,14 +1,14 @@
 -- What is known of the graphs of files: a book of facts for each file.
 use Rattle.std.specs.Prelude.{◌≡◌, ◌≢◌, ◌+◌, ℕ, List, [], ◌∷◌, length, Option, None, All, is_none, if◌then◌else◌, count_by, ⊤}
-use Rattle.planar_code.specs.declared.ending.Ending.{Ending}
+use Rattle.planar_code.specs.declared.partial_record.Ending.{Ending}
 use Rattle.planar_code.specs.Stream.{lists_of}
 use Rattle.streams.specs.declared.frames.Mark.{Mark}
-use Rattle.common.specs.declared.choice.Choice.{Choice}
+use Rattle.common.specs.declared.parameters.Choice.{Choice}
 use Rattle.lanes.specs.Notes.{About}
 use Rattle.lanes.specs.Opening.{Meaning}
 use Rattle.lanes.specs.Drafts.{IsWhole}
-use Rattle.graph_facts.specs.declared.facts.Facts.{Facts}
-use Rattle.collector.specs.declared.flaws.Flaws.{Flaws}
+use Rattle.graph_facts.specs.declared.selection.Facts.{Facts}
+use Rattle.collector.specs.declared.find_facts.Flaws.{Flaws}
 use Rattle.graph_facts.specs.Facts.{AreFacts}
 
 -- a record of a file, and what is known of its graph, which is right for it; nothing if memory ran out for it

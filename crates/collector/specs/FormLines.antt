@@ -2,10 +2,10 @@
 use Rattle.std.specs.Prelude.{◌≡◌, ◌≢◌, ℕ, ◌+◌, List, [], ◌∷◌, ◌++◌, length, Option, IfSome}
 use Rattle.streams.specs.declared.frames.Mark.{Mark}
 use Rattle.reports.specs.declared.answer.Answer.{Answer}
-use Rattle.reports.specs.declared.entry.Entry.{Entry}
+use Rattle.reports.specs.declared.answer.Entry.{Entry}
 use Rattle.reports.specs.Books.{BookModel}
-use Rattle.streams.specs.declared.form.Form.{Form}
-use Rattle.streams.specs.declared.form.Form.TheVariants.{Report, Json}
+use Rattle.streams.specs.declared.frames.Form.{Form}
+use Rattle.streams.specs.declared.frames.Form.TheVariants.{Report, Json}
 use Rattle.reports.specs.Report.{file_line, entry_line, end_line}
 use Rattle.reports.specs.Json.{entry_json, end_json}
 

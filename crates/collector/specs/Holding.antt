@@ -1,11 +1,11 @@
 -- How the lines of a run relate to its notes.
 use Rattle.std.specs.Prelude.{◌≡◌, ◌↔◌, ◌⊎◌, ℕ, ◌<◌, Bool, true, List, [], ◌∷◌, ◌++◌, Option, None, length}
-use Rattle.common.specs.declared.choice.Choice.{Choice}
+use Rattle.common.specs.declared.parameters.Choice.{Choice}
 use Rattle.lanes.specs.Notes.{Note}
 use Rattle.lanes.specs.Opening.{Meaning}
-use Rattle.streams.specs.declared.form.Form.{Form}
-use Rattle.file_order.specs.declared.waiting.Waiting.{Waiting}
-use Rattle.collector.specs.declared.run_lines.Lines.{Lines}
+use Rattle.streams.specs.declared.frames.Form.{Form}
+use Rattle.file_order.specs.declared.chunks.Waiting.{Waiting}
+use Rattle.collector.specs.declared.texts.Lines.{Lines}
 use Rattle.collector.specs.Came.{Came, IsToldByNotes, IsFlawlessSoFar}
 use Rattle.collector.specs.Orders.{IsInOrder}
 use Rattle.collector.specs.Written.{AreWritten, IsPartialText}

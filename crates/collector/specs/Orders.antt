@@ -2,11 +2,11 @@
 use Rattle.std.specs.Prelude.{◌≡◌, ℕ, ◌≤◌, List, length, map, Some, All}
 use Rattle.planar_code.specs.declared.TheConstants.{MAX_RECORDS}
 use Rattle.streams.specs.declared.frames.Mark.{Mark}
-use Rattle.common.specs.declared.choice.Choice.{Choice}
+use Rattle.common.specs.declared.parameters.Choice.{Choice}
 use Rattle.streams.specs.Placing.{EachAt}
 use Rattle.lanes.specs.Notes.{numbered}
 use Rattle.lanes.specs.Opening.{Meaning, IsPlacedAt, IsEndAt}
-use Rattle.reports.specs.declared.entry.Entry.{Entry}
+use Rattle.reports.specs.declared.answer.Entry.{Entry}
 use Rattle.reports.specs.Abouts.{about_of}
 use Rattle.answers.specs.Spelt.{IsSpelt}
 use Rattle.collector.specs.Came.{Came}

@@ -4,11 +4,11 @@ use Rattle.std.specs.Io.KnownBytes.{Appends}
 use Rattle.std.specs.List.{flat_map}
 use Rattle.planar_code.specs.declared.TheConstants.{HEADER}
 use Rattle.streams.specs.Sink.{AppendsPrefix}
-use Rattle.common.specs.declared.choice.Choice.{Choice}
+use Rattle.common.specs.declared.parameters.Choice.{Choice}
 use Rattle.lanes.specs.Opening.{Meaning}
-use Rattle.graph_facts.specs.declared.selecting.Selection.{Selection}
-use Rattle.graph_facts.specs.declared.facts.Facts.{Facts}
-use Rattle.collector.specs.declared.flaws.Flaws.{Flaws}
+use Rattle.graph_facts.specs.declared.selection.Selection.{Selection}
+use Rattle.graph_facts.specs.declared.selection.Facts.{Facts}
+use Rattle.collector.specs.declared.find_facts.Flaws.{Flaws}
 use Rattle.collector.specs.FactBooks.{FactEntry, FactBook, AreAllFactBooks, flaws_of}
 use Rattle.graph_facts.specs.Conditions.{chooses, is_chosen}
 

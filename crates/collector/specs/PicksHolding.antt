@@ -2,16 +2,16 @@
 use Rattle.std.specs.Prelude.{◌≡◌, ℕ, suc, ◌<◌, ◌≤◌, List, [], ◌++◌, Option, None, length, slice_index_or}
 use Rattle.planar_code.specs.declared.TheConstants.{HEADER}
 use Rattle.streams.specs.Sink.{AppendsPrefix, IsInTransit}
-use Rattle.common.specs.declared.choice.Choice.{Choice}
+use Rattle.common.specs.declared.parameters.Choice.{Choice}
 use Rattle.lanes.specs.Notes.{Note}
 use Rattle.lanes.specs.Opening.{Meaning}
-use Rattle.file_order.specs.declared.waiting.Waiting.{Waiting}
+use Rattle.file_order.specs.declared.chunks.Waiting.{Waiting}
 use Rattle.collector.specs.Came.{IsToldByNotes}
 use Rattle.collector.specs.Orders.{IsInOrder}
 use Rattle.collector.specs.Written.{IsCounted}
-use Rattle.graph_facts.specs.declared.selecting.Selection.{Selection}
-use Rattle.collector.specs.declared.flaws.Flaws.{Flaws}
-use Rattle.collector.specs.declared.picks.Picks.{Picks}
+use Rattle.graph_facts.specs.declared.selection.Selection.{Selection}
+use Rattle.collector.specs.declared.find_facts.Flaws.{Flaws}
+use Rattle.collector.specs.declared.picking.Picks.{Picks}
 use Rattle.collector.specs.FactBooks.{flaws_of}
 use Rattle.collector.specs.Picked.{picked_in}
 use Rattle.collector.specs.Arrived.{Arrived, none_arrived, book_so_far, records_of, picked_up_to}

@@ -3,7 +3,7 @@ use Rattle.std.proofs.Common.{ℕ, List, [], ◌∷◌, ◌++◌, Option, refl}
 use Rattle.lanes.specs.Notes.{Note, Stop}
 use Rattle.lanes.specs.Opening.{Meaning}
 use Rattle.collector.specs.Stops.{told_same}
-use Rattle.collector.specs.declared.picks.Picks.{Picks}
+use Rattle.collector.specs.declared.picking.Picks.{Picks}
 use Rattle.collector.specs.Arrived.{records_of}
 use Rattle.collector.specs.PicksHolding.{PicksHold}
 

@@ -1,10 +1,10 @@
 -- The content of the messages of a reader.
 use Rattle.std.specs.Prelude.{◌≡◌, ℕ, Bool, List, [], ◌∷◌, ◌++◌, Option, None, Some, IfSome, ⊤}
-use Rattle.ruled_lanes.specs.declared.link_ends.Giver.{Giver}
+use Rattle.ruled_lanes.specs.declared.link_channel.Giver.{Giver}
 use Rattle.ruled_lanes.specs.LinkEnds.{given, GivesToSame}
 use Rattle.streams.specs.declared.frames.Mark.{Mark}
-use Rattle.collector.specs.declared.read_message.ReadMessage.{ReadMessage}
-use Rattle.collector.specs.declared.read_message.ReadMessage.TheVariants.{Records, End, Stop}
+use Rattle.collector.specs.declared.frames_run.ReadMessage.{ReadMessage}
+use Rattle.collector.specs.declared.frames_run.ReadMessage.TheVariants.{Records, End, Stop}
 use Rattle.streams.specs.Reading.{IsFoundIn}
 
 -- the messages give these records in order, and nothing else

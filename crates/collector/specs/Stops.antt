@@ -1,12 +1,12 @@
 -- A note about no file of the run says nothing about its files, nor does a stop.
 use Rattle.std.proofs.Common.{◌≡◌, ℕ, Bool, cond, false, List, [], ◌∷◌, ◌++◌, Option, None, refl, sym, ap, ◌∙◌, append-nil}
 use Rattle.std.proofs.lemmas.List.Elements.{filter-append}
-use Rattle.common.specs.declared.choice.Choice.{Choice}
+use Rattle.common.specs.declared.parameters.Choice.{Choice}
 use Rattle.lanes.specs.Notes.{Note, is_of, of_file, Stop}
 use Rattle.lanes.specs.Opening.{Meaning}
 use Rattle.lanes.specs.Drafts.{abouts, mark_after}
-use Rattle.streams.specs.declared.form.Form.{Form}
-use Rattle.file_order.specs.declared.waiting.Waiting.{Waiting}
+use Rattle.streams.specs.declared.frames.Form.{Form}
+use Rattle.file_order.specs.declared.chunks.Waiting.{Waiting}
 use Rattle.collector.specs.Came.{Came, IsToldByNotes}
 use Rattle.collector.specs.Holding.{HoldsNotes}
 

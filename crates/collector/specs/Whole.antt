@@ -1,17 +1,17 @@
 -- The whole text of a run.
 use Rattle.std.specs.Prelude.{◌≡◌, ◌↔◌, ◌⊎◌, ℕ, ◌+◌, ◌<◌, ◌≤◌, List, ◌++◌, length, Option, All}
 use Rattle.std.specs.Io.KnownBytes.{Appends}
-use Rattle.planar_code.specs.declared.ending.Ending.{Ending}
+use Rattle.planar_code.specs.declared.partial_record.Ending.{Ending}
 use Rattle.streams.specs.declared.frames.Mark.{Mark}
 use Rattle.streams.specs.Sink.{AppendsPrefix}
-use Rattle.common.specs.declared.choice.Choice.{Choice}
+use Rattle.common.specs.declared.parameters.Choice.{Choice}
 use Rattle.lanes.specs.Notes.{Note}
 use Rattle.lanes.specs.Opening.{Meaning}
 use Rattle.lanes.specs.Files.{HasFile}
-use Rattle.reports.specs.declared.entry.Entry.{Entry}
+use Rattle.reports.specs.declared.answer.Entry.{Entry}
 use Rattle.reports.specs.Books.{BookModel, IsBook, AreBooks}
 use Rattle.reports.specs.AllBooks.{AreAllBooks}
-use Rattle.streams.specs.declared.form.Form.{Form}
+use Rattle.streams.specs.declared.frames.Form.{Form}
 use Rattle.reports.specs.Forms.{text_in}
 use Rattle.reports.specs.FlawlessBooks.{IsFlawlessBook}
 use Rattle.collector.specs.FormLines.{preamble_in, lines_in}

@@ -2,9 +2,9 @@
 use Rattle.std.specs.Prelude.{◌≡◌, ℕ, zero, suc, ◌+◌, ◌<◌, ◌≤◌, ◌⊎◌, List, [], ◌++◌, length, Option, None, Some, slice_index_or}
 use Rattle.streams.specs.declared.frames.Mark.{Mark}
 use Rattle.streams.specs.Sink.{AppendsPrefix, IsInTransit}
-use Rattle.streams.specs.declared.form.Form.{Form}
+use Rattle.streams.specs.declared.frames.Form.{Form}
 use Rattle.collector.specs.FormLines.{preamble_in, lines_in, end_in}
-use Rattle.file_order.specs.declared.waiting.Waiting.{Waiting}
+use Rattle.file_order.specs.declared.chunks.Waiting.{Waiting}
 use Rattle.collector.specs.Came.{Came, HasMark}
 
 -- the text before the lines of this file, counted from 0, and its lines so far

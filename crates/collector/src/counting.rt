@@ -1,18 +1,16 @@
 //! Runs that count graphs.
 ghost use Rattle.std.specs.Prelude.{◌≡◌, ◌<◌, ◌≤◌, ◌++◌, List, ⊤, IfOk, IfErr, OnOk, filter, length, option_to_list};
 ghost use Rattle.std.proofs.Common.{refl, ◌∙◌};
-ghost use Rattle.ruled_lanes.specs.declared.limits.TheConstants.{LANES};
-ghost use Rattle.reports.specs.declared.limits.TheConstants.{MAX_FILES};
+ghost use Rattle.ruled_lanes.specs.declared.channel.TheConstants.{LANES};
+ghost use Rattle.reports.specs.declared.book.TheConstants.{MAX_FILES};
 ghost use Rattle.lanes.specs.Faults.{IsOfLanes};
-ghost use Rattle.graph_facts.specs.declared.facts.Facts.{Facts};
+ghost use Rattle.graph_facts.specs.declared.selection.Facts.{Facts};
 ghost use Rattle.graph_facts.specs.Conditions.{chooses};
 ghost use Rattle.collector.specs.Counted.{IsAllCounted};
 ghost use Rattle.collector.specs.CountsHeld.{CountsHold, counted_stop};
 ghost use Rattle.graph_facts.specs.Tables.{IsTable};
 
-use crate::find_facts::fact_lanes;
-use crate::flaws::{Flaws, add_flaw, no_flaws, set_mark};
-use crate::found_facts::FoundFacts;
+use crate::find_facts::{Flaws, FoundFacts, add_flaw, fact_lanes, no_flaws, set_mark};
 use crate::picking::gather_into;
 use file_order::{KnownEnd, KnownFiles};
 use graph_facts::{Columns, Counts, Facts, Selection};

@@ -1,24 +1,173 @@
-//! Runs whose lanes find what is known of graphs.
-ghost use Rattle.std.specs.Prelude.{◌≡◌};
+//! Runs whose lanes find what is known of graphs, what is found of each record, and what is lacking in what is known of
+//! files.
+ghost use Rattle.std.specs.Prelude.{◌≡◌, ◌≢◌, ◌↔◌, ◌⊎◌, ◌<◌, ℕ, All, None, IfErr, IfOk, IsTrue, OnOk, length, slice_index_or, [], if◌then◌else◌};
+ghost use Rattle.collector.specs.Arrived.{flaws_with, none_arrived, book_so_far};
+ghost use Rattle.collector.specs.FactBooks.{IsFlawless, flaws_of};
+ghost use Rattle.std.proofs.Props.{props};
 ghost use Rattle.planar_code.specs.Stream.{lists_of};
-ghost use Rattle.common.specs.declared.choice.Choice.{Choice};
 ghost use Rattle.lanes.specs.Opening.{IsPlacedAt, IsEndAt};
 ghost use Rattle.answers.specs.Spelt.{IsSpelt};
+ghost use Rattle.graph_facts.specs.Conditions.{is_chosen};
+ghost use Rattle.graph_facts.specs.Facts.{AreFacts};
+ghost use Rattle.common.specs.declared.parameters.Choice.{Choice};
 ghost use Rattle.answers.specs.Steps.{IsShaped};
 ghost use Rattle.answers.specs.Tasks.{about_in};
-ghost use Rattle.graph_facts.specs.Facts.{AreFacts};
 
-use crate::found_facts::FoundFacts;
 use answers::{Answering, DrawScratch, Purpose, ShapedPlane, Task};
-use common::DrawingKind;
+use common::{Choice, DrawingKind};
 use embedding::ReadFault;
 use file_order::{KnownEnd, KnownFiles, known_end};
-use graph_facts::Facts;
-use lanes::Numbered;
-use planar_code::Record;
-use std::alloc::Global;
+use graph_facts::{Facts, Selection};
+use lanes::{Numbered, RunFault};
+use planar_code::{Ending, Record};
+use std::alloc::{AllocError, Global};
 use std::marker::PhantomData;
-use streams::SourceEnd;
+use streams::{Mark, SinkFault, SourceEnd};
+
+/// How a file ended, and for how many of its records memory ran out.
+#[derive(Clone, Copy, Debug)]
+pub struct Flaws {
+    /// How the file ended.
+    pub mark: Mark,
+    /// The number of its records for which memory ran out.
+    pub unanswered: u32,
+    /// The place in the file of the first of them, from 0; 0 if there is none.
+    pub first: u32,
+}
+
+impl Flaws {
+    /// Whether the file ended complete and memory ran out for none of its records.
+    pub fn is_flawless(&self) -> bool
+        ensures { IsTrue result ↔ IsFlawless self.now }
+    {
+        matches!(self.mark, Mark::Ended(Ending::Complete)) && self.unanswered == 0
+    }
+
+    /// Counts the record at this place as one for which memory ran out. `LaneLost` if there are too many to count.
+    fn add_unanswered(&mut self, place: u32) -> Result<(), RunFault<SinkFault>>
+        ensures more { OnOk result (self.new ≡ flaws_with self.old place None) }
+        ensures astray { IfErr result (λ fault. fault ≡ RunFault.LaneLost) }
+    {
+        let Some(more) = self.unanswered.checked_add(1) else {
+            return Err(RunFault::LaneLost);
+        };
+        if self.unanswered == 0 {
+            self.first = place;
+        }
+        self.unanswered = more;
+        Ok(())
+    }
+}
+
+/// The exit status for files with these flaws: 0 if they have none, and otherwise 3.
+pub fn status_of_flaws(flaws: &[Flaws]) -> u8
+    ensures flawless { (result ≡ 0) ↔ All IsFlawless flaws.now }
+    ensures other { (result ≡ 0) ⊎ (result ≡ 3) }
+{
+    if flaws.iter().all(|each| each.is_flawless()) {
+        0
+    } else {
+        3
+    }
+}
+
+/// The flaws of each of `files` files of which nothing has arrived: each ends `memory`.
+pub(crate) fn no_flaws(alloc: Global, files: u32) -> Result<Vec<Flaws>, AllocError>
+    ensures count { IfOk result (λ flaws. length flaws.items ≡ files) }
+    ensures none { IfOk result (λ flaws. All (λ each. each ≡ flaws_of (book_so_far none_arrived)) flaws.items) }
+{
+    let mut flaws = Vec::with_capacity(alloc, files as usize)?;
+    for _ in 0..files {
+        flaws.push(Flaws {
+            mark: Mark::Ended(Ending::Memory),
+            unanswered: 0,
+            first: 0,
+        })?;
+    }
+    Ok(flaws)
+}
+
+/// Counts a flaw of a file if nothing is known of its record at this place.
+///
+/// # Errors
+///
+/// `LaneLost` if there are too many to count.
+pub(crate) fn add_flaw(
+    flaws: &mut Vec<Flaws>,
+    file: u32,
+    place: u32,
+    facts: &Option<Facts>,
+) -> Result<(), RunFault<SinkFault>>
+    requires { file < length flaws.old.items }
+    ensures count { length flaws.new.items ≡ length flaws.old.items }
+    ensures here { OnOk result ((other : Flaws) → slice_index_or flaws.new.items file other
+        ≡ flaws_with (slice_index_or flaws.old.items file other) place facts.now) }
+    ensures others { (k : ℕ) (other : Flaws) → k ≢ file
+        → slice_index_or flaws.new.items k other ≡ slice_index_or flaws.old.items k other }
+    ensures astray { IfErr result (λ fault. fault ≡ RunFault.LaneLost) }
+{
+    match facts {
+        Some(_) => Ok(()),
+        None => flaws[file as usize].add_unanswered(place),
+    }
+}
+
+/// Keeps the mark with which a file has ended.
+pub(crate) fn set_mark(flaws: &mut Vec<Flaws>, file: u32, mark: Mark)
+    requires { file < length flaws.old.items }
+    ensures count { length flaws.new.items ≡ length flaws.old.items }
+    ensures here { (other : Flaws) → slice_index_or flaws.new.items file other
+        ≡ record (slice_index_or flaws.old.items file other) { mark = mark } }
+    ensures others { (k : ℕ) (other : Flaws) → k ≢ file
+        → slice_index_or flaws.new.items k other ≡ slice_index_or flaws.old.items k other }
+{
+    flaws[file as usize].mark = mark;
+}
+
+/// A record of a file, and what is known of its graph.
+///
+/// The type guarantees that these are the facts of the record, and that it has its place in what the file means.
+#[derive(Drop)]
+pub struct FoundFacts<J: KnownFiles> {
+    /// The index of the file, from 0.
+    pub file: u32,
+    /// The index of the record in its file, from 0.
+    pub ordinal: u32,
+    /// The rule by which the outer face of its plane is chosen.
+    pub choice: Choice,
+    pub rec: Record,
+    /// What is known of its graph; `None` if memory ran out for it.
+    pub facts: Option<Facts>,
+    pub known_files: PhantomData<J>,
+    pub ghost right: { ∥ AreFacts choice (lists_of rec) facts ∥₁ },
+    pub ghost rec_is: { IsSpelt rec } by { Prim.hlevel props },
+    pub ghost placed: { ∥ IsPlacedAt (J.meaning file) ordinal rec ∥₁ } by { Prim.hlevel props },
+}
+
+impl<J: KnownFiles + Send + Sync> Numbered for FoundFacts<J> {
+    ghost about = { λ f. record { file = f.file; ordinal = f.ordinal; bytes = f.rec; choice = f.choice } };
+
+    fn file(&self) -> u32 {
+        self.file
+    }
+
+    fn ordinal(&self) -> u32 {
+        self.ordinal
+    }
+}
+
+impl<J: KnownFiles> FoundFacts<J> {
+    /// The record's bytes if it is chosen, and otherwise no bytes.
+    pub(crate) fn picked(&self, selection: &Selection) -> &[u8]
+        ensures { result.now ≡ (if is_chosen selection.now self.now.facts then self.now.rec else []) }
+    {
+        if selection.is_chosen(&self.facts) {
+            self.rec.bytes()
+        } else {
+            &[]
+        }
+    }
+}
 
 /// The lanes that find what is known of graphs. They draw nothing.
 pub(crate) fn fact_lanes<J: KnownFiles>() -> Answering<FindFacts<J>> {

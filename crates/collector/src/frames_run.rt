@@ -1,23 +1,112 @@
-//! Reading one source on a thread of its own.
-ghost use Rattle.std.specs.Prelude.{◌≡◌, ◌≢◌, ◌≤◌, ℕ, Bool, List, [], Some, IfOk, IfErr, vec_len};
-ghost use Rattle.ruled_lanes.specs.declared.limits.TheConstants.{MAX_CAPACITY};
-ghost use Rattle.ruled_lanes.specs.LinkEnds.{given, taken, AreEnds, TakesFromSame};
+//! Reading one source on a thread of its own, and gathering its records from the messages of that thread.
+ghost use Rattle.std.specs.Prelude.{◌≡◌, ◌<◌, [], List, ℕ, ◌++◌, ⊤, vec_len, ◌≢◌, ◌≤◌, Bool, Some, IfOk, IfErr};
+ghost use Rattle.std.proofs.Common.{◌∙◌, refl, sym, subst, append-nil, append_assoc};
+ghost use Rattle.ruled_lanes.specs.LinkEnds.{given, GivesToSame, taken, AreEnds, TakesFromSame};
+ghost use Rattle.collector.specs.ReadMessage.{GiveRecords, GivesBack, IsTold, GathersAll};
+ghost use Rattle.ruled_lanes.specs.declared.channel.TheConstants.{MAX_CAPACITY};
 ghost use Rattle.streams.specs.declared.frames.Mark.{Mark};
 ghost use Rattle.streams.specs.Marks.{IsMarked};
 ghost use Rattle.streams.specs.Reading.{IsFoundIn};
-ghost use Rattle.collector.specs.ReadMessage.{IsTold, GathersAll, GivesBack};
-ghost use Rattle.streams.specs.declared.reading.TheConstants.{PIECE};
+ghost use Rattle.streams.specs.declared.source.TheConstants.{PIECE};
 
-use crate::frames_giving::give_all;
-use crate::read_message::ReadMessage;
 use planar_code::Record;
-use ruled_lanes::{Giver, Taker, link};
+use ruled_lanes::{Closed, Giver, Taker, link};
 use std::alloc::Global;
 use std::snapshot::Snapshot;
 use std::sync::Wait;
-use std::thread;
 use std::thread::{Promise, Threads};
-use streams::{BatchFault, Frames, Mark, Tap, piece_buffer};
+use std::{mem, thread};
+use streams::{BatchFault, Frames, Mark, Receiver, Tap, piece_buffer, read_source};
+
+/// A message of a reader, which sends its records in order, one mark and one stop.
+#[derive(Drop)]
+pub enum ReadMessage {
+    /// Records that follow those of the earlier messages. The type of each guarantees that its bytes are one record.
+    Records(Vec<Record>),
+    /// The mark of the source, sent after all its records.
+    End(Mark),
+    /// No more messages follow.
+    Stop,
+}
+
+/// Sends the records of a source, those of one piece in one message.
+#[derive(Drop)]
+struct PieceGiver<'r, R> {
+    rt: &'r R,
+    giver: Giver<ReadMessage>,
+}
+
+impl<R: Wait> Receiver for PieceGiver<'_, R> {
+    type Refusal = Closed<ReadMessage>;
+
+    ghost received = { λ first records x y. (earlier : List (List ℕ))
+        → GiveRecords earlier (given x.giver) → GiveRecords (earlier ++ records) (given y.giver) };
+
+    ghost refused = { λ _ _ _ _ _. ⊤ };
+
+    ghost stays = { λ x y. GivesToSame x.giver y.giver };
+
+    ghost ready = { λ _. ⊤ };
+
+    ghost accepts = { λ _ _ _. ⊤ };
+
+    fn receive(
+        &mut self,
+        alloc: Global,
+        _first: u32,
+        records: &mut Vec<Record>,
+    ) -> Result<(), Closed<ReadMessage>> {
+        let batch = mem::replace(records, Vec::new(alloc));
+        if batch.is_empty() {
+            return Ok(());
+        }
+        self.giver.give(self.rt, ReadMessage::Records(batch))
+    }
+
+    ghost received_none = { λ x earlier give. subst (λ all. GiveRecords all (given x.giver)) (sym (append-nil earlier)) give };
+
+    ghost received_on = { λ records others x y z first then earlier give.
+        subst (λ all. GiveRecords all (given z.giver)) (append_assoc earlier records others) (then (earlier ++ records) (first earlier give)) };
+
+    ghost refused_on = { λ _ _ _ _ _ _ _ _. tt };
+
+    ghost accepts_on = { λ _ _ _ _ _ _. tt };
+
+    ghost stays_itself = { λ x. refl };
+
+    ghost stays_on = { λ x y z p q. q ∙ p };
+}
+
+/// Reads a source and sends its records in order, then one mark and one stop; returns the sending end.
+///
+/// It reads to the end of the source, to its failure, or to the first fault in its bytes. `None` if the link's other
+/// end was gone.
+pub fn give_all<R: Wait, T: Tap>(
+    rt: &R,
+    alloc: Global,
+    source: T,
+    mut buffer: Vec<u8>,
+    giver: Giver<ReadMessage>,
+) -> Option<Giver<ReadMessage>>
+    requires room { 0 < vec_len buffer }
+    requires none { given giver ≡ [] }
+    ensures { GivesBack (T.to_come source) (T.fails source) giver result }
+{
+    let mut gives = PieceGiver { rt, giver };
+    let mark = match read_source(source, alloc, buffer.as_mut_slice(), &mut gives) {
+        Ok(end) => end.mark,
+        Err(_) => return None,
+    };
+    let mut giver = gives.giver;
+    match giver.give(rt, ReadMessage::End(mark)) {
+        Ok(()) => {}
+        Err(_) => return None,
+    }
+    match giver.give(rt, ReadMessage::Stop) {
+        Ok(()) => Some(giver),
+        Err(_) => None,
+    }
+}
 
 /// What the thread of a reader promises of the giver that it returns.
 #[derive(Drop)]

@@ -1,18 +1,64 @@
-//! The lines of a run in each format. Files and places in a file are counted from 0 here, and from 1 in the text.
-ghost use Rattle.std.specs.Prelude.{◌≡◌, ◌+◌, ◌^◌, ◌≤◌, Ok as Drawn, IfOk, OnErr};
+//! The lines of a run in each format, and a line of text between the stage that makes it and the sink. Files and places
+//! in a file are counted from 0 here, and from 1 in the text.
+ghost use Rattle.std.specs.Prelude.{◌≡◌, IfOk, ◌+◌, ◌^◌, ◌≤◌, Ok as Drawn, OnErr};
 ghost use Rattle.ortho_rep.specs.Prices.{HasPrices};
 ghost use Rattle.reports.specs.declared.answer.Answer.{Answer};
 ghost use Rattle.reports.specs.declared.answer.Answer.TheVariants.{Laid};
-ghost use Rattle.reports.specs.declared.entry.Entry.{Entry};
+ghost use Rattle.reports.specs.declared.answer.Entry.{Entry};
 ghost use Rattle.reports.specs.Answered.{IsAnswer};
 ghost use Rattle.collector.specs.FormLines.{line_in, preamble_in, end_in};
 
-use crate::line::Line;
 use answers::ShapedPlane;
 use ortho_rep::Points;
 use reports::{Answer, Form, LaidGraph, ReportLine};
+use smallvec::SmallVec;
 use std::alloc::{AllocError, Global};
+use std::marker::Model;
 use streams::Mark;
+
+/// The number of bytes that a line holds without allocation: few lines of a report have more.
+const SHORT_TEXT: usize = 48;
+
+/// The text of one line. A short one is stored in the value itself, and a longer one on the heap.
+#[derive(Drop)]
+pub struct Line {
+    text: SmallVec<u8, SHORT_TEXT>,
+}
+
+impl Model for Line {
+    ghost use Rattle.std.specs.Prelude.{ℕ, List};
+
+    ghost Value = { List ℕ };
+
+    ghost view = { λ l. l.text.items };
+}
+
+impl Line {
+    /// A line with this text, which is on the heap.
+    pub(crate) fn of(text: Vec<u8>) -> Line
+        ensures { result ≡ text.items }
+    {
+        Line {
+            text: SmallVec::from_vec(text),
+        }
+    }
+
+    /// The bytes of the text.
+    pub fn as_slice(&self) -> &[u8]
+        ensures value { result.now ≡ self.now }
+    {
+        self.text.as_slice()
+    }
+
+    /// A copy of `text`. It allocates only if the text is not short.
+    pub(crate) fn copied(alloc: Global, text: &[u8]) -> Result<Line, AllocError>
+        ensures { IfOk result (λ line. line ≡ text.now) }
+    {
+        Ok(Line {
+            text: SmallVec::from_slice(alloc, text)?,
+        })
+    }
+}
 
 /// The output line of the answer to the record at this place of this file, in this format. A short line of a report is
 /// not allocated.

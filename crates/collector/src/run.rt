@@ -1,19 +1,129 @@
-//! A run over lanes.
-ghost use Rattle.std.specs.Prelude.{◌≡◌, ◌≤◌, ◌<◌, ◌⊎◌, ◌↔◌, Err, IfOk};
-ghost use Rattle.ruled_lanes.specs.declared.limits.TheConstants.{LANES, MAX_CAPACITY};
-ghost use Rattle.reports.specs.declared.limits.TheConstants.{MAX_FILES};
+//! A run over lanes that gives books, and one on the caller's thread, which reads and answers one file after another.
+ghost use Rattle.std.specs.Prelude.{⊤, map, ◌≡◌, ◌<◌, ◌≤◌, ◌⊎◌, ◌↔◌, Err, IfOk, IfErr, length};
+ghost use Rattle.lanes.specs.Notes.{Item};
+ghost use Rattle.reports.specs.Abouts.{about_of};
+ghost use Rattle.reports.specs.declared.book.TheConstants.{MAX_FILES};
+ghost use Rattle.reports.specs.Books.{IsBook};
 ghost use Rattle.reports.specs.AllBooks.{AreAllBooks};
 ghost use Rattle.collector.specs.DrawnBooks.{AreDrawnBooks};
+ghost use Rattle.ruled_lanes.specs.declared.channel.TheConstants.{LANES, MAX_CAPACITY};
 
-use answers::{Answering, KeepEntries};
+use answers::{Answering, KeepEntries, answer};
 use common::{Choice, DrawingKind};
-use lanes::{Drafts, Gate, Opener, Pauses, Run, RunFault, run_lanes};
-use reports::{Batch, Entry, MAX_FILES, books_of};
+use lanes::{Drafts, Gate, Opener, Pauses, RecordSink, Run, RunFault, read_file, run_lanes};
+use planar_code::Record;
+use reports::{Batch, Book, Entry, MAX_FILES, books_of};
 use ruled_lanes::LANES;
-use std::alloc::Global;
+use std::alloc::{AllocError, Global};
 use std::sync::Wait;
 use std::thread::Threads;
-use streams::BatchFault;
+use streams::{BatchFault, piece_buffer};
+
+/// A `RecordSink` that answers each record and keeps the entries, in order.
+#[derive(Drop)]
+pub struct Entries {
+    pub entries: Vec<Entry>,
+}
+
+impl RecordSink for Entries {
+    type Refusal = AllocError;
+
+    ghost kept = { λ e. map (λ entry. Item (about_of entry)) e.entries.items };
+
+    ghost stays = { λ _ _. ⊤ };
+
+    ghost accepts = { λ _ _ _ _. ⊤ };
+
+    fn keep(
+        &mut self,
+        alloc: Global,
+        file: u32,
+        ordinal: u32,
+        rec: Record,
+        choice: Choice,
+    ) -> Result<(), AllocError> {
+        self.entries
+            .push(answer(alloc, file, ordinal, rec, choice))?;
+        Ok(())
+    }
+
+    fn pass_on(&mut self, _file: u32) -> Result<(), AllocError> {
+        Ok(())
+    }
+
+    ghost accepts_on = { λ _ _ _ _ _ _ _. tt };
+
+    ghost stays_itself = { λ _. tt };
+
+    ghost stays_on = { λ _ _ _ _ _. tt };
+}
+
+/// Answers all records of the first `files` files on this thread; returns a book for each file.
+///
+/// Each record is answered under this choice of the outer face. The mark of a book says how its file ended, also if it
+/// could not be opened, failed, or memory ran out.
+///
+/// # Errors
+///
+/// `TooManyFiles` exactly if there are more than `MAX_FILES`; `Memory` if there was no memory for the buffer that files
+/// are read into or for the books. There is no other error.
+pub fn run_plain<O: Opener>(
+    alloc: Global,
+    opener: &O,
+    files: u32,
+    choice: Choice,
+) -> Result<Batch, BatchFault>
+    ensures books { IfOk result (AreAllBooks choice (O.meaning opener.now) files) }
+    ensures drawn { IfOk result AreDrawnBooks }
+    ensures too_many { (MAX_FILES < files) ↔ (result ≡ Err BatchFault.TooManyFiles) }
+    ensures no_other { IfErr result (λ fault.
+        (fault ≡ BatchFault.TooManyFiles) ⊎ (fault ≡ BatchFault.Memory)) }
+{
+    if files > MAX_FILES {
+        return Err(BatchFault::TooManyFiles);
+    }
+    match plain_books(alloc, opener, files, choice) {
+        Ok(batch) => Ok(batch),
+        Err(AllocError) => Err(BatchFault::Memory),
+    }
+}
+
+/// The books of the first files.
+fn plain_books<O: Opener>(
+    alloc: Global,
+    opener: &O,
+    files: u32,
+    choice: Choice,
+) -> Result<Batch, AllocError>
+    requires { files ≤ MAX_FILES }
+    ensures { IfOk result (AreAllBooks choice (O.meaning opener.now) files) }
+{
+    let mut buffer = piece_buffer(alloc)?;
+    let mut books = Vec::with_capacity(alloc, files as usize)?;
+    for file in 0..files {
+        books.push(read_book(alloc, opener, file, choice, buffer.as_mut_slice())?)?;
+    }
+    Ok(Batch::new(books))
+}
+
+/// The book of one file.
+fn read_book<O: Opener>(
+    alloc: Global,
+    opener: &O,
+    file: u32,
+    choice: Choice,
+    buffer: &mut [u8],
+) -> Result<Book, AllocError>
+    requires { 0 < length buffer.old }
+    ensures book { IfOk result (IsBook choice (O.meaning opener.now file) file) }
+    ensures buffer { length buffer.new ≡ length buffer.old }
+{
+    let mut entries = Entries {
+        entries: Vec::new(alloc),
+    };
+    let end = read_file(opener, alloc, file, choice, buffer, &mut entries)?;
+    Ok(Book::new(entries.entries, end.mark))
+}
 
 /// The maximum number of lanes of a run.
 pub const MAX_LANES: u32 = LANES;

@@ -1,8 +1,8 @@
 -- A text names one range at most.
 use Rattle.std.proofs.Common.{◌≡◌, ◌∙◌, ◌⊎◌, inl, inr, ℕ, Bool, true, false, List, [], Bor, Option, None, Some, IfNone, option_map, unwrap_or, refl, ap, sym, subst, true≢false, arith}
-use Rattle.graph_facts.specs.declared.range.Range.{Range}
-use Rattle.graph_facts.specs.declared.range.RangeFault.{RangeFault}
-use Rattle.graph_facts.specs.declared.range.RangeFault.TheVariants.{Malformed, Empty}
+use Rattle.graph_facts.specs.declared.selection.Range.{Range}
+use Rattle.graph_facts.specs.declared.selection.RangeFault.{RangeFault}
+use Rattle.graph_facts.specs.declared.selection.RangeFault.TheVariants.{Malformed, Empty}
 use Rattle.graph_facts.specs.Ranges.{IsNumber, IsEnd, NamesEnds, IsRangeText, IsRangeFault, is_up_to, has_numbers}
 use Rattle.command_line.specs.Requests.{IsRangeOf}
 

@@ -1,11 +1,11 @@
 -- The fault of the program for that of a run.
-use Rattle.streams.specs.declared.faults.BatchFault.TheVariants as batch
-use Rattle.streams.specs.declared.faults.WriteFault.TheVariants as write
+use Rattle.streams.specs.declared.output.BatchFault.TheVariants as batch
+use Rattle.streams.specs.declared.output.WriteFault.TheVariants as write
 use Rattle.streams.specs.declared.output.SinkFault.{SinkFault}
-use Rattle.lanes.specs.declared.fault.RunFault.{RunFault}
-use Rattle.lanes.specs.declared.fault.RunFault.TheVariants.{Memory, LaneLost, Thread, Refused}
-use Rattle.command_line.specs.declared.faults.Fault.{Fault}
-use Rattle.command_line.specs.declared.faults.Fault.TheVariants.{Run, Write}
+use Rattle.lanes.specs.declared.gathering.RunFault.{RunFault}
+use Rattle.lanes.specs.declared.gathering.RunFault.TheVariants.{Memory, LaneLost, Thread, Refused}
+use Rattle.command_line.specs.declared.fault.Fault.{Fault}
+use Rattle.command_line.specs.declared.fault.Fault.TheVariants.{Run, Write}
 
 -- the fault of the program if a run of lanes failed whose consumer writes to a sink
 abbrev pub fault_of : RunFault SinkFault → Fault

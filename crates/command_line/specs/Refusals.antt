@@ -1,8 +1,8 @@
 -- The faults by which a request is refused.
 use Rattle.std.specs.Prelude.{⊤}
-use Rattle.streams.specs.declared.faults.BatchFault.TheVariants.{TooManyFiles, BadLanes}
-use Rattle.command_line.specs.declared.faults.Fault.{Fault}
-use Rattle.command_line.specs.declared.faults.Fault.TheVariants.{Memory, NotText, BadWaiting, Terminal, Run, Write}
+use Rattle.streams.specs.declared.output.BatchFault.TheVariants.{TooManyFiles, BadLanes}
+use Rattle.command_line.specs.declared.fault.Fault.{Fault}
+use Rattle.command_line.specs.declared.fault.Fault.TheVariants.{Memory, NotText, BadWaiting, Terminal, Run, Write}
 
 -- the request is refused
 abbrev pub IsMisuse : Fault → Type 0

@@ -4,11 +4,11 @@ use Rattle.std.specs.List.{count_by, starts_with}
 use Rattle.std.specs.Option.{option_map_or}
 use Rattle.std.specs.Str.Parse.{ParsesUnsigned}
 use Rattle.std.specs.declared.alloc.Global.{Global}
-use Rattle.common.specs.declared.choice.Choice.{Choice}
-use Rattle.streams.specs.declared.form.Form.{Form}
-use Rattle.common.specs.declared.drawing_kind.DrawingKind.{DrawingKind}
-use Rattle.common.specs.declared.drawing_kind.DrawingKind.TheVariants.{Quick, Short}
-use Rattle.reports.specs.declared.style.Style.{Style}
+use Rattle.common.specs.declared.parameters.Choice.{Choice}
+use Rattle.streams.specs.declared.frames.Form.{Form}
+use Rattle.common.specs.declared.parameters.DrawingKind.{DrawingKind}
+use Rattle.common.specs.declared.parameters.DrawingKind.TheVariants.{Quick, Short}
+use Rattle.reports.specs.declared.book.Style.{Style}
 use Rattle.named_sources.specs.Naming.{is_input}
 use Rattle.command_line.specs.declared.reading.Role.{Role}
 use Rattle.command_line.specs.declared.reading.Role.TheVariants.{Command, Any, Value, File}
@@ -21,10 +21,10 @@ use Rattle.command_line.specs.declared.reading.Keyword.TheVariants as keyword
 use Rattle.command_line.specs.declared.request.Request.{Request}
 use Rattle.command_line.specs.declared.request.RunRequest.{RunRequest}
 use Rattle.command_line.specs.declared.request.Request.TheVariants.{Frames, Layout, Check, Pick, Count}
-use Rattle.graph_facts.specs.declared.range.Range.{Range}
-use Rattle.graph_facts.specs.declared.selecting.RuleCondition.{RuleCondition}
-use Rattle.graph_facts.specs.declared.selecting.Selection.{Selection}
-use Rattle.graph_facts.specs.declared.combination.Columns.{Columns}
+use Rattle.graph_facts.specs.declared.selection.Range.{Range}
+use Rattle.graph_facts.specs.declared.selection.RuleCondition.{RuleCondition}
+use Rattle.graph_facts.specs.declared.selection.Selection.{Selection}
+use Rattle.graph_facts.specs.declared.table.Columns.{Columns}
 use Rattle.graph_facts.specs.Ranges.{IsRangeText}
 use Rattle.graph_facts.specs.Words.{IsRuleText, columns_in, no_columns}
 

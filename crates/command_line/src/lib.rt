@@ -1,9 +1,7 @@
 //! The command line: parsing of arguments, progress output, and the message and exit status of a fault.
 #![tactic(auto)]
 
-mod descriptions;
-mod fault_line;
-mod faults;
+mod fault;
 mod help;
 mod progress;
 mod reading;
@@ -11,8 +9,7 @@ mod request;
 mod selecting;
 mod terminal;
 
-pub use fault_line::write_fault;
-pub use faults::Fault;
+pub use fault::{Fault, write_fault};
 pub use help::help_text;
 pub use progress::{Console, Meter, Progress};
 pub use reading::{Keyword, asks};

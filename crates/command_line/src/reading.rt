@@ -1,10 +1,9 @@
 //! The meaning of the arguments of a command line, one after another.
 ghost use Rattle.std.specs.Prelude.{◌≡◌, ◌<◌, ◌↔◌, IfOk, map, option_map, true};
 ghost use Rattle.std.specs.List.{count_by};
-ghost use Rattle.named_sources.specs.Naming as naming;
-ghost use Rattle.command_line.specs.Requests.{role_after, setting_of, asks, asks_in, files_in, given_after, has_prefix, is_file, is_help, prefix_of, setting_text, setting_text_in};
-ghost use Rattle.command_line.specs.Requests.{AreValid, fit_from, fits, is_condition, is_drawing, is_of, is_option, is_option_of, is_outer, is_run_option, is_use, may_end, uses_in};
+ghost use Rattle.command_line.specs.Requests.{role_after, setting_of, asks, asks_in, files_in, given_after, has_prefix, is_file, is_help, prefix_of, setting_text, setting_text_in, AreValid, fit_from, fits, is_condition, is_drawing, is_of, is_option, is_option_of, is_outer, is_run_option, is_use, may_end, uses_in};
 ghost use Rattle.command_line.specs.declared.reading.Role.{Role};
+ghost use Rattle.named_sources.specs.Naming as naming;
 
 use named_sources::is_input;
 use std::alloc::{AllocError, Global};

@@ -1,15 +1,15 @@
 //! Parsing of the command line.
 ghost use Rattle.std.specs.Prelude.{◌≡◌, ◌≢◌, ◌<◌, ◌≤◌, ◌↔◌, ◌||◌, ℕ, Err, IfErr, IfOk, IfNone, IfSome, length, map, option_map, true, false};
 ghost use Rattle.std.specs.List.{count_by};
-ghost use Rattle.common.specs.declared.choice.Choice.{Choice};
-ghost use Rattle.streams.specs.declared.form.Form.{Form};
+ghost use Rattle.common.specs.declared.parameters.Choice.{Choice};
+ghost use Rattle.streams.specs.declared.frames.Form.{Form};
 ghost use Rattle.command_line.specs.declared.reading.Keyword.{Keyword};
 ghost use Rattle.command_line.specs.declared.request.ParseFault.{ParseFault};
 ghost use Rattle.command_line.specs.declared.request.RunRequest.{RunRequest};
-ghost use Rattle.named_sources.specs.Naming as naming;
 ghost use Rattle.command_line.specs.Requests.{AreValid, AsksNothing, AsksRun, HasWaiting, IsAskedBy, IsNumberOf, IsWaiting, IsWaitingIn, asks_in, drawing_in, files_in};
+ghost use Rattle.named_sources.specs.Naming as naming;
 
-use crate::descriptions::describe;
+use crate::help::describe;
 use crate::progress::Progress;
 use crate::reading::{
     Keyword, Setting, are_valid, asks, files_of, inputs_among, setting_text, uses,

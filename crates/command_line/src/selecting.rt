@@ -1,9 +1,9 @@
 //! The graphs that a command line selects, and the columns of their table.
 ghost use Rattle.std.specs.Prelude.{◌≡◌, Option, IfNone, IfSome, option_map};
-ghost use Rattle.graph_facts.specs.declared.range.Range.{Range};
-ghost use Rattle.graph_facts.specs.declared.selecting.Selection.{Selection};
-ghost use Rattle.command_line.specs.Requests as requests;
+ghost use Rattle.graph_facts.specs.declared.selection.Range.{Range};
+ghost use Rattle.graph_facts.specs.declared.selection.Selection.{Selection};
 ghost use Rattle.command_line.specs.Requests.{IsRangeOf, IsSelectedBy};
+ghost use Rattle.command_line.specs.Requests as requests;
 
 use crate::reading::{Keyword, Setting, asks, setting_text};
 use graph_facts::{Columns, Conditions, Range, RuleCondition, Selection};

@@ -1,12 +1,12 @@
 -- What was written where a run came to nothing.
 use Rattle.std.proofs.Common.{◌≡◌, ℕ, List, Option, inl, inr, subst}
-use Rattle.common.specs.declared.choice.Choice.{Choice}
+use Rattle.common.specs.declared.parameters.Choice.{Choice}
 use Rattle.lanes.specs.Notes.{Note}
 use Rattle.lanes.specs.Opening.{Meaning}
-use Rattle.lanes.specs.declared.fault.RunFault.{RunFault}
+use Rattle.lanes.specs.declared.gathering.RunFault.{RunFault}
 use Rattle.lanes.specs.Faults.{IsOfLanes, HoldsOnFault}
-use Rattle.streams.specs.declared.form.Form.{Form}
-use Rattle.collector.specs.declared.run_lines.Lines.{Lines}
+use Rattle.streams.specs.declared.frames.Form.{Form}
+use Rattle.collector.specs.declared.texts.Lines.{Lines}
 use Rattle.collector.specs.Holding.{form_of, choice_of, files_of, ArePartialNotes, ArePartialLines}
 use Rattle.collector.specs.Whole.{IsBegun}
 use Rattle.collector.proofs.Ordering.{begun_left_off, begun_none}

@@ -1,22 +1,22 @@
 -- The status of what was refused or failed.
 use Rattle.std.proofs.Common.{rules, ◌≡◌, ◌<◌, ◌≤◌, ◌⊎◌, ◌↔◌, ℕ, Bool, ltb, Decides, ⊎_elim, true, false, List, Option, Result, Err, IfOk, IfErr, OnErr, arith, inl, inr, refl, ap, subst, sym, ◌∙◌, true≢false}
 use Rattle.std.proofs.lemmas.Bool.Decides.{Decides-ltb}
-use Rattle.streams.specs.declared.faults.BatchFault.TheVariants.{TooManyFiles, BadLanes}
-use Rattle.streams.specs.declared.faults.WriteFault.{WriteFault}
-use Rattle.streams.specs.declared.faults.WriteFault.TheVariants as write
+use Rattle.streams.specs.declared.output.BatchFault.TheVariants.{TooManyFiles, BadLanes}
+use Rattle.streams.specs.declared.output.WriteFault.{WriteFault}
+use Rattle.streams.specs.declared.output.WriteFault.TheVariants as write
 use Rattle.streams.specs.declared.output.SinkFault.{SinkFault}
-use Rattle.lanes.specs.declared.fault.RunFault.{RunFault}
-use Rattle.lanes.specs.declared.fault.RunFault.TheVariants.{Memory, LaneLost, Thread, Refused}
+use Rattle.lanes.specs.declared.gathering.RunFault.{RunFault}
+use Rattle.lanes.specs.declared.gathering.RunFault.TheVariants.{Memory, LaneLost, Thread, Refused}
 use Rattle.lanes.specs.Faults.{IsOfLanes}
-use Rattle.common.specs.declared.choice.Choice.{Choice}
+use Rattle.common.specs.declared.parameters.Choice.{Choice}
 use Rattle.lanes.specs.Opening.{Meaning}
-use Rattle.streams.specs.declared.form.Form.{Form}
-use Rattle.ruled_lanes.specs.declared.limits.TheConstants.{LANES}
-use Rattle.reports.specs.declared.limits.TheConstants.{MAX_FILES}
+use Rattle.streams.specs.declared.frames.Form.{Form}
+use Rattle.ruled_lanes.specs.declared.channel.TheConstants.{LANES}
+use Rattle.reports.specs.declared.book.TheConstants.{MAX_FILES}
 use Rattle.collector.specs.Whole.{IsAllWritten, IsBegun}
 use Rattle.collector.proofs.Ordering.{begun_none}
 use Rattle.file_order.specs.Writing.{GivesUp}
-use Rattle.command_line.specs.declared.faults.Fault.{Fault}
+use Rattle.command_line.specs.declared.fault.Fault.{Fault}
 use Rattle.command_line.specs.Faults.{fault_of}
 use Rattle.command_line.specs.Refusals.{IsMisuse}
 use Rattle.commands.specs.Statuses.{IsTooMuch}

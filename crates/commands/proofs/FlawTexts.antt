@@ -3,15 +3,15 @@ use Rattle.std.proofs.Common.{◌≡◌, ◌≢◌, ◌++◌, ◌+◌, ◌<◌, 
 use Rattle.std.proofs.lemmas.List.{at_drop_more, at_drop_all, drop_all, drop_more}
 use Rattle.std.specs.Io.KnownBytes.{Appends}
 use Rattle.std.specs.List.{concat}
-use Rattle.planar_code.specs.declared.ending.Ending.TheVariants as ending
+use Rattle.planar_code.specs.declared.partial_record.Ending.TheVariants as ending
 use Rattle.streams.specs.declared.frames.Mark.{Mark}
 use Rattle.streams.specs.declared.frames.Mark.TheVariants.{Ended, Io}
-use Rattle.streams.specs.declared.faults.WriteFault.{WriteFault}
-use Rattle.streams.specs.declared.faults.WriteFault.TheVariants.{Memory, Write}
+use Rattle.streams.specs.declared.output.WriteFault.{WriteFault}
+use Rattle.streams.specs.declared.output.WriteFault.TheVariants.{Memory, Write}
 use Rattle.streams.specs.Sink.{Writes}
 use Rattle.streams.specs.Text.{word_of}
 use Rattle.streams.proofs.Sinks.{added_both}
-use Rattle.collector.specs.declared.flaws.Flaws.{Flaws}
+use Rattle.collector.specs.declared.find_facts.Flaws.{Flaws}
 use Rattle.named_sources.specs.Reasons.{IsWhy}
 use Rattle.commands.specs.FlawLines.{AreFlawLines, incomplete_line, lines_of_file, mark_line, memory_line, pieces_text}
 

@@ -1,11 +1,11 @@
 -- Runs over the files that a request names.
 use Rattle.std.proofs.Common.{◌≡◌, ◌<◌, ◌≤◌, ◌∙◌, ℕ, List, Bor, ap, arith, inl, inr, subst}
-use Rattle.common.specs.declared.choice.Choice.{Choice}
+use Rattle.common.specs.declared.parameters.Choice.{Choice}
 use Rattle.lanes.specs.Opening.{Meaning}
 use Rattle.named_sources.specs.Naming.{meanings_in}
-use Rattle.named_sources.specs.declared.file_opener.FileOpener.{FileOpener}
-use Rattle.reports.specs.declared.limits.TheConstants.{MAX_FILES}
-use Rattle.ruled_lanes.specs.declared.limits.TheConstants.{LANES}
+use Rattle.named_sources.specs.declared.source.FileOpener.{FileOpener}
+use Rattle.reports.specs.declared.book.TheConstants.{MAX_FILES}
+use Rattle.ruled_lanes.specs.declared.channel.TheConstants.{LANES}
 use Rattle.commands.specs.Statuses.{IsTooMuch}
 
 -- what holds of a run holds of what was asked for, if the run has its choice, its files and their number

@@ -3,7 +3,7 @@ use Rattle.std.proofs.Common.{◌≡◌, ◌≢◌, ◌+◌, ◌↔◌, ℕ, Boo
 use Rattle.std.specs.Prelude.{count_by}
 use Rattle.std.proofs.lemmas.List.Elements.{All-nil, All-cons, All-head, All-tail}
 use Rattle.std.proofs.lemmas.List.Sums.{sum_by-cons}
-use Rattle.graph_facts.specs.declared.facts.Facts.{Facts}
+use Rattle.graph_facts.specs.declared.selection.Facts.{Facts}
 use Rattle.collector.specs.FactBooks.{FactBook, FactEntry, IsFlawless, IsFlawlessFacts, flaws_of, unanswered}
 
 some_facts : (facts : Option Facts) (n : ℕ) → cond (is_none facts) 1 0 + n ≡ 0 → facts ≢ None

@@ -1,11 +1,11 @@
 -- The faults of runs that pick and count.
 use Rattle.std.proofs.Common.{◌≡◌, ◌↔◌, ℕ, Bool, List, Option, Result, Err, IfErr, subst, sym}
-use Rattle.streams.specs.declared.faults.WriteFault.{WriteFault}
-use Rattle.streams.specs.declared.faults.WriteFault.TheVariants.{Memory, Write}
+use Rattle.streams.specs.declared.output.WriteFault.{WriteFault}
+use Rattle.streams.specs.declared.output.WriteFault.TheVariants.{Memory, Write}
 use Rattle.streams.specs.declared.output.SinkFault.{SinkFault}
 use Rattle.streams.specs.Sink.{AppendsPrefix, Writes}
-use Rattle.lanes.specs.declared.fault.RunFault.{RunFault}
-use Rattle.command_line.specs.declared.faults.Fault.{Fault}
+use Rattle.lanes.specs.declared.gathering.RunFault.{RunFault}
+use Rattle.command_line.specs.declared.fault.Fault.{Fault}
 use Rattle.command_line.specs.Faults.{fault_of}
 use Rattle.command_line.specs.Refusals.{IsMisuse}
 use Rattle.commands.proofs.FaultStatus.{asked_well}

@@ -5,7 +5,7 @@ use Rattle.lanes.specs.Opening.{Meaning}
 use Rattle.named_sources.specs.Naming.{meanings_in}
 use Rattle.command_line.specs.declared.request.PickRequest.{PickRequest}
 use Rattle.command_line.specs.declared.request.CountRequest.{CountRequest}
-use Rattle.collector.specs.declared.flaws.Flaws.{Flaws}
+use Rattle.collector.specs.declared.find_facts.Flaws.{Flaws}
 use Rattle.collector.specs.FactBooks.{FactBook, IsFlawless, IsFlawlessFacts, flaws_of}
 use Rattle.collector.specs.Picked.{IsAllPicked}
 use Rattle.commands.proofs.NoFlaws.{flawless_flaws}

@@ -1,8 +1,8 @@
 -- If one request that arguments ask for is refusable, each is.
 use Rattle.std.proofs.Common.{◌≡◌, ◌∙◌, ◌<◌, ◌≤◌, ◌⊎◌, ◌↔◌, ℕ, Bool, true, false, ltb, List, String, Global, Bor, Result, Ok, Err, length, map, inl, inr, ⊎_elim, ap, sym, subst, refl, codes, bytes_eq, true≢false}
 use Rattle.std.proofs.lemmas.Bool.Decides.{Decides-ltb}
-use Rattle.streams.specs.declared.faults.BatchFault.TheVariants.{TooManyFiles, BadLanes}
-use Rattle.command_line.specs.declared.faults.Fault.{Fault}
+use Rattle.streams.specs.declared.output.BatchFault.TheVariants.{TooManyFiles, BadLanes}
+use Rattle.command_line.specs.declared.fault.Fault.{Fault}
 use Rattle.command_line.specs.Refusals.{IsMisuse}
 use Rattle.std.proofs.lemmas.List.{length-map}
 use Rattle.std.specs.Prelude.{vec_len}
@@ -13,8 +13,8 @@ use Rattle.command_line.specs.Requests.{AsksRun, IsAskedBy, asks_in, setting_tex
 use Rattle.command_line.specs.declared.reading.Setting.TheVariants as setting
 use Rattle.command_line.specs.declared.reading.Keyword.TheVariants as keyword
 use Rattle.command_line.proofs.Asking.{name_of, asked_begins, one_beginning, pick_begins, same_number, version_begins}
-use Rattle.reports.specs.declared.limits.TheConstants.{MAX_FILES}
-use Rattle.ruled_lanes.specs.declared.limits.TheConstants.{LANES}
+use Rattle.reports.specs.declared.book.TheConstants.{MAX_FILES}
+use Rattle.ruled_lanes.specs.declared.channel.TheConstants.{LANES}
 use Rattle.commands.proofs.FaultStatus.{few_or_many}
 use Rattle.commands.specs.Statuses.{IsOfRecords, IsRefusable, IsTooMuch}
 

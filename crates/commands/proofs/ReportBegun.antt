@@ -1,7 +1,7 @@
 -- A report that was not written to its end.
 use Rattle.std.proofs.Common.{ℕ, Bool, List, Option, Result, Ok, Err, OnErr}
-use Rattle.streams.specs.declared.faults.WriteFault.{WriteFault}
-use Rattle.streams.specs.declared.faults.WriteFault.TheVariants.{Memory, Write}
+use Rattle.streams.specs.declared.output.WriteFault.{WriteFault}
+use Rattle.streams.specs.declared.output.WriteFault.TheVariants.{Memory, Write}
 use Rattle.streams.specs.Sink.{AppendsPrefix, Writes}
 
 -- what holds without an answer holds of one that is a fault

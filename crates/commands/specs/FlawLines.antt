@@ -3,12 +3,12 @@ use Rattle.std.specs.Prelude.{◌≡◌, ◌++◌, ◌+◌, ℕ, nat_eq, List, [
 use Rattle.std.specs.List.{concat}
 use Rattle.std.specs.Borrow.{Bor}
 use Rattle.std.specs.Io.KnownBytes.{Appends}
-use Rattle.planar_code.specs.declared.ending.Ending.{Ending}
-use Rattle.planar_code.specs.declared.ending.Ending.TheVariants.{Complete}
+use Rattle.planar_code.specs.declared.partial_record.Ending.{Ending}
+use Rattle.planar_code.specs.declared.partial_record.Ending.TheVariants.{Complete}
 use Rattle.streams.specs.declared.frames.Mark.{Mark}
 use Rattle.streams.specs.declared.frames.Mark.TheVariants.{Ended, Io}
 use Rattle.streams.specs.Text.{word_of}
-use Rattle.collector.specs.declared.flaws.Flaws.{Flaws}
+use Rattle.collector.specs.declared.find_facts.Flaws.{Flaws}
 use Rattle.named_sources.specs.Reasons.{IsWhy}
 
 -- texts one after another

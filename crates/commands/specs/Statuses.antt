@@ -3,17 +3,17 @@ use Rattle.std.specs.Prelude.{◌≡◌, ◌≢◌, ◌<◌, ◌≤◌, ◌↔�
 use Rattle.std.specs.Borrow.{Bor}
 use Rattle.std.specs.Io.KnownBytes.{Appends}
 use Rattle.std.specs.declared.alloc.Global.{Global}
-use Rattle.planar_code.specs.declared.ending.Ending.{Ending}
+use Rattle.planar_code.specs.declared.partial_record.Ending.{Ending}
 use Rattle.streams.specs.declared.frames.Mark.{Mark}
 use Rattle.streams.specs.FramesModel.{FramesModel}
 use Rattle.streams.specs.Marks.{IsMarked}
 use Rattle.streams.specs.Sink.{AppendsPrefix}
 use Rattle.streams.specs.Text.{frames_text}
-use Rattle.common.specs.declared.choice.Choice.{Choice}
+use Rattle.common.specs.declared.parameters.Choice.{Choice}
 use Rattle.lanes.specs.Opening.{Meaning, known_of, fails_of}
 use Rattle.reports.specs.Books.{BookModel}
 use Rattle.reports.specs.AllBooks.{AreAllBooks}
-use Rattle.streams.specs.declared.form.Form.{Form}
+use Rattle.streams.specs.declared.frames.Form.{Form}
 use Rattle.reports.specs.Forms.{text_in}
 use Rattle.reports.specs.FlawlessBooks.{IsFlawlessBook}
 use Rattle.checking.specs.Runs.{IsTextOfVerdicts, IsBegunTextOfVerdicts}
@@ -23,16 +23,16 @@ use Rattle.named_sources.specs.Naming.{meanings_in}
 use Rattle.command_line.specs.Requests.{IsAskedBy, AsksCheck, asks_in}
 use Rattle.command_line.specs.Helps.{help_in}
 use Rattle.command_line.specs.declared.reading.Keyword.{Keyword}
-use Rattle.reports.specs.declared.limits.TheConstants.{MAX_FILES}
-use Rattle.ruled_lanes.specs.declared.limits.TheConstants.{LANES}
+use Rattle.reports.specs.declared.book.TheConstants.{MAX_FILES}
+use Rattle.ruled_lanes.specs.declared.channel.TheConstants.{LANES}
 use Rattle.command_line.specs.declared.request.Request.{Request}
 use Rattle.command_line.specs.declared.request.Request.TheVariants.{Frames, Layout, Check, Pick, Count}
 use Rattle.command_line.specs.declared.request.CheckRequest.{CheckRequest}
 use Rattle.command_line.specs.declared.request.PickRequest.{PickRequest}
 use Rattle.command_line.specs.declared.request.CountRequest.{CountRequest}
-use Rattle.graph_facts.specs.declared.combination.Columns.{Columns}
-use Rattle.graph_facts.specs.declared.selecting.Selection.{Selection}
-use Rattle.collector.specs.declared.flaws.Flaws.{Flaws}
+use Rattle.graph_facts.specs.declared.table.Columns.{Columns}
+use Rattle.graph_facts.specs.declared.selection.Selection.{Selection}
+use Rattle.collector.specs.declared.find_facts.Flaws.{Flaws}
 use Rattle.collector.specs.FactBooks.{FactBook, AreAllFactBooks, IsFlawlessFacts, flaws_of}
 use Rattle.collector.specs.Picked.{IsAllPicked, IsPickBegun, picked_text, chosen_in}
 use Rattle.collector.specs.Counted.{IsAllCounted}

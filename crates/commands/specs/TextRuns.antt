@@ -1,17 +1,17 @@
 -- What a streaming run writes, beside `IsBegun` of `printing`.
 use Rattle.std.specs.Prelude.{◌≡◌, ◌<◌, ◌≤◌, ◌⊎◌, ◌↔◌, ℕ, Bool, true, false, List, Option, Result, Err, IfOk, IfErr, OnErr, ⊤}
-use Rattle.common.specs.declared.choice.Choice.{Choice}
-use Rattle.ruled_lanes.specs.declared.limits.TheConstants.{LANES}
-use Rattle.streams.specs.declared.faults.BatchFault.TheVariants.{TooManyFiles, BadLanes}
-use Rattle.streams.specs.declared.faults.WriteFault.TheVariants as write
+use Rattle.common.specs.declared.parameters.Choice.{Choice}
+use Rattle.ruled_lanes.specs.declared.channel.TheConstants.{LANES}
+use Rattle.streams.specs.declared.output.BatchFault.TheVariants.{TooManyFiles, BadLanes}
+use Rattle.streams.specs.declared.output.WriteFault.TheVariants as write
 use Rattle.lanes.specs.Opening.{Meaning}
-use Rattle.reports.specs.declared.limits.TheConstants.{MAX_FILES}
-use Rattle.streams.specs.declared.form.Form.{Form}
+use Rattle.reports.specs.declared.book.TheConstants.{MAX_FILES}
+use Rattle.streams.specs.declared.frames.Form.{Form}
 pub use Rattle.collector.specs.Whole.{IsBegun}
 pub use Rattle.file_order.specs.Writing.{HasFailedBy}
 use Rattle.collector.specs.Whole.{IsAllWritten}
-use Rattle.command_line.specs.declared.faults.Fault.{Fault}
-use Rattle.command_line.specs.declared.faults.Fault.TheVariants.{Run, Write}
+use Rattle.command_line.specs.declared.fault.Fault.{Fault}
+use Rattle.command_line.specs.declared.fault.Fault.TheVariants.{Run, Write}
 use Rattle.command_line.specs.Refusals.{IsMisuse}
 
 -- the run failed, or the sink did

@@ -1,19 +1,176 @@
-//! The command `layout`.
-ghost use Rattle.std.specs.Prelude.{◌≡◌, ◌<◌, ◌≤◌, ◌⊎◌, ◌↔◌, false, Err, IfOk, IfErr, OnErr, vec_len};
-ghost use Rattle.streams.specs.declared.faults.BatchFault.{BatchFault};
+//! The command `layout`: a run whose output is streamed.
+ghost use Rattle.std.specs.Prelude.{◌≡◌, ◌<◌, ◌≤◌, ◌⊎◌, List, [], false, IfOk, IfErr, OnOk, OnErr, ◌↔◌, Err, vec_len};
+ghost use Rattle.ruled_lanes.specs.declared.channel.TheConstants.{LANES, MAX_CAPACITY};
+ghost use Rattle.reports.specs.declared.book.TheConstants.{MAX_FILES};
+ghost use Rattle.lanes.specs.Notes.{Note};
+ghost use Rattle.lanes.specs.Files.{AreToldWhole};
+ghost use Rattle.lanes.specs.Faults.{HoldsOnFault};
+ghost use Rattle.lanes.specs.Accepting.{AcceptsFiles};
+ghost use Rattle.collector.specs.Whole.{IsAllWritten, IsBegun};
+ghost use Rattle.commands.specs.TextRuns.{HasFailedBy, IsStreamed};
+ghost use Rattle.streams.specs.declared.output.BatchFault.{BatchFault};
 ghost use Rattle.command_line.specs.Refusals.{IsMisuse};
-ghost use Rattle.ruled_lanes.specs.declared.limits.TheConstants.{LANES};
-ghost use Rattle.reports.specs.declared.limits.TheConstants.{MAX_FILES};
 ghost use Rattle.named_sources.specs.Naming.{meanings_in};
 ghost use Rattle.commands.specs.Statuses.{IsTextOfBooks, IsBegunTextOfBooks, IsTooMuch};
 
-use crate::runs::{NamedRun, bytes_of};
-use crate::text::write_text;
+use crate::runs::{NamedRun, bytes_of, run_size};
+use collector::{Lines, Texts, line_lanes};
 use command_line::{Console, Fault, LayoutRequest};
+use common::Choice;
+use file_order::{KnownFiles, Pace};
+use lanes::{Consumer, Gate, LaneKind, Opener, Pauses, Run, RunFault, run_lanes};
 use named_sources::NamedFiles;
+use reports::Style;
+use std::alloc::Global;
+use std::marker::Brand;
 use std::sync::Wait;
 use std::thread::Threads;
-use streams::Sink;
+use streams::{Sink, SinkFault};
+
+/// Answers all records of the first `files` files, streams the text to `sink`, and returns the exit status of the run.
+///
+/// Each record is answered under this choice of the outer face. The text is that of the files' books in the format of
+/// this style, as `write_report` and `write_json` write books, and is written while the files are read. JSON lines have
+/// drawings of the style's kind; the report shows no coordinates, and its lines are of quick ones. It returns the exit
+/// status of the whole text: 0 if each file ended complete and memory ran out for no record's answer or line, and
+/// otherwise 3.
+///
+/// Files go over `lanes` lanes as in `run_batch`, and are written in order: the lines of the first file that has not
+/// ended go to the sink as they arrive, and those of later files are buffered. The layout of a record is freed once its
+/// line is made. If the buffered lines hold `waiting` bytes of memory or more, the reading of later files pauses until
+/// there is room again or they become first; what lanes have read by then still arrives and is buffered too.
+///
+/// # Errors
+///
+/// `TooManyFiles` exactly if there are more than `MAX_FILES`; `BadLanes` exactly if there are no lanes or more than
+/// `LANES`, and no more files than that; nothing is then written. `Write` exactly if the sink has then failed.
+/// `Memory`: no memory for links, the fan, tickets, buffers, lists of lanes or lines. `LaneLost`: an end of a link or
+/// of the fan was gone, or the text received a message that no lane gives. `Thread`: a thread could not be started. In
+/// each case what was written is a prefix of this: the text of books of the first files, of which any may end `memory`,
+/// and the lines of the next file so far, which has no last line. If no bytes of a file are known, as of a real one,
+/// records and mark are those of some bytes.
+pub fn write_batch<'r, R: Threads + Wait + Sync, O: Opener, G: Gate, S: Sink>(
+    rt: &'r R,
+    alloc: Global,
+    opener: &'r O,
+    files: u32,
+    lanes: u32,
+    capacity: u32,
+    waiting: usize,
+    choice: Choice,
+    style: Style,
+    gate: &'r G,
+    sink: &mut S,
+) -> Result<u8, Fault>
+    requires least { 1 ≤ capacity }
+    requires most { capacity ≤ MAX_CAPACITY }
+    requires stands { S.failed sink.old ≡ false }
+    ensures { IsStreamed choice (O.meaning opener.now) style.form files lanes S.taken S.failed sink.old sink.new result }
+{
+    run_size(files as usize, lanes)?;
+    let pauses = Pauses::none();
+    let run = Run {
+        rt,
+        alloc,
+        opener,
+        pauses: &pauses,
+        gate,
+        files,
+        lanes,
+        capacity,
+        choice,
+    };
+    Ok(write_text(&run, style, waiting, sink)?)
+}
+
+/// Writes the text of a run in this style; the reading of later files pauses from `waiting` buffered bytes on.
+pub(crate) fn write_text<R: Threads + Wait + Sync, O: Opener, G: Gate, S: Sink>(
+    run: &Run<'_, R, O, G>,
+    style: Style,
+    waiting: usize,
+    sink: &mut S,
+) -> Result<u8, RunFault<SinkFault>>
+    requires stands { S.failed sink.old ≡ false }
+    requires few_files { run.now.files ≤ MAX_FILES }
+    requires some { 0 < run.now.lanes }
+    requires few { run.now.lanes ≤ LANES }
+    ensures written { IfOk result (IsAllWritten run.now.choice (O.meaning run.now.opener.now) style.form run.now.files (S.taken sink.old) (S.taken sink.new)) }
+    ensures begun { OnErr result ∥ IsBegun run.now.choice (O.meaning run.now.opener.now) style.form run.now.files (S.taken sink.old) (S.taken sink.new) ∥₁ }
+    ensures status { IfOk result (λ status. (status ≡ 0) ⊎ (status ≡ 3)) }
+    ensures stands { OnOk result (S.failed sink.new ≡ false) }
+    ensures failed { IfErr result (HasFailedBy (S.failed sink.new)) }
+{
+    let pace = Pace {
+        pauses: run.pauses,
+        most: waiting,
+    };
+    write_files::<Brand, _, _, _, _>(run, style, pace, sink)
+}
+
+/// Writes the text of a run in this style and at this pace. The type `J` represents what the files mean.
+fn write_files<J: KnownFiles + Send + Sync, R: Threads + Wait + Sync, O: Opener, G: Gate, S: Sink>(
+    run: &Run<'_, R, O, G>,
+    style: Style,
+    pace: Pace<'_>,
+    sink: &mut S,
+) -> Result<u8, RunFault<SinkFault>>
+    requires stands { S.failed sink.old ≡ false }
+    requires few_files { run.now.files ≤ MAX_FILES }
+    requires some { 0 < run.now.lanes }
+    requires few { run.now.lanes ≤ LANES }
+    requires same_meaning { J.meaning ≡ O.meaning run.now.opener.now }
+    ensures written { IfOk result (IsAllWritten run.now.choice (O.meaning run.now.opener.now) style.form run.now.files (S.taken sink.old) (S.taken sink.new)) }
+    ensures begun { OnErr result ∥ IsBegun run.now.choice (O.meaning run.now.opener.now) style.form run.now.files (S.taken sink.old) (S.taken sink.new) ∥₁ }
+    ensures status { IfOk result (λ status. (status ≡ 0) ⊎ (status ≡ 3)) }
+    ensures stands { OnOk result (S.failed sink.new ≡ false) }
+    ensures failed { IfErr result (HasFailedBy (S.failed sink.new)) }
+{
+    let lines = Lines::new(run.alloc, style.form, run.choice, run.files)?;
+    let texts = Texts::new(run.alloc, sink, lines, pace);
+    let lanes = line_lanes::<J>(style);
+    let mut ran = Ok(());
+    let texts = gather_into(run, &lanes, texts, &mut ran);
+    match ran {
+        Ok(()) => match texts.finish() {
+            Ok(status) => Ok(status),
+            Err(_) => Err(RunFault::Refused(SinkFault)),
+        },
+        Err(fault) => {
+            let_go(texts);
+            Err(fault)
+        }
+    }
+}
+
+/// Drops a consumer, and leaves its sink unchanged.
+fn let_go<S: Sink>(texts: Texts<'_, S, Lines>)
+    ensures { texts.exit.0.now ≡ texts.entry.sink.now }
+{
+    let Texts { .. } = texts;
+}
+
+/// Runs lanes of this kind, and stores the result in `ran`: returned beside it in a pair, the state of the sink that
+/// the consumer holds would not be known.
+fn gather_into<
+    L: LaneKind,
+    C: Consumer<L::Entry, L::End>,
+    R: Threads + Wait + Sync,
+    O: Opener,
+    G: Gate,
+>(run: &Run<'_, R, O, G>, kind: &L, consumer: C, ran: &mut Result<(), RunFault<C::Refusal>>) -> C
+    requires few_files { run.now.files ≤ MAX_FILES }
+    requires some { 0 < run.now.lanes }
+    requires few { run.now.lanes ≤ LANES }
+    requires empty { C.holds consumer [] }
+    requires accepts { AcceptsFiles L.accepts L.ends (O.meaning run.now.opener.now) }
+    ensures told { OnOk ran.new ((ns : List Note) × C.holds result ns × AreToldWhole run.now.choice (O.meaning run.now.opener.now) run.now.files ns) }
+    ensures failed { IfErr ran.new (HoldsOnFault (C.gave_up result) (C.holds result)) }
+    ensures stays { C.stays consumer result }
+{
+    let (consumer, end) = run_lanes(run, kind, consumer);
+    *ran = end;
+    consumer
+}
 
 /// Writes the answers that a `layout` request asks for, the progress, and the lines about files; returns the exit status
 /// of the answers.

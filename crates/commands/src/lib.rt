@@ -2,25 +2,18 @@
 //! whose output is streamed.
 #![tactic(auto)]
 
-mod check_run;
-mod count;
-mod flaw_lines;
 mod layout;
-mod pick;
-mod process;
 mod program;
 mod runs;
-mod text;
-mod version;
+mod selection;
 
 pub use command_line::{
     Console, ErrorConsole, Fault, Meter, Progress, SharedTerminal, write_fault,
 };
 pub use lanes::{Gate, Stage};
+pub use layout::write_batch;
 pub use named_sources::{
     FileOpener, KeepsReason, NamedFiles, OutputSink, Reason, Refused, SystemFiles, if_open,
     is_input, place_holder,
 };
-pub use process::run;
-pub use program::command;
-pub use text::write_batch;
+pub use program::{command, run};

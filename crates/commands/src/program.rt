@@ -1,29 +1,75 @@
-//! The program as a function of its arguments.
-ghost use Rattle.std.specs.Prelude.{◌≡◌, ◌≤◌, ◌⊎◌, true, false, IfOk, IfErr, OnErr};
+//! The program as a function of its arguments, a whole run of it, its version and the command `check`.
+ghost use Rattle.std.specs.Prelude.{◌≡◌, ◌⊎◌, ◌↔◌, true, false, IfOk, IfErr, OnErr, ◌≤◌, List, String};
+ghost use Rattle.streams.specs.declared.output.WriteFault.{WriteFault};
 ghost use Rattle.command_line.specs.Refusals.{IsMisuse};
+ghost use Rattle.commands.specs.Statuses.{IsTextOfChecked, IsBegunTextOfChecked, IsTextOfRecords, IsDone, IsDoneFor, IsBegunTextOfRecords, IsBegunToBeDone, IsJudged, IsJudgedFor, IsHelped, IsOfRecords, IsPrinted, IsRefusable, error_output, version_text, IsOutcome};
 ghost use Rattle.clap.specs.Words.{kind_of};
 ghost use Rattle.clap.specs.declared.error.kind.ErrorKind.{ErrorKind};
 ghost use Rattle.command_line.specs.declared.reading.Keyword.{Keyword};
 ghost use Rattle.command_line.specs.declared.request.Request.{Request};
-ghost use Rattle.commands.specs.Statuses.{IsTextOfRecords, IsDone, IsDoneFor, IsBegunTextOfRecords, IsBegunToBeDone, IsJudged, IsJudgedFor, IsHelped, IsOfRecords, IsPrinted, IsRefusable, error_output, version_text};
 ghost use Rattle.command_line.specs.Requests.{IsAskedBy, asks_in};
+ghost use Rattle.std.specs.Process.{exit_status};
+ghost use Rattle.std.specs.declared.alloc.Global.{Global};
 
-use crate::check_run::check;
-use crate::count::count;
 use crate::layout::layout;
-use crate::pick::pick;
-use crate::version::VERSION;
+use crate::selection::{count, pick};
+use checking::{CheckOptions, check_files};
 use clap::Error;
 use clap::error::ErrorKind;
 use command_line::{
-    Console, Fault, Keyword, ParseFault, Request, asks, help_text, parse, write_fault,
+    CheckRequest, Console, Fault, Keyword, ParseFault, Request, asks, help_text, parse, write_fault,
 };
 use named_sources::{FileNotes, KeepsReason, NamedFiles, Reason, open_source};
 use reports::status_of;
 use std::alloc::{AllocError, Global};
+use std::env::{Env, FillError};
+use std::process::ExitCode;
 use std::sync::Wait;
 use std::thread::Threads;
 use streams::{Sink, WriteFault, piece_buffer, put_all, write_frames_of};
+
+/// The output of `--version`: the program's version, and the toolchain that it was written for.
+///
+/// The toolchain is given by the kit's number and its logic, as `rt version` prints them.
+pub const VERSION: &str = "planarbend 2.0.0\ntoolchain rattle-kit-13 logic dac8208d650f15bf\n";
+
+/// Writes the verdicts that a `check` request asks for; returns the exit status.
+///
+/// It checks the drawings in one file of the graphs in another one. Lines about the two files are written to `err`.
+///
+/// # Errors
+///
+/// `Memory` if memory ran out for the run, and `Write` exactly if the output has then failed; a prefix of the text is
+/// then written.
+pub fn check<R: AllocGlobal + Wait, N: NamedFiles, S: Sink, E: Sink>(
+    rt: &R,
+    asked: CheckRequest<'_>,
+    files: &N,
+    out: &mut S,
+    err: &mut E,
+) -> Result<u8, Fault>
+    requires out_is_intact { S.failed out.old ≡ false }
+    requires err_is_intact { E.failed err.old ≡ false }
+    ensures written { IfOk result (IsTextOfChecked (N.meaning files.now) asked.entry
+        (S.taken out.old) (S.taken out.new) (S.failed out.new)) }
+    ensures failed { IfErr result (λ fault. ¬ IsMisuse fault) }
+    ensures write { IfErr result (λ fault. (fault ≡ Fault.Write WriteFault.Write) ↔ (S.failed out.new ≡ true)) }
+    ensures begun { OnErr result ((out.new ≡ out.old)
+        ⊎ IsBegunTextOfChecked (N.meaning files.now) asked.entry (S.taken out.old) (S.taken out.new)) }
+    ensures intact { OnErr result (E.failed err.new ≡ false) }
+{
+    let notes = FileNotes::new(rt.alloc(), 2)?;
+    let graphs = open_source(files, rt.alloc(), asked.graphs, notes.note(0))?;
+    let lines = open_source(files, rt.alloc(), asked.lines, notes.note(1))?;
+    let how = CheckOptions {
+        form: asked.form,
+        faces: asked.faces,
+    };
+    let checked = check_files(rt, graphs, lines, how, out)?;
+    notes.end(0, checked.mark);
+    notes.write(rt.alloc(), &[asked.graphs, asked.lines], err);
+    Ok(checked.status)
+}
 
 /// Does what the arguments after the program's name ask for, and returns the program's exit status.
 ///
@@ -208,4 +254,64 @@ fn show<S: Sink + KeepsReason, E: Sink>(text: &str, out: &mut S, err: &mut E) ->
         Ok(()) => 0,
         Err(fault) => end_by(Fault::Write(fault), out.reason(), err),
     }
+}
+
+/// The maximum number of bytes of an argument on Linux, with the 0 after it.
+const LONGEST: usize = 131_072;
+
+/// Runs the whole program as its arguments ask, like `command`, and ends it with the exit status.
+///
+/// `files` opens the files that are named, and standard input by its name. If an argument is not valid UTF-8 or memory
+/// for the arguments runs out, the message of that fault is written to `err`, and the status is that of the fault.
+pub fn run<
+    R: Env + AllocGlobal + Threads + Wait + Sync,
+    N: NamedFiles,
+    C: Console + Sync,
+    S: Sink + KeepsReason,
+    E: Sink,
+>(rt: &R, files: &N, console: &C, out: &mut S, err: &mut E) -> ExitCode
+    requires out_is_intact { S.failed out.old ≡ false }
+    requires err_is_intact { E.failed err.old ≡ false }
+    ensures in_range { exit_status result ≤ 4 }
+
+    // For some arguments all that `command` promises holds; or the arguments could not be read, and nothing is written.
+    ensures outcome { ((words : List (String Global))
+        × IsOutcome (N.meaning files.now) words (C.has_terminal console.now)
+        (error_output (E.taken err.old) (E.taken err.new) (E.failed err.new)) S.taken S.failed out.old out.new (exit_status result))
+        ⊎ (((exit_status result ≡ 1) ⊎ (exit_status result ≡ 2)) × (out.new ≡ out.old)) }
+{
+    match arguments(rt) {
+        Ok(words) => ExitCode::from(command(rt, words.as_slice(), files, console, out, err)),
+        Err(fault) => {
+            write_fault(fault, Reason::UNKNOWN, err);
+            ExitCode::from(fault.status())
+        }
+    }
+}
+
+/// The arguments after the program's name.
+///
+/// # Errors
+///
+/// `NotText` if one is not UTF-8, with its number, and `Memory` if there is no memory for them.
+fn arguments<R: Env + AllocGlobal>(rt: &R) -> Result<Vec<String>, Fault> {
+    let mut words = Vec::new(rt.alloc());
+    let mut buffer = Vec::new(rt.alloc());
+    buffer.resize(LONGEST, 0)?;
+    for argument in 1..u32::MAX {
+        match rt.arg(argument as usize, buffer.as_mut_slice()) {
+            Ok(len) => {
+                let Ok(word) = str::from_utf8(&buffer[..len]) else {
+                    return Err(Fault::NotText(argument));
+                };
+                let word = String::from_str(rt.alloc(), word)?;
+                if words.push(word).is_err() {
+                    return Err(Fault::Memory);
+                }
+            }
+            Err(FillError::NotPresent) => break,
+            Err(FillError::TooLong) => return Err(Fault::Memory),
+        }
+    }
+    Ok(words)
 }

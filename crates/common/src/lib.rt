@@ -3,14 +3,8 @@
 //! choice of the outer face, and the kinds of drawings.
 #![tactic(auto)]
 
-mod choice;
-mod drawing_kind;
-mod flat_lists;
-mod limits;
 mod lists;
+mod parameters;
 
-pub use choice::Choice;
-pub use drawing_kind::DrawingKind;
-pub use flat_lists::FlatLists;
-pub use limits::MAX_VERTICES;
-pub use lists::{emptied, filled};
+pub use lists::{FlatLists, emptied, filled};
+pub use parameters::{Choice, DrawingKind, MAX_VERTICES};

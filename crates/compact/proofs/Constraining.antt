@@ -4,7 +4,7 @@ use Rattle.std.proofs.lemmas.Bool.{cases_eq}
 use Rattle.std.proofs.lemmas.Option.{none-some, same_Some}
 use Rattle.std.proofs.lemmas.List.Elements.{All-append, All-cons, All-nil, All-pop}
 use Rattle.dissect.specs.DartMaps.{DartMap, IsSound}
-use Rattle.compact.specs.declared.constraint_graph.Constraint.{Constraint}
+use Rattle.compact.specs.declared.axis.Constraint.{Constraint}
 use Rattle.compact.specs.Constraints.{Satisfies}
 use Rattle.compact.specs.Monotone.{tail, IsAlong, AreAlong}
 

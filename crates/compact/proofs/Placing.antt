@@ -5,15 +5,15 @@ use Rattle.std.proofs.lemmas.List.{length-map}
 use Rattle.std.proofs.lemmas.List.FromFn.{length-range_with_len}
 use Rattle.dissect.specs.DartMaps.{DartMap, IsSound, no_dart}
 use Rattle.dissect.specs.Paths.{turning_vertices}
-use Rattle.ortho_rep.specs.declared.points.Point.{Point}
+use Rattle.ortho_rep.specs.declared.grid_points.Point.{Point}
 use Rattle.dissect.specs.Boxes.{BoxesModel, HasEdge, dart_map}
 use Rattle.compact.specs.Monotone.{tail, point_at, IsMonotone, IsAlong, AreCorners, AreCornersOf, IsAxisFault, IsCompactFault, AreLeastPoints, AreLeastOnAxis, AreWithin}
 use Rattle.std.specs.List.{range_with_len}
-use Rattle.ortho_rep.specs.declared.points.TheConstants.{MAX_COORDINATE}
+use Rattle.ortho_rep.specs.declared.grid_points.TheConstants.{MAX_COORDINATE}
 use Rattle.compact.specs.Neighbours.{AreUnder}
 use Rattle.compact.proofs.Walking.{one_turning}
-use Rattle.compact.specs.declared.fault.CompactFault.{CompactFault}
-use Rattle.compact.specs.declared.fault.CompactFault.TheVariants.{Wide, Memory}
+use Rattle.compact.specs.declared.points.CompactFault.{CompactFault}
+use Rattle.compact.specs.declared.points.CompactFault.TheVariants.{Wide, Memory}
 
 -- a dart and its reverse change places of head and tail
 pub turned_round : (w : DartMap) (a : ℕ) → IsSound w → a < w.darts → tail w (w.reverse_dart a) ≡ w.head a

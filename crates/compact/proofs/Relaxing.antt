@@ -3,12 +3,12 @@ use Rattle.std.proofs.Common.{◌≡◌, ℕ, ◌+◌, ◌-◌, ◌<◌, ◌≤�
 use Rattle.std.proofs.lemmas.Bool.{cases_eq}
 use Rattle.std.proofs.lemmas.List.{length-set, take_all}
 use Rattle.std.proofs.lemmas.List.Elements.{All-more}
-use Rattle.ortho_rep.specs.declared.points.TheConstants.{MAX_COORDINATE}
+use Rattle.ortho_rep.specs.declared.grid_points.TheConstants.{MAX_COORDINATE}
 use Rattle.common.specs.Sums.{sum_below}
 use Rattle.common.proofs.Sums.{sum_below-lt}
-use Rattle.compact.specs.declared.constraint_graph.Constraint.{Constraint}
-use Rattle.compact.specs.declared.constraint_graph.Relaxation.{Relaxation}
-use Rattle.compact.specs.declared.constraint_graph.Relaxation.TheVariants.{Satisfied, Raised, Wide}
+use Rattle.compact.specs.declared.axis.Constraint.{Constraint}
+use Rattle.compact.specs.declared.axis.Relaxation.{Relaxation}
+use Rattle.compact.specs.declared.axis.Relaxation.TheVariants.{Satisfied, Raised, Wide}
 use Rattle.compact.specs.Constraints.{Satisfies, AreInRange, IsLow, AreWide, IsRelaxed, AreRelaxed, shortfall}
 
 abbrev pub at : List ℕ → ℕ → ℕ

@@ -1,10 +1,10 @@
 -- Constraints on coordinates: the lengths of longest paths are the least coordinates that satisfy them.
 use Rattle.std.specs.Prelude.{◌≡◌, ℕ, ◌+◌, ◌-◌, ◌<◌, ◌≤◌, List, All, length, slice_index, slice_set}
-use Rattle.ortho_rep.specs.declared.points.TheConstants.{MAX_COORDINATE}
+use Rattle.ortho_rep.specs.declared.grid_points.TheConstants.{MAX_COORDINATE}
 use Rattle.common.specs.Sums.{sum_below}
-use Rattle.compact.specs.declared.constraint_graph.Constraint.{Constraint}
-use Rattle.compact.specs.declared.constraint_graph.Relaxation.{Relaxation}
-use Rattle.compact.specs.declared.constraint_graph.Relaxation.TheVariants.{Satisfied, Raised, Wide}
+use Rattle.compact.specs.declared.axis.Constraint.{Constraint}
+use Rattle.compact.specs.declared.axis.Relaxation.{Relaxation}
+use Rattle.compact.specs.declared.axis.Relaxation.TheVariants.{Satisfied, Raised, Wide}
 
 -- the coordinates x satisfy each constraint: the coordinate at its end is that at its start and `least` more, or greater
 abbrev pub Satisfies : List Constraint → (ℕ → ℕ) → Type 0

@@ -1,18 +1,18 @@
 -- Coordinates that grow along the darts, on each axis, and what the faults say.
 use Rattle.std.specs.Prelude.{◌≡◌, ◌≢◌, ℕ, ◌+◌, ◌<◌, ◌≤◌, List, [], ◌∷◌, length, map, slice_index, slice_index_or}
-use Rattle.ortho_rep.specs.declared.points.TheConstants.{MAX_COORDINATE}
+use Rattle.ortho_rep.specs.declared.grid_points.TheConstants.{MAX_COORDINATE}
 use Rattle.dissect.specs.DartMaps.{DartMap, IsSound}
 use Rattle.dissect.specs.Paths.{turning_vertices}
-use Rattle.ortho_rep.specs.declared.points.Point.{Point}
+use Rattle.ortho_rep.specs.declared.grid_points.Point.{Point}
 use Rattle.dissect.specs.Boxes.{BoxesModel, HasEdge, dart_map}
 pub use Rattle.dissect.specs.DirectionLists.{AreDirectionsOf}
 pub use Rattle.dissect.specs.Monotone.{tail, IsMonotone, AreWithin, point_at, AreTaken, AreLeastPoints, FitsNoGrid}
 use Rattle.compact.specs.declared.axis.Axis.{Axis}
 use Rattle.compact.specs.declared.axis.Axis.TheVariants.{X, Y}
-use Rattle.compact.specs.declared.constraint_graph.Constraint.{Constraint}
+use Rattle.compact.specs.declared.axis.Constraint.{Constraint}
 use Rattle.compact.specs.Constraints.{Satisfies, AreInRange}
-use Rattle.compact.specs.declared.fault.CompactFault.{CompactFault}
-use Rattle.compact.specs.declared.fault.CompactFault.TheVariants.{Wide, Memory}
+use Rattle.compact.specs.declared.points.CompactFault.{CompactFault}
+use Rattle.compact.specs.declared.points.CompactFault.TheVariants.{Wide, Memory}
 
 -- what a fault says
 abbrev pub IsCompactFault : BoxesModel → CompactFault → Type 0

@@ -2,17 +2,10 @@
 #![tactic(auto)]
 
 mod axis;
-mod constraint_graph;
-mod corners;
-mod fault;
 mod longest_paths;
-mod neighbours;
 mod points;
-mod scratch;
 
 pub use dissect::{
     DirectionSearch, Scratch as BoxesScratch, directions_in, dissect, dissect_along, dissect_in,
 };
-pub use fault::CompactFault;
-pub use points::{compact, compact_in};
-pub use scratch::Scratch;
+pub use points::{CompactFault, Scratch, compact, compact_in};

@@ -1,19 +1,40 @@
-//! Longest paths (Lengauer 1990) over segments: vertices that darts across join.
-//!
-//! Segments come in a topological order: the preorder of a depth-first tree. Of the arcs that lead to a segment the tree
-//! has the one farthest to the right, which ends at the segment's first vertex; the children of a segment come from left
-//! to right. In a plane map with one source and one sink, as boxes are, an arc from a segment that comes later would have
-//! to cross the path of the tree.
-//!
-//! All is inlined into the two calls of `low_along`, so that the directions of an axis are constants.
-
-ghost use Rattle.std.specs.Prelude.{◌≡◌, ◌*◌, ◌^◌, ◌<◌, ◌≤◌, ℕ, length};
+//! Longest paths (Lengauer 1990) over segments: vertices that darts across join, by the neighbours of each vertex.
+//! Segments come in a topological order: the preorder of a depth-first tree, which has of the arcs to a segment the one
+//! farthest to the right. In a plane map with one source and one sink, as boxes are, an arc from a segment that comes
+//! later would have to cross the path of the tree. All is inlined into the two calls of `low_along`, so that the
+//! directions of an axis are constants.
+ghost use Rattle.std.specs.Prelude.{◌≡◌, ℕ, ◌*◌, ◌<◌, length, IfOk, ◌^◌, ◌≤◌};
+ghost use Rattle.compact.specs.Neighbours.{AreNeighbours, HasNeighbours, neighbour, AreUnder, Grow, StayEqual, StayUnder};
+ghost use Rattle.dissect.specs.Boxes.{dart_map};
 ghost use Rattle.compact.specs.Monotone.{growth, across};
-ghost use Rattle.compact.specs.Neighbours.{neighbour, AreUnder, Grow, StayEqual, StayUnder};
 
 use crate::axis::Axis;
-use crate::neighbours::NO_VERTEX;
+use common::filled;
+use dissect::Boxes;
 use ortho_rep::MAX_COORDINATE;
+use std::alloc::AllocError;
+
+/// The value for a missing vertex, greater than any vertex number.
+pub const NO_VERTEX: u32 = u32::MAX;
+
+/// For each vertex, its four neighbours to the east, north, west and south; `NO_VERTEX` if there is none.
+///
+/// They are the vertices to which the darts from it lead, and reuse the buffer of `around`. Linear in the darts.
+pub fn neighbours_of(boxes: &Boxes, around: Vec<u32>) -> Result<Vec<u32>, AllocError>
+    ensures neighbours { IfOk result (λ around. AreNeighbours (dart_map boxes.now) around.items boxes.now.vertices) }
+    ensures all_neighbours { IfOk result (λ around. HasNeighbours (dart_map boxes.now) around.items boxes.now.darts) }
+    ensures count { IfOk result (λ around. length around.items ≡ 4 * boxes.now.vertices) }
+{
+    let mut around = filled(around, 4 * boxes.vertices() as usize, NO_VERTEX)?;
+    let heads = boxes.heads();
+    let reverse_darts = boxes.reverse_darts();
+    let directions = boxes.directions();
+    for dart in 0..boxes.darts() as usize {
+        let from = heads[reverse_darts[dart] as usize];
+        around[4 * from as usize + usize::from(directions[dart])] = heads[dart];
+    }
+    Ok(around)
+}
 
 /// The neighbours of each vertex, with the numbers of the four directions as seen along an axis.
 #[derive(Clone, Copy)]

@@ -1,20 +1,123 @@
-//! Compaction by longest paths (Lengauer 1990): points for the vertices and the corners of a plane.
-
-ghost use Rattle.std.specs.Prelude.{◌≡◌, ◌≤◌, length, map, slice_index, IfOk, IfErr};
+//! Compaction by longest paths (Lengauer 1990): points for the vertices and the corners of a plane, and why a
+//! dissection gets no coordinates. Buffers are reused.
+ghost use Rattle.std.specs.Prelude.{◌≡◌, [], ◌≢◌, ◌<◌, ◌↔◌, ◌++◌, IsTrue, All, length, map, slice_index, OnOk, ◌≤◌, IfOk, IfErr};
+ghost use Rattle.compact.specs.declared.points.CompactFault.TheVariants.{Memory};
+ghost use Rattle.dissect.specs.Paths.{turn_to};
+ghost use Rattle.dissect.specs.Boxes.{dart_map};
+ghost use Rattle.compact.specs.Monotone.{point_at, vertices_along, AreLeastPoints, AreCorners, IsCompactFault};
 ghost use Rattle.std.specs.List.{range_with_len};
 ghost use Rattle.common.specs.Slices.{slices_at, AreStarts};
-ghost use Rattle.compact.specs.Monotone.{AreLeastPoints, AreCorners, IsCompactFault, point_at};
 
-use crate::axis::least_coordinates;
-use crate::corners::{point_of, push_corners};
-use crate::fault::CompactFault;
-use crate::neighbours::neighbours_of;
-use crate::scratch::Scratch;
+use crate::axis::{Constraint, least_coordinates};
+use crate::longest_paths::neighbours_of;
 use common::emptied;
 use dissect::Boxes;
 use ortho_rep::{Point, Points};
 use std::alloc::{AllocError, Global};
 use std::mem;
+use thiserror::Error;
+
+/// The reason why no coordinates were returned.
+#[derive(Clone, Copy, Debug, PartialEq, Eq, Error)]
+pub enum CompactFault {
+    /// No coordinates that grow along the darts are all at most 65,535.
+    #[error("the drawing does not fit coordinates up to 65535")]
+    Wide,
+    /// Memory ran out, which says nothing of the boxes.
+    #[error("out of memory")]
+    Memory,
+}
+
+impl From<AllocError> for CompactFault {
+    ghost from_gives = { λ _ fault. fault ≡ Memory };
+
+    fn from(_refused: AllocError) -> CompactFault {
+        CompactFault::Memory
+    }
+}
+
+/// The buffers of `compact_in`, reused for the next dissection. Their contents between two calls do not matter.
+///
+/// The points take their list with them. If it is returned before the next ones are found, these allocate no list
+/// unless they have more vertices, edges or corners; if it is not, they allocate one for just what it holds.
+#[derive(Drop)]
+pub struct Scratch {
+    pub(crate) around: Vec<u32>,
+    pub(crate) x: Vec<u16>,
+    pub(crate) y: Vec<u16>,
+    pub(crate) segments: Vec<u32>,
+    pub(crate) constraints: Vec<Constraint>,
+    pub(crate) points: Vec<Point>,
+    pub(crate) corners: Vec<Point>,
+    pub(crate) starts: Vec<usize>,
+}
+
+impl Scratch {
+    /// An empty scratch. It allocates nothing.
+    pub fn empty(alloc: Global) -> Scratch
+        ensures { result.around.items ≡ [] }
+    {
+        Scratch {
+            around: Vec::new(alloc),
+            x: Vec::new(alloc),
+            y: Vec::new(alloc),
+            segments: Vec::new(alloc),
+            constraints: Vec::new(alloc),
+            points: Vec::new(alloc),
+            corners: Vec::new(alloc),
+            starts: Vec::new(alloc),
+        }
+    }
+
+    /// Consumes points, whose list is reused. It allocates nothing.
+    pub fn take_back(&mut self, points: Points) {
+        self.points = points.into_list();
+    }
+}
+
+/// The point of a vertex.
+pub fn point_of(x: &[u16], y: &[u16], vertex: u32) -> Point
+    requires x_in { vertex < length x.now }
+    requires y_in { vertex < length y.now }
+    ensures { result ≡ point_at (λ v. slice_index x.now v) (λ v. slice_index y.now v) vertex }
+{
+    Point {
+        x: u32::from(x[vertex as usize]),
+        y: u32::from(y[vertex as usize]),
+    }
+}
+
+/// Whether the walk along an edge turns between two of its darts.
+fn is_turn(boxes: &Boxes, before: u32, dart: u32) -> bool
+    requires before { before < boxes.now.darts }
+    requires dart { dart < boxes.now.darts }
+    ensures { IsTrue result ↔ (turn_to (dart_map boxes.now) before dart ≢ 0) }
+{
+    boxes.direction(before) != boxes.direction(dart)
+}
+
+/// Appends to a list the points at which the walk along these darts turns, in walking order. One step for each dart.
+pub fn push_corners(
+    corners: &mut Vec<Point>,
+    boxes: &Boxes,
+    x: &[u16],
+    y: &[u16],
+    path: &[u32],
+) -> Result<(), AllocError>
+    requires x_in { length x.now ≡ boxes.now.vertices }
+    requires y_in { length y.now ≡ boxes.now.vertices }
+    requires inside { All (λ dart. dart < boxes.now.darts) path.now }
+    ensures { OnOk result (corners.new.items
+        ≡ corners.old.items ++ map (point_at (λ v. slice_index x.now v) (λ v. slice_index y.now v)) (vertices_along (dart_map boxes.now) path.now)) }
+{
+    for k in 1..path.len() {
+        let before = path[k - 1];
+        if is_turn(boxes, before, path[k]) {
+            corners.push(point_of(x, y, boxes.head(before)))?;
+        }
+    }
+    Ok(())
+}
 
 /// The points of the plane's vertices, in the buffer of a list, with room for `room` points.
 fn vertex_points(

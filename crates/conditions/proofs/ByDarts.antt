@@ -7,7 +7,7 @@ use Rattle.common.specs.Sums.{sum_below}
 use Rattle.common.proofs.Sums.{sum_below-same}
 use Rattle.embedding.specs.Lesser.{is_lesser_of}
 use Rattle.faces.specs.Planes.{PlaneModel, HasEnds, darts, reverse_dart}
-use Rattle.flow_network.specs.declared.given.TheConstants.{MAX_GIVEN_TURNS}
+use Rattle.flow_network.specs.declared.given_shape.TheConstants.{MAX_GIVEN_TURNS}
 use Rattle.flow_network.specs.Given.{GivenModel, CanBeGiven, walked_back, turns_given, lefts_given, turns_in_all}
 use Rattle.flow_network.proofs.GivenParts.{lesser_turned}
 use Rattle.conditions.specs.declared.conditions.TurnsAlong.{TurnsAlong}

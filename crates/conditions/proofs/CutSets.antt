@@ -9,8 +9,8 @@ use Rattle.common.specs.Sums.{sum_below, total_below}
 use Rattle.common.proofs.Sums.{sum_below-same, sum_below-member, exchanged, total_below-same, total_below-pos, total_below-add, total_below-le, total_below-split}
 use Rattle.faces.specs.Planes.{PlaneModel, IsPlane, darts, vertices, head, reverse_dart, face_at}
 use Rattle.faces.proofs.Ends.{plane_ends}
-use Rattle.min_cost_flow.specs.declared.arc.Arc.{Arc}
-use Rattle.min_cost_flow.specs.declared.arc.Cap.TheVariants.{Any}
+use Rattle.min_cost_flow.specs.declared.network.Arc.{Arc}
+use Rattle.min_cost_flow.specs.declared.network.Cap.TheVariants.{Any}
 use Rattle.min_cost_flow.specs.Networks.{NetworkModel, node_count, arc_count, arc_at, supply_at}
 use Rattle.min_cost_flow.specs.Flow.{outflow}
 use Rattle.min_cost_flow.specs.ResidualArcs.{units_of}

@@ -8,9 +8,9 @@ use Rattle.std.proofs.lemmas.List.FromFn.{length-map-range_with_len, get_or-map-
 use Rattle.common.proofs.Sums.{sum_below-none}
 use Rattle.faces.specs.Planes.{PlaneModel, IsPlane, darts, vertices, head, reverse_dart, face_at}
 use Rattle.faces.proofs.Ends.{plane_ends}
-use Rattle.min_cost_flow.specs.declared.arc.Arc.{Arc}
-use Rattle.min_cost_flow.specs.declared.arc.Cap.{Cap}
-use Rattle.min_cost_flow.specs.declared.arc.Cap.TheVariants.{AtMost, Any}
+use Rattle.min_cost_flow.specs.declared.network.Arc.{Arc}
+use Rattle.min_cost_flow.specs.declared.network.Cap.{Cap}
+use Rattle.min_cost_flow.specs.declared.network.Cap.TheVariants.{AtMost, Any}
 use Rattle.min_cost_flow.specs.Networks.{NetworkModel, arc_count, arc_at, supply_at, net_of, no_arc}
 use Rattle.min_cost_flow.specs.ResidualArcs.{units_of}
 use Rattle.min_cost_flow.specs.Overfull.{leads_out, supply_of, capacity_out, IsOverfull}

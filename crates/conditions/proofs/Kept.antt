@@ -1,15 +1,15 @@
 -- What is asked of a plane is asked of it with another outer face.
 use Rattle.std.proofs.Common.{◌≡◌, ◌↔◌, ℕ, Bool, List, Result, Ok, Err, OnOk, inl, inr, subst, sym}
 use Rattle.std.specs.Prelude.{ℤ, neg_ℤ, Any}
-use Rattle.common.specs.declared.choice.Choice.{Choice}
+use Rattle.common.specs.declared.parameters.Choice.{Choice}
 use Rattle.faces.specs.Planes.{PlaneModel, reverse_dart, with_outer}
 use Rattle.flow_network.specs.Given.{GivenModel}
 use Rattle.conditions.specs.declared.conditions.AngleAt.{AngleAt}
 use Rattle.conditions.specs.declared.conditions.Conditions.{Conditions}
 use Rattle.conditions.specs.declared.conditions.DartEnds.{DartEnds}
 use Rattle.conditions.specs.declared.conditions.TurnsAlong.{TurnsAlong}
-use Rattle.conditions.specs.declared.fault.KeepFault.{KeepFault}
-use Rattle.conditions.specs.declared.fault.KeepFault.TheVariants.{NoAngle, NoEdge, Conflict, TooManyTurns, NoOuter, NoShape, Memory}
+use Rattle.conditions.specs.declared.cuts.KeepFault.{KeepFault}
+use Rattle.conditions.specs.declared.cuts.KeepFault.TheVariants.{NoAngle, NoEdge, Conflict, TooManyTurns, NoOuter, NoShape, Memory}
 use Rattle.conditions.specs.Cut.{ShowsNone}
 use Rattle.conditions.specs.Asked.{Names, IsAsked, IsAmong, IsDart, AreDarts, AsksAngle, AsksTurns}
 use Rattle.conditions.specs.Chosen.{IsGreatestOpen, HasNoChosen, IsToldOf, IsKeepFault}

@@ -4,7 +4,7 @@ use Rattle.common.specs.Sums.{sum_below}
 use Rattle.embedding.specs.Lesser.{is_lesser_of}
 use Rattle.faces.specs.Planes.{PlaneModel, darts, tail, head, face_at, reverse_dart}
 use Rattle.flow_network.specs.Marks.{is_marked}
-use Rattle.flow_network.specs.declared.given.TheConstants.{MAX_GIVEN_TURNS}
+use Rattle.flow_network.specs.declared.given_shape.TheConstants.{MAX_GIVEN_TURNS}
 use Rattle.flow_network.specs.Given.{GivenModel, angle_given, turns_given, lefts_given}
 use Rattle.conditions.specs.declared.conditions.DartEnds.{DartEnds}
 use Rattle.conditions.specs.declared.conditions.AngleAt.{AngleAt}

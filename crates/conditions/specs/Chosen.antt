@@ -1,7 +1,7 @@
 -- The chosen outer face among those that may be outside, and least shapes that keep what is given.
 use Rattle.std.specs.Prelude.{◌≡◌, ◌⊎◌, ℕ, ◌<◌, ◌≤◌, Bool, true, List, Option, Some, None, ⊤}
-use Rattle.common.specs.declared.choice.Choice.{Choice}
-use Rattle.common.specs.declared.choice.Choice.TheVariants.{First, Best}
+use Rattle.common.specs.declared.parameters.Choice.{Choice}
+use Rattle.common.specs.declared.parameters.Choice.TheVariants.{First, Best}
 use Rattle.faces.specs.Planes.{PlaneModel, degree, with_outer}
 use Rattle.flow_network.specs.Marks.{is_marked}
 use Rattle.flow_network.specs.Given.{GivenModel}
@@ -12,10 +12,10 @@ use Rattle.ortho_rep.specs.Prices.{PricesModel, IsProofKeeping}
 use Rattle.ortho_rep.specs.BestKeeping.{IsOpen, IsBestKeeping, HasNoFace}
 use Rattle.conditions.specs.declared.conditions.Conditions.{Conditions}
 use Rattle.conditions.specs.Cut.{ShowsNone}
-use Rattle.conditions.specs.declared.fault.Unkept.{Unkept}
-use Rattle.conditions.specs.declared.fault.KeepFault.{KeepFault}
-use Rattle.conditions.specs.declared.fault.KeepFault.TheVariants.{NoAngle, NoEdge, Conflict, TooManyTurns, NoOuter, NoShape, Memory}
-use Rattle.flow_network.specs.declared.given.TheConstants.{MAX_GIVEN_TURNS}
+use Rattle.conditions.specs.declared.cuts.Unkept.{Unkept}
+use Rattle.conditions.specs.declared.cuts.KeepFault.{KeepFault}
+use Rattle.conditions.specs.declared.cuts.KeepFault.TheVariants.{NoAngle, NoEdge, Conflict, TooManyTurns, NoOuter, NoShape, Memory}
+use Rattle.flow_network.specs.declared.given_shape.TheConstants.{MAX_GIVEN_TURNS}
 use Rattle.conditions.specs.Asked.{HasAngles, AreDarts, AnglesDiffer, TurnsDiffer, IsGivenFor, turns_of_edges, IsAsked, IsLeftOf}
 
 -- of the faces before face n that are not barred, this one has the most darts, among equals the least number; faces are

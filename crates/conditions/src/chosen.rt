@@ -6,15 +6,12 @@ ghost use Rattle.ortho_rep.specs.Representation.{IsShape};
 ghost use Rattle.ortho_rep.specs.Keeping.{IsLeastKeeping, HasNoneKeeping};
 ghost use Rattle.ortho_rep.specs.Prices.{IsProofKeeping};
 ghost use Rattle.ortho_rep.specs.BestKeeping.{IsOpen};
-ghost use Rattle.common.specs.declared.choice.Choice.{Choice};
+ghost use Rattle.common.specs.declared.parameters.Choice.{Choice};
 ghost use Rattle.conditions.specs.Asked.{IsAsked};
 ghost use Rattle.conditions.specs.Chosen.{IsGreatestSoFar, IsGreatestOpen, IsChosenKeeping, HasNoChosen, IsKept, IsKeepFault, IsToldOf};
 
-use crate::asked::{angles_of, are_angles, are_darts, turns_of};
-use crate::conditions::Conditions;
-use crate::cuts::violated_cut;
-use crate::fault::{KeepFault, Unkept};
-use crate::marks::barred_of;
+use crate::conditions::{Conditions, angles_of, are_angles, are_darts, barred_of, turns_of};
+use crate::cuts::{KeepFault, Unkept, violated_cut};
 use common::Choice;
 use faces::Plane;
 use flow_network::{Given, has_mark};

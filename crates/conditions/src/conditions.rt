@@ -1,4 +1,14 @@
-//! What is asked of a layout, by names of vertices.
+//! What is asked of a layout, by names of vertices; which faces are meant by pairs of vertices; and what is asked of
+//! the darts of a plane, as lists of what is given.
+ghost use Rattle.std.specs.Prelude.{◌≡◌, ◌<◌, ◌↔◌, true, false, if◌then◌else◌, IsTrue, IfOk, length, replicate, slice_set, ◌⊎◌, ◌≤◌, ◌^◌, neg_ℤ, nat_abs, IsFalse, IfErr, All};
+ghost use Rattle.faces.specs.Planes.{darts};
+ghost use Rattle.conditions.specs.Asked.{Names, IsAmong, IsDart, AreBarred, HasAngles, AreDarts, AnglesDiffer, TurnsDiffer};
+ghost use Rattle.conditions.specs.Asking.{AreAngles, AreTurns, AreFew, lesser_of, along_lesser, IsPut, HoldsOther};
+
+use crate::cuts::KeepFault;
+use common::filled;
+use faces::Plane;
+use std::alloc::{AllocError, Global};
 
 /// A dart, given by the vertex that it comes from and the one that it goes to. Vertices are numbered from 1.
 #[repr(C)]
@@ -47,4 +57,225 @@ pub struct Conditions<'a> {
     pub angles: &'a [AngleAt],
     /// The faces that stay inside, each by a dart that has it on its left.
     pub inner: &'a [DartEnds],
+}
+
+/// Whether a dart has these ends.
+pub(crate) fn is_named(plane: &Plane, dart: u16, from: u16, to: u16) -> bool
+    requires { dart < darts plane.now }
+    ensures { IsTrue result ↔ Names plane.now dart from to }
+{
+    let graph = plane.graph();
+    from == graph.tail(dart) && to == graph.head(dart)
+}
+
+/// Whether some dart has these ends.
+pub(crate) fn is_dart(plane: &Plane, from: u16, to: u16) -> bool
+    ensures { IsTrue result ↔ IsDart plane.now from to }
+{
+    for dart in 0..plane.graph().darts() {
+        if is_named(plane, dart, from, to) {
+            return true;
+        }
+    }
+    false
+}
+
+/// Whether a dart is among those of the list.
+fn is_among(plane: &Plane, list: &[DartEnds], dart: u16) -> bool
+    requires { dart < darts plane.now }
+    ensures { IsTrue result ↔ IsAmong plane.now list.now dart }
+{
+    list.iter()
+        .any(|ends| is_named(plane, dart, ends.from, ends.to))
+}
+
+/// Marks of the faces on the left of the darts of a list.
+pub(crate) fn barred_of(
+    alloc: Global,
+    plane: &Plane,
+    list: &[DartEnds],
+) -> Result<Vec<bool>, AllocError>
+    ensures { IfOk result (λ barred. AreBarred plane.now list.now barred.items) }
+{
+    let mut barred = filled(Vec::new(alloc), usize::from(plane.face_count()), false)?;
+    mark_faces(plane, list, &mut barred);
+    Ok(barred)
+}
+
+/// Marks the faces on the left of the darts of a list, among marks that are all unset.
+fn mark_faces(plane: &Plane, list: &[DartEnds], barred: &mut [bool])
+    requires { barred.old ≡ replicate plane.now.faces false }
+    ensures { AreBarred plane.now list.now barred.new }
+{
+    for dart in 0..plane.graph().darts() {
+        let face = plane.face_of(dart);
+        mark(barred, usize::from(face), is_among(plane, list, dart));
+    }
+}
+
+/// Marks a place, or not.
+fn mark(marks: &mut [bool], place: usize, yes: bool)
+    requires { place < length marks.old }
+    ensures { marks.new ≡ (if yes then slice_set marks.old place true else marks.old) }
+{
+    if yes {
+        marks[place] = true;
+    }
+}
+
+/// Whether each asked angle is 1 to 4 right angles.
+pub(crate) fn are_angles(conditions: &Conditions<'_>) -> bool
+    ensures { IsTrue result ↔ HasAngles conditions.now }
+{
+    conditions
+        .angles
+        .iter()
+        .all(|asked| 1 <= asked.angle && asked.angle <= 4)
+}
+
+/// Whether all vertices that name an edge or a face are adjacent.
+pub(crate) fn are_darts(plane: &Plane, conditions: &Conditions<'_>) -> bool
+    ensures { IsTrue result ↔ AreDarts plane.now conditions.now }
+{
+    conditions
+        .turns
+        .iter()
+        .all(|asked| is_dart(plane, asked.from, asked.to))
+        && conditions
+            .angles
+            .iter()
+            .all(|asked| is_dart(plane, asked.from, asked.to))
+        && conditions
+            .inner
+            .iter()
+            .all(|ends| is_dart(plane, ends.from, ends.to))
+}
+
+/// The dart that leads from one vertex to another.
+fn dart_of(plane: &Plane, from: u16, to: u16) -> u16
+    requires { IsDart plane.now from to }
+    ensures inside { result < darts plane.now }
+    ensures named { Names plane.now result from to }
+{
+    for dart in 0..plane.graph().darts() {
+        if is_named(plane, dart, from, to) {
+            return dart;
+        }
+    }
+    unreachable!()
+}
+
+/// The angles that are asked for, by darts.
+///
+/// # Errors
+///
+/// `Conflict` exactly if, memory aside, angles that differ are asked for at one dart; `Memory` if memory runs out.
+pub(crate) fn angles_of(
+    alloc: Global,
+    plane: &Plane,
+    list: &[AngleAt],
+) -> Result<Vec<Option<u8>>, KeepFault>
+    requires angles { All (λ asked. (1 ≤ asked.angle) × (asked.angle ≤ 4)) list.now }
+    requires darts { All (λ asked. IsDart plane.now asked.from asked.to) list.now }
+    ensures angles { IfOk result (λ found. AreAngles plane.now list.now found.items) }
+    ensures fault { IfErr result (λ fault. (fault ≡ KeepFault.Memory) ⊎ ((fault ≡ KeepFault.Conflict) × AnglesDiffer plane.now list.now)) }
+{
+    let darts = plane.graph().darts();
+    let mut found = filled(Vec::new(alloc), usize::from(darts), None)?;
+    for asked in list {
+        let dart = dart_of(plane, asked.from, asked.to);
+        if !put_angle(&mut found, dart, asked.angle as u8) {
+            return Err(KeepFault::Conflict);
+        }
+    }
+    Ok(found)
+}
+
+/// Puts an angle at a dart, and returns whether no other one was there.
+fn put_angle(found: &mut [Option<u8>], dart: u16, angle: u8) -> bool
+    requires { dart < length found.old }
+    ensures put { IsTrue result → IsPut dart angle found.old found.new }
+    ensures other { IsFalse result → HoldsOther dart angle found.old }
+{
+    let place = usize::from(dart);
+    if let Some(held) = found[place] {
+        return held == angle;
+    }
+    found[place] = Some(angle);
+    true
+}
+
+/// The turns that are asked for, at the lesser darts of edges.
+///
+/// # Errors
+///
+/// `Conflict` exactly if, memory aside, turns that differ are asked for along one dart; `Memory` if memory runs out.
+pub(crate) fn turns_of(
+    alloc: Global,
+    plane: &Plane,
+    list: &[TurnsAlong],
+) -> Result<Vec<Option<i32>>, KeepFault>
+    requires { All (λ asked. IsDart plane.now asked.from asked.to) list.now }
+    ensures turns { IfOk result (λ found. AreTurns plane.now list.now found.items) }
+    ensures fault { IfErr result (λ fault. (fault ≡ KeepFault.Memory) ⊎ ((fault ≡ KeepFault.Conflict) × TurnsDiffer plane.now list.now)) }
+{
+    let darts = plane.graph().darts();
+    let mut found = filled(Vec::new(alloc), usize::from(darts), None)?;
+    for asked in list {
+        let dart = dart_of(plane, asked.from, asked.to);
+        if !put_along(plane, &mut found, dart, asked.turns) {
+            return Err(KeepFault::Conflict);
+        }
+    }
+    Ok(found)
+}
+
+/// Puts turns along a dart at the lesser dart of its edge, and returns whether no others were there.
+fn put_along(plane: &Plane, found: &mut [Option<i32>], dart: u16, turns: i16) -> bool
+    requires size { length found.old ≡ darts plane.now }
+    requires few { All AreFew found.old }
+    requires dart { dart < darts plane.now }
+    ensures few { All AreFew found.new }
+    ensures put { IsTrue result → IsPut (lesser_of plane.now dart) (along_lesser plane.now dart turns) found.old found.new }
+    ensures other { IsFalse result → HoldsOther (lesser_of plane.now dart) (along_lesser plane.now dart turns) found.old }
+{
+    let reverse = plane.graph().reverse(dart);
+    if dart < reverse {
+        put_turns(found, dart, widened(turns))
+    } else {
+        put_turns(found, reverse, reversed(turns))
+    }
+}
+
+/// The number of turns along a dart, as a wider number.
+fn widened(turns: i16) -> i32
+    ensures value { result ≡ turns }
+    ensures few { nat_abs result ≤ 2 ^ 15 }
+{
+    i32::from(turns)
+}
+
+/// The number of turns along the reverse of a dart with these turns: with the other sign.
+fn reversed(turns: i16) -> i32
+    ensures value { result ≡ neg_ℤ turns }
+    ensures few { nat_abs result ≤ 2 ^ 15 }
+{
+    -i32::from(turns)
+}
+
+/// Puts turns at a dart, and returns whether no others were there.
+fn put_turns(found: &mut [Option<i32>], dart: u16, turns: i32) -> bool
+    requires dart { dart < length found.old }
+    requires few { All AreFew found.old }
+    requires turns { nat_abs turns ≤ 2 ^ 15 }
+    ensures few { All AreFew found.new }
+    ensures put { IsTrue result → IsPut dart turns found.old found.new }
+    ensures other { IsFalse result → HoldsOther dart turns found.old }
+{
+    let place = usize::from(dart);
+    if let Some(held) = found[place] {
+        return held == turns;
+    }
+    found[place] = Some(turns);
+    true
 }

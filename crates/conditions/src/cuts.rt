@@ -1,13 +1,12 @@
 //! Cuts of a plane: sets of vertices and faces that turn more than can leave them, so that no representation keeps what
-//! is given (Gale 1957, Tamassia 1987).
-
+//! is given (Gale 1957, Tamassia 1987). Also why no shape that keeps the conditions was returned.
 ghost use Rattle.std.specs.Prelude.{◌≡◌, ◌+◌, ◌-◌, ◌<◌, ◌≤◌, ℕ, pos, ◌<ℤ◌, Bool, List, true, false, IfOk, IfSome, IfNone, length};
 ghost use Rattle.faces.specs.Planes.{PlaneModel, IsPlane, darts, vertices, head};
 ghost use Rattle.flow_network.specs.Marks.{is_marked};
 ghost use Rattle.flow_network.specs.Given.{GivenModel};
 ghost use Rattle.flow_network.specs.FaceNet.{vertex_has_to_turn};
 ghost use Rattle.min_cost_flow.specs.Overfull.{is_in};
-ghost use Rattle.ortho_rep.specs.declared.turn.Turn.{Turn};
+ghost use Rattle.ortho_rep.specs.declared.turn_strings.Turn.{Turn};
 ghost use Rattle.ortho_rep.specs.Representation.{Rep};
 ghost use Rattle.ortho_rep.specs.Keeping.{Keeps, HasNoneKeeping};
 ghost use Rattle.conditions.specs.Cut.{ShowsNone, HasFacesIn, HasFaceOut, IsLeftOut};
@@ -17,6 +16,7 @@ use faces::Plane;
 use flow_network::{FaceNet, Given, has_mark, vertex_to_turn};
 use min_cost_flow::overfull_in;
 use std::alloc::{AllocError, Global};
+use thiserror::Error;
 
 /// A set of vertices and faces, stored as a mark for each.
 ///
@@ -129,3 +129,49 @@ fn has_faces_in(plane: &Plane, given: &Given<'_>, faces: &[bool], vertex: u16) -
 pub fn cut_shows_none()
     ensures { (p : PlaneModel) (given : GivenModel) (vertices faces : List Bool) → IsPlane p → ShowsNone p given vertices faces → HasNoneKeeping p given }
 {}
+
+/// The reason why no shape that keeps the conditions was returned.
+#[derive(Debug, Drop, Error)]
+pub enum KeepFault {
+    /// An angle is not 1 to 4 right angles.
+    #[error("an angle is not 1 to 4 right angles")]
+    NoAngle,
+    /// Two vertices that name an edge or a face are not adjacent.
+    #[error("two vertices are not adjacent")]
+    NoEdge,
+    /// Two conditions on one angle, or on one edge, differ.
+    #[error("two conditions on one angle or one edge differ")]
+    Conflict,
+    /// All edges together have more than `MAX_GIVEN_TURNS` turns that are asked for.
+    #[error("more turns are asked for than edges can be given")]
+    TooManyTurns,
+    /// All faces are to stay inside, so none can be the outer face.
+    #[error("all faces must be inner, so none can be the outer face")]
+    NoOuter,
+    /// No shape with a chosen outer face keeps the angles and turns.
+    #[error("no orthogonal representation has these angles and turns")]
+    NoShape(Unkept),
+    /// An allocation was refused.
+    #[error("out of memory")]
+    Memory,
+}
+
+impl From<AllocError> for KeepFault {
+    ghost use Rattle.std.specs.Prelude.{◌≡◌};
+    ghost use Rattle.conditions.specs.declared.cuts.KeepFault.TheVariants.{Memory};
+
+    ghost from_gives = { λ _ fault. fault ≡ Memory };
+
+    fn from(_refused: AllocError) -> KeepFault {
+        KeepFault::Memory
+    }
+}
+
+/// A proof that no shape with a certain outer face keeps what is given: a cut that turns more than can leave it.
+#[derive(Debug, Drop)]
+pub struct Unkept {
+    /// The outer face: the one with the most darts, among equals the one with the least number.
+    pub outer: u16,
+    /// The vertices and faces that turn more than can leave them.
+    pub cut: Cut,
+}

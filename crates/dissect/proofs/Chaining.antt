@@ -1,7 +1,7 @@
 -- The darts of the map that got all bends lie in chains.
 use Rattle.std.proofs.Common.{ℕ, ◌+◌, ◌<◌, ◌≤◌, List, arith}
 use Rattle.faces.specs.Planes.{PlaneModel, darts, vertices}
-use Rattle.ortho_rep.specs.declared.turn.Turn.{Turn}
+use Rattle.ortho_rep.specs.declared.turn_strings.Turn.{Turn}
 use Rattle.dissect.specs.DartMaps.{DartMap, IsTied, IsMeeting}
 use Rattle.dissect.specs.Chains.{AreChains}
 use Rattle.dissect.proofs.Chains.{HasChains, split_chains, plain_chains}

@@ -4,7 +4,7 @@ use Rattle.std.proofs.lemmas.Bool.{cases_lt, lt-ltb, le-ltb, cond-true, cond-fal
 use Rattle.common.specs.Sums.{sum_below}
 use Rattle.common.proofs.Sums.{sum_below-more, sum_below-same, sum_below-add, sum_below-turned, sum_below-split}
 use Rattle.faces.specs.Planes.{PlaneModel, HasEnds, darts, reverse_dart}
-use Rattle.ortho_rep.specs.declared.turn.Turn.{Turn}
+use Rattle.ortho_rep.specs.declared.turn_strings.Turn.{Turn}
 use Rattle.ortho_rep.specs.Representation.{Rep, bends_of}
 use Rattle.ortho_rep.proofs.Mirrors.{length-mirrored}
 

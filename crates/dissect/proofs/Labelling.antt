@@ -2,7 +2,7 @@
 use Rattle.std.proofs.Common.{◌≡◌, ℕ, ◌+◌, ◌<◌, ◌≤◌, ◌∙◌, eqb, Bool, List, [], ◌∷◌, arith, subst, sym, ap, refl, inl, inr}
 use Rattle.std.proofs.lemmas.Bool.{eq-eqb, eqb-true}
 use Rattle.faces.specs.Planes.{PlaneModel, IsPlane, darts, face_at}
-use Rattle.ortho_rep.specs.declared.turn.Turn.{Turn}
+use Rattle.ortho_rep.specs.declared.turn_strings.Turn.{Turn}
 use Rattle.dissect.specs.DartMaps.{DartMap, no_dart, IsTied, IsCutUp}
 use Rattle.dissect.specs.Faces.{In, Below, last_of}
 use Rattle.dissect.specs.FaceNumbers.{AreFaceNumbers}

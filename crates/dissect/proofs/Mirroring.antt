@@ -1,7 +1,7 @@
 -- Strings read backwards.
 use Rattle.std.proofs.Common.{◌≡◌, ◌≢◌, ◌+◌, ◌*◌, ◌-◌, ◌≤◌, List, ◌∷◌, length, get_or, ◌∙◌, arith, sym, ap, refl}
-use Rattle.ortho_rep.specs.declared.turn.Turn.{Turn}
-use Rattle.ortho_rep.specs.declared.turn.Turn.TheVariants.{Left, Right}
+use Rattle.ortho_rep.specs.declared.turn_strings.Turn.{Turn}
+use Rattle.ortho_rep.specs.declared.turn_strings.Turn.TheVariants.{Left, Right}
 use Rattle.ortho_rep.specs.Turns.{opposite, mirrored, lefts, rights}
 use Rattle.ortho_rep.proofs.TurnCounts.{lefts-add-rights, lefts-mirrored, lefts-cons, rights-cons}
 use Rattle.ortho_rep.proofs.Mirrors.{length-mirrored, get_or-mirrored, mirrored-from}

@@ -7,7 +7,7 @@ use Rattle.std.proofs.Math.Numerals.{add-one}
 use Rattle.embedding.specs.Lesser.{lesser_darts_from}
 use Rattle.embedding.proofs.Lesser.{lesser_past, lesser_away, lesser_next}
 use Rattle.faces.specs.Planes.{PlaneModel, darts, reverse_dart}
-use Rattle.ortho_rep.specs.declared.turn.Turn.{Turn}
+use Rattle.ortho_rep.specs.declared.turn_strings.Turn.{Turn}
 use Rattle.ortho_rep.specs.Edges.{is_lesser, lesser_darts}
 use Rattle.dissect.specs.DartMaps.{DartMap, IsTied, IsMeeting, IsSubdivided}
 use Rattle.dissect.proofs.Splitting.{split_tied, split_meeting}

@@ -3,7 +3,7 @@ use Rattle.std.proofs.Common.{◌≡◌, ◌≢◌, ℕ, ◌+◌, ◌*◌, ◌%�
 use Rattle.std.proofs.lemmas.Bool.{cases_eq, eq-eqb, ne_eqb, cond-true, cond-false}
 use Rattle.common.specs.Sums.{sum_below}
 use Rattle.faces.specs.Planes.{PlaneModel, darts, vertices, head, face_at}
-use Rattle.ortho_rep.specs.declared.turn.Turn.{Turn}
+use Rattle.ortho_rep.specs.declared.turn_strings.Turn.{Turn}
 use Rattle.ortho_rep.specs.Turns.{mirrored, lefts, rights}
 use Rattle.dissect.specs.DartMaps.{DartMap, IsTied, IsMeeting, IsSubdivided, reflex_turns}
 use Rattle.dissect.specs.FaceNumbers.{AreFaceNumbers}

@@ -6,8 +6,8 @@ use Rattle.std.proofs.lemmas.List.{map_push, append-nil}
 use Rattle.faces.specs.Planes.{PlaneModel, IsPlane, HasEnds, darts, reverse_dart}
 use Rattle.faces.proofs.Ends.{plane_ends, seven_rules}
 use Rattle.faces.proofs.Connected.{all_connected}
-use Rattle.ortho_rep.specs.declared.turn.Turn.{Turn}
-use Rattle.ortho_rep.specs.declared.turn.Turn.TheVariants.{Left, Right}
+use Rattle.ortho_rep.specs.declared.turn_strings.Turn.{Turn}
+use Rattle.ortho_rep.specs.declared.turn_strings.Turn.TheVariants.{Left, Right}
 use Rattle.ortho_rep.specs.Turns.{opposite, mirrored}
 use Rattle.dissect.specs.DartMaps.{DartMap, IsTied, no_dart}
 use Rattle.dissect.specs.Paths.{HasPaths, IsConnected}

@@ -4,7 +4,7 @@ use Rattle.std.specs.Prelude.{pos, negsuc, ◌+ℤ◌, ◌-ℤ◌}
 use Rattle.std.proofs.lemmas.Int.{ints}
 use Rattle.common.proofs.Sums.{total_below-parts}
 use Rattle.faces.specs.Planes.{PlaneModel, IsPlane, HasEnds, darts, reverse_dart, next, face_at}
-use Rattle.ortho_rep.specs.declared.turn.Turn.{Turn}
+use Rattle.ortho_rep.specs.declared.turn_strings.Turn.{Turn}
 use Rattle.ortho_rep.specs.Turns.{lefts, rights, mirrored}
 use Rattle.ortho_rep.specs.Representation.{Rep, turning_of, turning_around}
 use Rattle.ortho_rep.proofs.TurnCounts.{lefts-mirrored, lefts-add-rights}

@@ -10,7 +10,7 @@ use Rattle.faces.specs.Faces.{IsClosedUnder}
 use Rattle.faces.specs.Planes.{PlaneModel, IsPlane, HasEnds, darts, reverse_dart, next}
 use Rattle.faces.proofs.Ends.{plane_ends, seven_rules}
 use Rattle.faces.proofs.Connected.{all_connected}
-use Rattle.ortho_rep.specs.declared.turn.Turn.{Turn}
+use Rattle.ortho_rep.specs.declared.turn_strings.Turn.{Turn}
 use Rattle.ortho_rep.specs.Turns.{lefts, rights}
 use Rattle.ortho_rep.specs.Shapes.{ShapeModel, angle_at, turns_at}
 use Rattle.ortho_rep.specs.Representation.{IsShape}

@@ -6,7 +6,7 @@ use Rattle.std.proofs.lemmas.Int.{ints}
 use Rattle.common.specs.Sums.{sum_below}
 use Rattle.common.proofs.Sums.{sum_below-same, sum_below-le, sum_below-times, sum_below-constant, exchanged}
 use Rattle.faces.specs.Planes.{PlaneModel, IsPlane, HasEnds, darts, vertices, head, reverse_dart, next, face_at}
-use Rattle.ortho_rep.specs.declared.turn.Turn.{Turn}
+use Rattle.ortho_rep.specs.declared.turn_strings.Turn.{Turn}
 use Rattle.ortho_rep.specs.Turns.{lefts, rights}
 use Rattle.ortho_rep.specs.Representation.{Rep}
 use Rattle.ortho_rep.proofs.WeakDuality.{left_sums, right_sums, turning-split}

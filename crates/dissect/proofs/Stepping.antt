@@ -2,7 +2,7 @@
 use Rattle.std.proofs.Common.{◌≡◌, ◌≢◌, ◌⊎◌, ℕ, ◌+◌, ◌<◌, ◌≤◌, List, [], ◌∷◌, ◌∙◌, arith, sym, ap, inl, inr, refl}
 use Rattle.std.proofs.lemmas.Bool.{cases_eq, cases_lt}
 use Rattle.faces.specs.Planes.{PlaneModel, HasEnds, darts, reverse_dart}
-use Rattle.ortho_rep.specs.declared.turn.Turn.{Turn}
+use Rattle.ortho_rep.specs.declared.turn_strings.Turn.{Turn}
 use Rattle.ortho_rep.specs.Turns.{mirrored}
 use Rattle.dissect.specs.DartMaps.{DartMap, IsSubdivided}
 use Rattle.dissect.proofs.Splitting.{by_age, split_tied, split_meeting}

@@ -2,7 +2,7 @@
 use Rattle.std.proofs.Common.{◌≡◌, ◌≢◌, ℕ, ◌+◌, ◌-◌, ◌%◌, ◌<◌, ◌≤◌, List, ◌∷◌, length, ◌∙◌, arith, sym, ap, inl, inr}
 use Rattle.std.proofs.lemmas.Bool.{cases_eq}
 use Rattle.common.specs.Sums.{sum_below}
-use Rattle.ortho_rep.specs.declared.turn.Turn.{Turn}
+use Rattle.ortho_rep.specs.declared.turn_strings.Turn.{Turn}
 use Rattle.ortho_rep.specs.Turns.{mirrored, lefts, rights}
 use Rattle.ortho_rep.proofs.TurnCounts.{lefts-mirrored}
 use Rattle.ortho_rep.proofs.Mirrors.{length-mirrored}

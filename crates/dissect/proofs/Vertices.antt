@@ -1,7 +1,7 @@
 -- The vertices of a plane are connected by its darts, and so are the faces by those off a tree on the vertices.
 use Rattle.std.proofs.Common.{◌≡◌, ℕ, ◌+◌, ◌-◌, true, not, refl, sym, ap, ◌∙◌, subst, arith}
 use Rattle.std.proofs.lemmas.Bool.{true_from_ne_false}
-use Rattle.embedding.specs.declared.rules.Rule.TheVariants.{Disconnected}
+use Rattle.embedding.specs.declared.breaks.Rule.TheVariants.{Disconnected}
 use Rattle.embedding.specs.Rules.{IsClosed}
 use Rattle.faces.specs.Planes.{PlaneModel, IsPlane, HasEnds, darts, vertices, head, tail, reverse_dart, face_at}
 use Rattle.flow_network.proofs.VertexDegrees.{entry_dart}

@@ -2,7 +2,7 @@
 use Rattle.std.specs.Prelude.{◌≡◌, ℕ, ◌+◌, ◌-◌, ◌*◌, ◌<◌, ◌≤◌, List}
 use Rattle.faces.specs.Planes.{PlaneModel, darts, vertices, head, face_at}
 pub use Rattle.dissect.specs.Directions.{AreDirections}
-use Rattle.ortho_rep.specs.declared.turn.Turn.{Turn}
+use Rattle.ortho_rep.specs.declared.turn_strings.Turn.{Turn}
 use Rattle.ortho_rep.specs.Representation.{bends_of}
 use Rattle.dissect.specs.DartMaps.{DartMap, reflex_turns}
 use Rattle.dissect.specs.FaceNumbers.{HasTurns}

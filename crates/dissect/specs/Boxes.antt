@@ -1,6 +1,6 @@
 -- What callers see of `Boxes`: a map in four directions, and which of its parts are those of a plane.
 use Rattle.std.specs.Prelude.{◌≡◌, ℕ, ◌<◌, ◌≤◌, ◌⊎◌, List, [], ◌∷◌, length, slice_index, slice_index_or}
-use Rattle.common.specs.declared.limits.TheConstants.{MAX_VERTICES}
+use Rattle.common.specs.declared.parameters.TheConstants.{MAX_VERTICES}
 use Rattle.embedding.specs.declared.graphs.TheConstants.{MAX_EDGES}
 use Rattle.dissect.specs.declared.table.DartTable.{DartTable}
 use Rattle.dissect.specs.DartMaps.{DartMap, IsSound, no_dart}

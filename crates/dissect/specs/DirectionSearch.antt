@@ -1,6 +1,6 @@
 -- How the search for directions goes on: the directions found so far, by dart, and the darts to go on from.
 use Rattle.std.specs.Prelude.{◌≡◌, ◌≢◌, ℕ, ◌⊎◌, List, [], ◌∷◌, ◌++◌, slice_index, set}
-use Rattle.dissect.specs.declared.direction_search.TheConstants.{NO_DIRECTION}
+use Rattle.dissect.specs.declared.dissection.TheConstants.{NO_DIRECTION}
 
 -- the dart has a direction
 abbrev pub IsKnown : List ℕ → ℕ → Type 0

@@ -1,7 +1,7 @@
 -- Directions of the darts of a plane: where each arrives at its head, given angles a and strings s of turns.
 use Rattle.std.specs.Prelude.{◌≡◌, ℕ, ◌+◌, ◌%◌, ◌<◌, List}
 use Rattle.faces.specs.Planes.{PlaneModel, darts, reverse_dart, next}
-use Rattle.ortho_rep.specs.declared.turn.Turn.{Turn}
+use Rattle.ortho_rep.specs.declared.turn_strings.Turn.{Turn}
 use Rattle.ortho_rep.specs.Turns.{lefts, rights}
 
 -- h d is the direction in which the dart d arrives at its head: 0 to 3, quarter turns to the left from east

@@ -1,10 +1,10 @@
 -- Numbers that grow along the darts, and the points that are taken from them.
 use Rattle.std.specs.Prelude.{◌≡◌, ℕ, ◌<◌, ◌≤◌, ◌⊎◌, map, length}
 use Rattle.std.specs.List.{range_with_len}
-use Rattle.ortho_rep.specs.declared.points.TheConstants.{MAX_COORDINATE}
+use Rattle.ortho_rep.specs.declared.grid_points.TheConstants.{MAX_COORDINATE}
 use Rattle.dissect.specs.DartMaps.{DartMap}
 use Rattle.dissect.specs.Paths.{turning_vertices}
-use Rattle.ortho_rep.specs.declared.points.Point.{Point}
+use Rattle.ortho_rep.specs.declared.grid_points.Point.{Point}
 use Rattle.ortho_rep.specs.Points.{PointsModel, corners_at}
 use Rattle.dissect.specs.Boxes.{BoxesModel, HasEdge, dart_map}
 

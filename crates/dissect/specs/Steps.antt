@@ -1,8 +1,8 @@
 -- How a map gets its bends: one subdivision a turn, edge by edge.
 use Rattle.std.specs.Prelude.{ℕ, ◌+◌, ◌%◌, ◌<◌, ◌≤◌, List, [], ◌∷◌}
 use Rattle.faces.specs.Planes.{PlaneModel, darts, reverse_dart}
-use Rattle.ortho_rep.specs.declared.turn.Turn.{Turn}
-use Rattle.ortho_rep.specs.declared.turn.Turn.TheVariants.{Left, Right}
+use Rattle.ortho_rep.specs.declared.turn_strings.Turn.{Turn}
+use Rattle.ortho_rep.specs.declared.turn_strings.Turn.TheVariants.{Left, Right}
 use Rattle.dissect.specs.DartMaps.{DartMap, IsSubdivided}
 
 -- the angle on the left of a walk that makes this turn, in right angles

@@ -5,7 +5,7 @@ ghost use Rattle.dissect.specs.DartMaps.{no_dart};
 ghost use Rattle.geometry.specs.Directions.{quarters};
 ghost use Rattle.dissect.specs.Boxes.{AreBoxes, IsEdgePath, parts_of, dart_map};
 
-use crate::scratch::Scratch;
+use crate::dissection::Scratch;
 use crate::table::{DartTable, NO_DART};
 use common::FlatLists;
 use geometry::Direction;

@@ -1,21 +1,206 @@
-//! The dissection of a shape into rectangles, the step before compaction (Tamassia 1987).
-
-ghost use Rattle.std.specs.Prelude.{IfOk};
+//! The dissection of a shape into rectangles, the step before compaction (Tamassia 1987). The directions of all darts
+//! are found by a graph search with a stack (Ahuja, Magnanti and Orlin, Network Flows, 1993, section 3.4). What boxes
+//! keep of a plane are the paths of its edges. Buffers are reused.
+ghost use Rattle.std.specs.Prelude.{◌≡◌, ◌+◌, ◌%◌, ◌<◌, ◌≤◌, [], length, replicate, vec_len, IfOk, OnOk, slice_index, ℕ, List, ◌∷◌, ◌++◌, slice_index_or};
+ghost use Rattle.dissect.specs.Tables.{room, dart_map_of};
+ghost use Rattle.ortho_rep.specs.declared.turn_strings.TheConstants.{MAX_TURNS};
+ghost use Rattle.ortho_rep.specs.Turns.{lefts, rights};
+ghost use Rattle.ortho_rep.specs.Shapes.{angle_at, turns_at};
 ghost use Rattle.ortho_rep.specs.Representation.{IsShape};
+ghost use Rattle.faces.specs.Planes.{darts};
+ghost use Rattle.dissect.specs.Directions.{AreDirections};
+ghost use Rattle.dissect.specs.declared.dissection.TheConstants.{NO_DIRECTION};
+ghost use Rattle.dissect.specs.DirectionSearch.{IsGivenDirection};
+ghost use Rattle.dissect.specs.Paths.{IsPath};
 ghost use Rattle.dissect.specs.Boxed.{IsBoxed};
 ghost use Rattle.dissect.specs.DirectionLists.{AreDirectionsOf};
 
 use crate::boxes::Boxes;
-use crate::direction_search::{DirectionSearch, directions_in};
-use crate::edges::lesser_darts_of;
-use crate::normalization::normalize_into;
-use crate::parts::paths_of;
+use crate::face_list::Faces;
+use crate::normalization::{lesser_darts_of, normalize_into};
 use crate::refinement::refine_in;
-use crate::scratch::Scratch;
+use crate::table::{DartTable, NO_DART};
+use common::{FlatLists, emptied, filled};
 use faces::Plane;
-use ortho_rep::Shape;
+use ortho_rep::{Shape, Turn, count_lefts};
 use std::alloc::{AllocError, Global};
 use std::mem;
+
+/// The buffers of a dissection, reused for the next one. Their contents between two calls do not matter.
+#[derive(Drop)]
+pub struct Scratch {
+    pub(crate) table: DartTable,
+    pub(crate) search: DirectionSearch,
+    pub(crate) faces: Faces,
+    pub(crate) edges: Vec<u16>,
+    pub(crate) darts: Vec<u32>,
+    pub(crate) starts: Vec<usize>,
+}
+
+impl Scratch {
+    /// An empty scratch. It allocates nothing.
+    pub fn empty(alloc: Global) -> Scratch
+        ensures { room result.table ≡ 0 }
+    {
+        Scratch {
+            table: DartTable::empty(alloc),
+            search: DirectionSearch::empty(alloc),
+            faces: Faces::empty(alloc),
+            edges: Vec::new(alloc),
+            darts: Vec::new(alloc),
+            starts: Vec::new(alloc),
+        }
+    }
+}
+
+/// Stands for no direction.
+const NO_DIRECTION: u8 = 4;
+
+/// A search for the directions of darts, whose buffers the next search reuses.
+#[derive(Drop)]
+pub struct DirectionSearch {
+    /// The directions found so far, by dart.
+    pub directions: Vec<u8>,
+    // the darts with a direction from which to go on
+    waiting: Vec<u16>,
+}
+
+impl DirectionSearch {
+    /// A search that has found nothing. It allocates nothing.
+    pub fn empty(alloc: Global) -> DirectionSearch
+        ensures { result.directions.items ≡ [] }
+    {
+        DirectionSearch {
+            directions: Vec::new(alloc),
+            waiting: Vec::new(alloc),
+        }
+    }
+
+    /// A search in which none of this many darts has a direction yet, in the same buffers.
+    fn begun(self, darts: usize) -> Result<DirectionSearch, AllocError>
+        ensures unset { IfOk result (λ s. s.directions.items ≡ replicate darts NO_DIRECTION) }
+        ensures waiting { IfOk result (λ s. s.waiting.items ≡ []) }
+    {
+        Ok(DirectionSearch {
+            directions: filled(self.directions, darts, NO_DIRECTION)?,
+            waiting: emptied(self.waiting, darts)?,
+        })
+    }
+
+    /// Gives a dart this direction, and lets it wait, unless it has one.
+    fn reach(&mut self, dart: u16, direction: u8) -> Result<(), AllocError>
+        requires { dart < vec_len self.old.directions }
+        ensures { OnOk result (IsGivenDirection self.old.directions.items self.old.waiting.items dart direction
+            self.new.directions.items self.new.waiting.items) }
+    {
+        if self.directions[usize::from(dart)] == NO_DIRECTION {
+            self.directions[usize::from(dart)] = direction;
+            self.waiting.push(dart)?;
+        }
+        Ok(())
+    }
+}
+
+/// The direction of the dart that arrives next clockwise at the vertex of a dart with this direction
+/// and angle.
+fn clockwise_direction(direction: u8, angle: u8) -> u8
+    requires quarter { direction < 4 }
+    requires right { angle ≤ 4 }
+    ensures quarter { result < 4 }
+    ensures turned { (result + angle) % 4 ≡ direction }
+{
+    (direction + 4 - angle) % 4
+}
+
+/// The direction of the reverse of a dart with this direction and these turns.
+fn reverse_direction(direction: u8, turns: &[Turn]) -> u8
+    requires { length turns.now ≤ MAX_TURNS }
+    ensures quarter { result < 4 }
+    ensures turned { (result + 2 + lefts turns.now) % 4 ≡ (direction + rights turns.now) % 4 }
+{
+    let lefts = count_lefts(turns);
+    let rights = turns.len() - lefts;
+    // Walked the other way, a right turn is one turn to the left and a left turn is three.
+    ((usize::from(direction) + 2 + rights + 3 * lefts) % 4) as u8
+}
+
+/// Finds the direction of each dart of an orthogonal representation; in the result, `directions[d]` is that of dart d.
+///
+/// The direction of a dart is that in which it arrives at its head, in quarter turns to the left from east: 0 is east,
+/// 1 north, 2 west and 3 south. Dart 0 arrives to the east. Linear in the darts and the turns. It reuses the buffers of
+/// `search`, and allocates, a few bytes for each dart, only if they are too small.
+///
+/// # Errors
+///
+/// `AllocError` if there is no memory for the directions or for the darts that wait in the search; the buffers of
+/// `search` are then gone.
+pub fn directions_in(
+    plane: &Plane,
+    shape: &Shape,
+    search: DirectionSearch,
+) -> Result<DirectionSearch, AllocError>
+    requires { IsShape plane.now shape.now }
+    ensures count { IfOk result (λ s. length s.directions.items ≡ darts plane.now) }
+    ensures first { IfOk result (λ s. slice_index s.directions.items 0 ≡ 0) }
+    ensures directions { IfOk result (λ s. AreDirections plane.now (angle_at shape.now)
+        (turns_at shape.now) (slice_index s.directions.items)) }
+{
+    let graph = plane.graph();
+    let mut search = search.begun(usize::from(graph.darts()))?;
+    search.reach(0, 0)?;
+    while let Some(dart) = search.waiting.pop() {
+        let direction = search.directions[usize::from(dart)];
+        let clockwise = graph.reverse(plane.next(dart));
+        search.reach(clockwise, clockwise_direction(direction, shape.angle(dart)))?;
+        let reverse = graph.reverse(dart);
+        search.reach(reverse, reverse_direction(direction, shape.turns(dart)))?;
+    }
+    Ok(search)
+}
+
+/// Appends to a list the darts of the path that ends with a dart, in walking order. Linear in
+/// them.
+fn push_path(darts: &mut Vec<u32>, table: &DartTable, last: u32) -> Result<(), AllocError>
+    requires path { (first : ℕ) × (rest : List ℕ) × IsPath (dart_map_of table.now) last first rest }
+    ensures { OnOk result ((first : ℕ) (rest : List ℕ) → IsPath (dart_map_of table.now) last first rest
+        → darts.new.items ≡ darts.old.items ++ (first ∷ rest)) }
+{
+    let start = darts.len();
+    darts.push(last)?;
+    let mut dart = last;
+    'back: while table.before[dart as usize] != NO_DART {
+        dart = table.before[dart as usize];
+        darts.push(dart)?;
+    }
+    darts[start..].reverse();
+    Ok(())
+}
+
+/// The paths of edges, each the list of the darts that make it up. Each edge is given by its last dart.
+///
+/// It reuses the buffers of `darts` and `starts`. Linear in the darts of the paths.
+pub fn paths_of(
+    table: &DartTable,
+    edges: &[u16],
+    darts: Vec<u32>,
+    starts: Vec<usize>,
+) -> Result<FlatLists<u32>, AllocError>
+    requires paths { (e : ℕ) → e < length edges.now
+        → (first : ℕ) × (rest : List ℕ) × IsPath (dart_map_of table.now) (slice_index edges.now e) first rest }
+    ensures count { IfOk result (λ paths. length paths ≡ length edges.now) }
+    ensures paths { IfOk result (λ paths. (e : ℕ) → e < length edges.now → (first : ℕ) (rest : List ℕ)
+        → IsPath (dart_map_of table.now) (slice_index edges.now e) first rest → slice_index_or paths e [] ≡ first ∷ rest) }
+{
+    // No two paths share a dart, and none has its reverse: half of all darts are room enough.
+    let mut darts = emptied(darts, table.darts as usize / 2)?;
+    let mut starts = emptied(starts, edges.len() + 1)?;
+    starts.push(0)?;
+    'edges: for last in edges {
+        push_path(&mut darts, table, u32::from(*last))?;
+        starts.push(darts.len())?;
+    }
+    Ok(FlatLists::new(darts, starts))
+}
 
 /// The dissection of an orthogonal representation of a plane into boxes.
 ///

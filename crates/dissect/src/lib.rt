@@ -4,33 +4,18 @@
 //! boxes, which turn left four times and are else straight.
 #![tactic(auto)]
 
-mod bare;
 mod boxes;
-mod cut_laws;
-pub mod direction_laws;
-mod direction_search;
 mod dissection;
-mod edges;
-mod face_cutting;
 mod face_list;
+pub mod laws;
 mod normalization;
-mod parts;
-pub mod path_laws;
-mod rectangle;
 mod refinement;
-mod scratch;
 mod table;
-mod ties;
-mod walks;
 
 pub use boxes::Boxes;
-pub use cut_laws::{cuts_reach_corners, cuts_stay_sound, cuts_use_right_turns};
-pub use direction_search::{DirectionSearch, directions_in};
-pub use dissection::{dissect, dissect_along, dissect_in};
-pub use edges::lesser_darts_of;
-pub use face_cutting::{cut_face, cut_faces};
+pub use dissection::{DirectionSearch, Scratch, directions_in, dissect, dissect_along, dissect_in};
 pub use face_list::Faces;
-pub use normalization::normalize_into;
-pub use refinement::refine_in;
-pub use scratch::Scratch;
+pub use laws::{cuts_reach_corners, cuts_stay_sound, cuts_use_right_turns};
+pub use normalization::{lesser_darts_of, normalize_into};
+pub use refinement::{cut_face, cut_faces, refine_in};
 pub use table::{DartTable, NO_DART};

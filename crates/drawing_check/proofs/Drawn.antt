@@ -13,7 +13,7 @@ use Rattle.faces.proofs.Ends.{plane_ends, seven_rules}
 use Rattle.faces.proofs.Connected.{all_connected}
 use Rattle.ortho_rep.specs.Shapes.{ShapeModel, angle_at}
 use Rattle.ortho_rep.specs.Representation.{IsShape}
-use Rattle.ortho_rep.specs.declared.points.Point.{Point}
+use Rattle.ortho_rep.specs.declared.grid_points.Point.{Point}
 use Rattle.ortho_rep.specs.Points.{PointsModel, origin, vertex_point, corners_at}
 use Rattle.ortho_rep.specs.Edges.{is_lesser, edge_number, lesser_darts}
 use Rattle.drawing_check.specs.Paths.{path_along, paths, point_of}

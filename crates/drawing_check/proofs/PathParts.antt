@@ -3,9 +3,9 @@ use Rattle.std.proofs.Common.{◌≡◌, ℕ, ◌+◌, ◌-◌, ◌<◌, ◌≤�
 use Rattle.std.specs.List.{range_with_len}
 use Rattle.std.proofs.lemmas.Bool.{cases_lt, lt-ltb, le-ltb}
 use Rattle.std.proofs.lemmas.List.FromFn.{length-map-range_with_len, get_or-map-range_with_len}
-use Rattle.geometry.specs.declared.rectangles.Rectangle.{Rectangle}
+use Rattle.geometry.specs.declared.plane_sweep.Rectangle.{Rectangle}
 use Rattle.geometry.specs.Rectangles.{Covers}
-use Rattle.ortho_rep.specs.declared.points.Point.{Point}
+use Rattle.ortho_rep.specs.declared.grid_points.Point.{Point}
 use Rattle.drawing_check.specs.Walks.{toward, step_from, distance, walk}
 use Rattle.drawing_check.specs.Draws.{IsAxis}
 use Rattle.drawing_check.specs.Shown.{rectangle_between, Enumerates}

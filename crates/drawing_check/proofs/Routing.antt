@@ -7,7 +7,7 @@ use Rattle.std.proofs.lemmas.List.Elements.{All-map, All-filter, All-contains, f
 use Rattle.std.proofs.lemmas.Bool.{both_ways, cases_eq, cond-true, cond-false}
 use Rattle.faces.specs.Planes.{PlaneModel, darts}
 use Rattle.ortho_rep.proofs.EdgeNumbers.{lesser-more}
-use Rattle.ortho_rep.specs.declared.points.Point.{Point}
+use Rattle.ortho_rep.specs.declared.grid_points.Point.{Point}
 use Rattle.ortho_rep.specs.Points.{PointsModel}
 use Rattle.ortho_rep.specs.Edges.{is_lesser, lesser_darts}
 use Rattle.drawing_check.specs.Paths.{path_along, paths}

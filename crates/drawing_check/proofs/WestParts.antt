@@ -5,7 +5,7 @@ use Rattle.faces.specs.Planes.{PlaneModel, IsPlane, HasEnds, darts, vertices, re
 use Rattle.faces.proofs.Ends.{plane_ends}
 use Rattle.ortho_rep.specs.Shapes.{ShapeModel}
 use Rattle.ortho_rep.specs.Representation.{IsShape}
-use Rattle.ortho_rep.specs.declared.points.Point.{Point}
+use Rattle.ortho_rep.specs.declared.grid_points.Point.{Point}
 use Rattle.ortho_rep.specs.Points.{PointsModel}
 use Rattle.ortho_rep.specs.Edges.{is_lesser}
 use Rattle.drawing_check.specs.Paths.{path_along, dart_path, point_of}
@@ -13,7 +13,7 @@ use Rattle.drawing_check.specs.Draws.{Draws}
 use Rattle.drawing_check.specs.Regions.{PassesNorth, HasRegions}
 use Rattle.drawing_check.proofs.Pieces.{GoesAt, BackAt, back_in_reverse, goes_in_reverse}
 use Rattle.drawing_check.proofs.Leaving.{reverse_dart_is_greater}
-use Rattle.drawing_check.specs.declared.westmost.Upright.{Upright}
+use Rattle.drawing_check.specs.declared.face_regions.Upright.{Upright}
 use Rattle.drawing_check.specs.Outside.{IsWestmost, IsLevel}
 use Rattle.drawing_check.specs.Westmost.{further_west, with_part, with_path, with_edge, westmost_below, face_on_west}
 use Rattle.drawing_check.proofs.Drawn.{back_is_lesser, path_axes}

@@ -1,14 +1,14 @@
 -- What it is that points draw a shape of a plane: four conditions, on the points and on the paths of the edges.
 use Rattle.std.specs.Prelude.{◌≡◌, ◌≢◌, ℕ, ◌+◌, ◌*◌, ◌<◌, ◌≤◌, ◌⊎◌, List, ◌++◌, length, nat_lt, slice_index_or, if◌then◌else◌, All}
 use Rattle.std.specs.List.{flat_map}
-use Rattle.ortho_rep.specs.declared.points.TheConstants.{MAX_COORDINATE}
+use Rattle.ortho_rep.specs.declared.grid_points.TheConstants.{MAX_COORDINATE}
 use Rattle.geometry.specs.declared.direction.Direction.{Direction}
 use Rattle.geometry.specs.declared.direction.Direction.TheVariants.{East, North, West, South}
 use Rattle.geometry.specs.Directions.{left_of, right_of, left_quarters}
 use Rattle.faces.specs.Planes.{PlaneModel, vertices, darts, reverse_dart, next}
-use Rattle.ortho_rep.specs.declared.turn.Turn.{Turn}
-use Rattle.ortho_rep.specs.declared.turn.Turn.TheVariants.{Left, Right}
-use Rattle.ortho_rep.specs.declared.points.Point.{Point}
+use Rattle.ortho_rep.specs.declared.turn_strings.Turn.{Turn}
+use Rattle.ortho_rep.specs.declared.turn_strings.Turn.TheVariants.{Left, Right}
+use Rattle.ortho_rep.specs.declared.grid_points.Point.{Point}
 use Rattle.ortho_rep.specs.Shapes.{ShapeModel, angle_at, turns_at}
 use Rattle.ortho_rep.specs.Points.{PointsModel}
 use Rattle.ortho_rep.specs.Edges.{lesser_darts}

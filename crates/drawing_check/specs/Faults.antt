@@ -3,8 +3,8 @@ use Rattle.std.specs.Prelude.{◌≡◌, ⊤}
 use Rattle.faces.specs.Planes.{PlaneModel}
 use Rattle.ortho_rep.specs.Shapes.{ShapeModel}
 use Rattle.ortho_rep.specs.Points.{PointsModel}
-use Rattle.drawing_check.specs.declared.fault.CheckFault.{CheckFault}
-use Rattle.drawing_check.specs.declared.fault.CheckFault.TheVariants.{OutOfGrid, NotAxis, WrongTurn, Meet, Memory}
+use Rattle.drawing_check.specs.declared.drawing.CheckFault.{CheckFault}
+use Rattle.drawing_check.specs.declared.drawing.CheckFault.TheVariants.{OutOfGrid, NotAxis, WrongTurn, Meet, Memory}
 use Rattle.drawing_check.specs.Paths.{paths}
 use Rattle.drawing_check.specs.Draws.{AreInGrid, AreOnAxes, TurnAsSaid, MeetNowhere, Draws}
 

@@ -1,7 +1,7 @@
 -- The parts of edges by the axis along which they lie. Only proofs speak of them.
 use Rattle.std.specs.Prelude.{ℕ, ◌==◌, ◌&&◌, nat_lt, nat_le, Bool, if◌then◌else◌, List, [], ◌∷◌, ◌++◌}
 use Rattle.faces.specs.Planes.{PlaneModel, reverse_dart, face_at}
-use Rattle.ortho_rep.specs.declared.points.Point.{Point}
+use Rattle.ortho_rep.specs.declared.grid_points.Point.{Point}
 use Rattle.ortho_rep.specs.Points.{PointsModel}
 use Rattle.drawing_check.specs.Paths.{path_along}
 

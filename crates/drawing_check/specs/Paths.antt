@@ -1,7 +1,7 @@
 -- The path of each edge: its ends and its corners, met in walking along its lesser dart.
 use Rattle.std.specs.Prelude.{ℕ, List, [], ◌∷◌, ◌++◌, map, reverse, slice_index_or, if◌then◌else◌}
 use Rattle.faces.specs.Planes.{PlaneModel, tail, head, reverse_dart}
-use Rattle.ortho_rep.specs.declared.points.Point.{Point}
+use Rattle.ortho_rep.specs.declared.grid_points.Point.{Point}
 use Rattle.ortho_rep.specs.Points.{PointsModel, origin, vertex_point, corners_at}
 use Rattle.ortho_rep.specs.Edges.{is_lesser, lesser_darts, edge_number}
 

@@ -6,7 +6,7 @@
 -- further west or south touch no point and no edge: they join those and have no name.
 use Rattle.std.specs.Prelude.{◌≡◌, ℕ, ◌+◌, ◌<◌, ◌≤◌, List, length}
 use Rattle.faces.specs.Planes.{PlaneModel, darts, reverse_dart, face_at}
-use Rattle.ortho_rep.specs.declared.points.Point.{Point}
+use Rattle.ortho_rep.specs.declared.grid_points.Point.{Point}
 use Rattle.ortho_rep.specs.Points.{PointsModel}
 use Rattle.drawing_check.specs.Paths.{dart_path, point_of}
 

@@ -5,7 +5,7 @@ use Rattle.geometry.specs.declared.direction.Direction.TheVariants.{East}
 use Rattle.geometry.specs.Directions.{left_quarters}
 use Rattle.faces.specs.Planes.{PlaneModel, darts, reverse_dart, next}
 use Rattle.ortho_rep.specs.Shapes.{ShapeModel, angle_at}
-use Rattle.ortho_rep.specs.declared.points.Point.{Point}
+use Rattle.ortho_rep.specs.declared.grid_points.Point.{Point}
 use Rattle.drawing_check.specs.declared.route.Route.{Route}
 
 abbrev pub path_of : Route → List Point

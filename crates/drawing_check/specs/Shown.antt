@@ -1,8 +1,8 @@
 -- Lists of points as rectangles that cover them. Only private contracts speak of them.
 use Rattle.std.specs.Prelude.{◌≡◌, ◌↔◌, min, max, Bool, ◌==◌, ◌&&◌, if◌then◌else◌, List, [], ◌∷◌, ◌++◌, Contains}
-use Rattle.geometry.specs.declared.rectangles.Rectangle.{Rectangle}
+use Rattle.geometry.specs.declared.plane_sweep.Rectangle.{Rectangle}
 use Rattle.geometry.specs.Rectangles.{Covers}
-use Rattle.ortho_rep.specs.declared.points.Point.{Point}
+use Rattle.ortho_rep.specs.declared.grid_points.Point.{Point}
 use Rattle.drawing_check.specs.Walks.{step_from, AreDistinct}
 
 -- the least rectangle that covers both points

@@ -1,7 +1,7 @@
 -- The grid points that are met in walking along a path whose parts are parallel to the axes.
 use Rattle.std.specs.Prelude.{ℕ, ◌+◌, ◌-◌, ◌≢◌, List, [], ◌∷◌, ◌++◌, map, nat_lt, if◌then◌else◌, AllPairs}
 use Rattle.std.specs.List.{range_with_len}
-use Rattle.ortho_rep.specs.declared.points.Point.{Point}
+use Rattle.ortho_rep.specs.declared.grid_points.Point.{Point}
 
 -- the number k steps from a toward b
 abbrev pub toward : ℕ → ℕ → ℕ → ℕ

@@ -1,11 +1,11 @@
 -- The westmost upright part of all edges. Only private contracts speak of it.
 use Rattle.std.specs.Prelude.{ℕ, zero, suc, ◌==◌, nat_lt, if◌then◌else◌, List, [], ◌∷◌, Option, Some, None}
 use Rattle.faces.specs.Planes.{PlaneModel, reverse_dart, face_at}
-use Rattle.ortho_rep.specs.declared.points.Point.{Point}
+use Rattle.ortho_rep.specs.declared.grid_points.Point.{Point}
 use Rattle.ortho_rep.specs.Points.{PointsModel}
 use Rattle.ortho_rep.specs.Edges.{is_lesser}
 use Rattle.drawing_check.specs.Paths.{path_along}
-use Rattle.drawing_check.specs.declared.westmost.Upright.{Upright}
+use Rattle.drawing_check.specs.declared.face_regions.Upright.{Upright}
 
 -- the one further west of two parts, the first of them if both lie on one line
 abbrev pub further_west : Option Upright → Upright → Option Upright

@@ -1,21 +1,59 @@
-//! The check of a drawing, by a sweep over rectangles (Shamos and Hoey 1976), and what it makes.
-
-ghost use Rattle.std.specs.Prelude.{◌≡◌, ◌≤◌, length, IfOk, IfErr, IfNone, IfSome, Some};
+//! The check of a drawing, by a sweep over rectangles (Shamos and Hoey 1976), what it makes, and why points draw no
+//! shape. Buffers for checks are reused.
+ghost use Rattle.std.specs.Prelude.{◌≡◌, [], ◌≤◌, length, IfOk, IfErr, IfNone, IfSome, Some};
 ghost use Rattle.faces.specs.Planes.{darts};
 ghost use Rattle.ortho_rep.specs.Representation.{HasDarts, IsShape};
 ghost use Rattle.drawing_check.specs.Draws.{Draws, HasPoints};
 ghost use Rattle.drawing_check.specs.Faults.{IsFirstFault, KeepsFirstThree, IsTaken, IsRefused};
 
 use crate::edges::scan_edges;
-use crate::fault::CheckFault;
-use crate::scratch::Scratch;
-use crate::turning::turn_as_said;
+use crate::route::turn_as_said;
 use embedding::MAX_DARTS;
 use faces::Plane;
-use geometry::{Direction, all_apart_in};
+use geometry::{Direction, Rectangle, all_apart_in};
 use ortho_rep::{Points, Shape};
 use std::alloc::Global;
 use std::marker::Model;
+use thiserror::Error;
+
+/// The first condition of a drawing that fails; the variants are in the order in which they are checked.
+#[derive(Clone, Copy, Debug, PartialEq, Eq, Error)]
+pub enum CheckFault {
+    /// Some coordinate is above 65,535.
+    #[error("a coordinate is above 65535")]
+    OutOfGrid,
+    /// Two consecutive points of a path are equal, or differ in both coordinates.
+    #[error("a segment of an edge has length 0 or is not parallel to an axis")]
+    NotAxis,
+    /// An edge has more or fewer corners than turns, or a corner or an angle at a vertex is not the shape's.
+    #[error("a corner or an angle differs from the representation")]
+    WrongTurn,
+    /// Two paths meet, or a path meets itself or a vertex that is not its end, or two vertices are at one point.
+    #[error("edges or vertices overlap")]
+    Meet,
+    /// Memory ran out. All conditions hold except perhaps the last one, `Meet`.
+    #[error("out of memory")]
+    Memory,
+}
+
+/// The buffers of a check, reused for the next drawing. Their contents between two calls do not matter.
+#[derive(Drop)]
+pub struct Scratch {
+    pub(crate) rectangles: Vec<Rectangle>,
+    pub(crate) table: Vec<u64>,
+}
+
+impl Scratch {
+    /// An empty scratch. It allocates nothing.
+    pub fn empty(alloc: Global) -> Scratch
+        ensures { result.table.items ≡ [] }
+    {
+        Scratch {
+            rectangles: Vec::new(alloc),
+            table: Vec::new(alloc),
+        }
+    }
+}
 
 /// The maximum number of darts that are few: a list of this many directions is quickly made.
 const FEW_DARTS: usize = 128;

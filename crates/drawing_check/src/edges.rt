@@ -1,23 +1,207 @@
-//! The results of one walk over all edges.
-
-ghost use Rattle.std.specs.Prelude.{◌≡◌, ℕ, ◌<◌, ◌≤◌, ◌↔◌, ◌++◌, length, map, IsTrue, All};
+//! The results of one walk over all edges: what is seen of the path of each, and the points that are met, by vertices
+//! and by paths, as rectangles that cover them.
+ghost use Rattle.std.specs.Prelude.{◌≡◌, ◌∷◌, ◌++◌, [], map, OnOk, ◌↔◌, length, IsTrue, All, ℕ, ◌<◌, ◌≤◌};
+ghost use Rattle.drawing_check.specs.Walks.{toward, step_from};
+ghost use Rattle.drawing_check.specs.Routes.{path_of, direction_at};
+ghost use Rattle.drawing_check.specs.Shown.{rectangle_between, strips};
+ghost use Rattle.drawing_check.specs.Paths.{point_of, path_along, paths};
+ghost use Rattle.drawing_check.specs.Draws.{direction_between, direction_of, IsInGrid, IsOnAxes, IsTurning, AreInGrid, AreOnAxes, leaving, HasPoints};
 ghost use Rattle.std.specs.List.{flat_map};
 ghost use Rattle.faces.specs.Planes.{darts};
 ghost use Rattle.ortho_rep.specs.Shapes.{turns_at};
 ghost use Rattle.ortho_rep.specs.Representation.{HasDarts};
 ghost use Rattle.ortho_rep.specs.Edges.{lesser_darts};
-ghost use Rattle.drawing_check.specs.Paths.{path_along, paths};
-ghost use Rattle.drawing_check.specs.Draws.{AreInGrid, AreOnAxes, IsTurning, leaving, HasPoints};
-ghost use Rattle.drawing_check.specs.Routes.{direction_at};
-ghost use Rattle.drawing_check.specs.Shown.{rectangle_between, strips};
 
-use crate::grid::all_in_grid;
-use crate::meeting::list_vertices;
-use crate::path::{both, examine_route};
-use crate::route::route_of;
+use crate::route::{Route, all_in_grid, direction_from, is_axis, is_on_axes, is_turning, route_of};
 use faces::Plane;
 use geometry::{Direction, Rectangle};
-use ortho_rep::{Points, Shape};
+use ortho_rep::{Point, Points, Shape, Turn};
+use std::alloc::AllocError;
+
+/// Lists the vertices as rectangles of one point, in place of what the list held. It also reserves room for this many
+/// edges, a rectangle for each.
+pub(crate) fn list_vertices(
+    rectangles: &mut Vec<Rectangle>,
+    points: &Points,
+    edges: u16,
+) -> Result<(), AllocError>
+    ensures { OnOk result (rectangles.new.items ≡ map (λ q. rectangle_between q q) points.now.vertices) }
+{
+    let vertices = points.vertices();
+    rectangles.clear();
+    rectangles.reserve(vertices.len() + usize::from(edges))?;
+    for point in vertices {
+        rectangles.push(spanned(*point, *point))?;
+    }
+    Ok(())
+}
+
+/// Adds what a path covers between its ends: a strip for each part, with the corner at its end, and none
+/// for a last part of one step.
+pub(crate) fn add_route(
+    rectangles: &mut Vec<Rectangle>,
+    route: &Route<'_>,
+) -> Result<(), AllocError>
+    ensures { OnOk result (rectangles.new.items ≡ rectangles.old.items ++ strips (path_of route.now)) }
+{
+    let mut from = route.start;
+    for corner in route.corners {
+        rectangles.push(spanned(first_step(from, *corner), *corner))?;
+        from = *corner;
+    }
+    add_last(rectangles, from, route.end)
+}
+
+/// Adds what the last part of a path covers without its end: nothing where it is one step.
+pub(crate) fn add_last(
+    rectangles: &mut Vec<Rectangle>,
+    from: Point,
+    end: Point,
+) -> Result<(), AllocError>
+    ensures { OnOk result (rectangles.new.items ≡ rectangles.old.items ++ strips (from ∷ end ∷ [])) }
+{
+    let first = first_step(from, end);
+    if first != end {
+        rectangles.push(spanned(first, first_step(end, from)))?;
+    }
+    Ok(())
+}
+
+/// The least rectangle that covers both points.
+fn spanned(a: Point, b: Point) -> Rectangle
+    ensures { result ≡ rectangle_between a b }
+{
+    Rectangle {
+        left: a.x.min(b.x),
+        right: a.x.max(b.x),
+        bottom: a.y.min(b.y),
+        top: a.y.max(b.y),
+    }
+}
+
+/// The point that is one step from `from` on the way to `to`.
+fn first_step(from: Point, to: Point) -> Point
+    ensures { result ≡ step_from from to 1 }
+{
+    Point {
+        x: one_toward(from.x, to.x),
+        y: one_toward(from.y, to.y),
+    }
+}
+
+/// The number one step from `from` toward `to`, or `from` if they are equal.
+fn one_toward(from: u32, to: u32) -> u32
+    ensures { result ≡ toward from to 1 }
+{
+    if from < to {
+        return from + 1;
+    }
+    if to < from {
+        return from - 1;
+    }
+    from
+}
+
+/// What was seen of a path.
+#[derive(Drop)]
+pub(crate) struct PathSeen {
+    /// Whether all corners lie in the grid.
+    pub(crate) in_grid: bool,
+    /// Whether each part is parallel to an axis.
+    pub(crate) on_axes: bool,
+    /// Whether there are as many corners as turns, and each corner is its turn.
+    pub(crate) turning: bool,
+    /// Whether there was memory for the rectangles of this path and of all before it.
+    pub(crate) listed: bool,
+    /// The directions in which the path leaves its start, and its end on the way back.
+    pub(crate) out: Direction,
+    pub(crate) back: Direction,
+}
+
+/// Whether both hold. It is no branch.
+pub(crate) fn both(one: bool, other: bool) -> bool
+    ensures { IsTrue result ↔ (IsTrue one × IsTrue other) }
+{
+    one & other
+}
+
+/// Adds the rectangles of a path, if all before it are listed, and returns whether all are listed now.
+fn list_route(rectangles: &mut Vec<Rectangle>, listed: bool, route: &Route<'_>) -> bool
+    ensures before { IsTrue result → IsTrue listed }
+    ensures added { IsTrue result
+        → rectangles.new.items ≡ rectangles.old.items ++ strips (path_of route.now) }
+{
+    listed && add_route(rectangles, route).is_ok()
+}
+
+/// Adds the rectangles of a path without corners, if all before it are listed, and returns whether all are listed now.
+fn list_straight(rectangles: &mut Vec<Rectangle>, listed: bool, start: Point, end: Point) -> bool
+    ensures before { IsTrue result → IsTrue listed }
+    ensures added { IsTrue result
+        → rectangles.new.items ≡ rectangles.old.items ++ strips (start ∷ end ∷ []) }
+{
+    listed && add_last(rectangles, start, end).is_ok()
+}
+
+/// What is seen of a path; adds its rectangles, if those of all before it are listed. Most paths have no corner, and
+/// need no walk.
+pub(crate) fn examine_route(
+    route: &Route<'_>,
+    turns: &[Turn],
+    rectangles: &mut Vec<Rectangle>,
+    listed: bool,
+) -> PathSeen
+    ensures in_grid { IsTrue result.in_grid ↔ All IsInGrid route.now.corners.now }
+    ensures on_axes { IsTrue result.on_axes ↔ IsOnAxes (path_of route.now) }
+    ensures turning { IsTrue result.turning ↔ IsTurning (path_of route.now) turns.now }
+    ensures before { IsTrue result.listed → IsTrue listed }
+    ensures added { IsTrue result.listed
+        → rectangles.new.items ≡ rectangles.old.items ++ strips (path_of route.now) }
+    ensures out { result.out ≡ direction_of (path_of route.now) 0 }
+    ensures back { result.back
+        ≡ direction_between route.now.end (point_of (path_of route.now) (length route.now.corners.now)) }
+{
+    if route.corners.is_empty() {
+        return examine_straight(route, turns, rectangles, listed);
+    }
+    let corners = route.corners.len();
+    PathSeen {
+        in_grid: all_in_grid(route.corners),
+        on_axes: is_on_axes(route),
+        turning: is_turning(route, turns),
+        listed: list_route(rectangles, listed, route),
+        out: direction_from(route.start, route.point_at(1)),
+        back: direction_from(route.end, route.point_at(corners)),
+    }
+}
+
+/// What is seen of a path without corners; adds its rectangles, if those of all before it are listed.
+fn examine_straight(
+    route: &Route<'_>,
+    turns: &[Turn],
+    rectangles: &mut Vec<Rectangle>,
+    listed: bool,
+) -> PathSeen
+    requires { length route.now.corners.now ≡ 0 }
+    ensures in_grid { IsTrue result.in_grid ↔ All IsInGrid route.now.corners.now }
+    ensures on_axes { IsTrue result.on_axes ↔ IsOnAxes (path_of route.now) }
+    ensures turning { IsTrue result.turning ↔ IsTurning (path_of route.now) turns.now }
+    ensures before { IsTrue result.listed → IsTrue listed }
+    ensures added { IsTrue result.listed
+        → rectangles.new.items ≡ rectangles.old.items ++ strips (path_of route.now) }
+    ensures out { result.out ≡ direction_of (path_of route.now) 0 }
+    ensures back { result.back
+        ≡ direction_between route.now.end (point_of (path_of route.now) (length route.now.corners.now)) }
+{
+    PathSeen {
+        in_grid: true,
+        on_axes: is_axis(route.start, route.end),
+        turning: turns.is_empty(),
+        listed: list_straight(rectangles, listed, route.start, route.end),
+        out: direction_from(route.start, route.end),
+        back: direction_from(route.end, route.start),
+    }
+}
 
 /// What was seen of all edges.
 #[derive(Drop)]

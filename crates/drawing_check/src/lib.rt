@@ -5,24 +5,11 @@
 //! of the grid.
 #![tactic(auto)]
 
-mod axes;
 mod drawing;
 mod edges;
-mod fault;
-mod grid;
-mod meeting;
-mod outside;
-mod path;
+mod face_regions;
 mod route;
-mod scratch;
-mod turning;
-mod westmost;
 
-pub use axes::is_axis;
-pub use drawing::{Drawing, check, check_in};
-pub use fault::CheckFault;
-pub use outside::regions_are_told_at_one_place;
-pub use route::{Route, distance, route_of};
-pub use scratch::Scratch;
-pub use turning::direction_from;
-pub use westmost::outside_is_outer;
+pub use drawing::{CheckFault, Drawing, Scratch, check, check_in};
+pub use face_regions::{outside_is_outer, regions_are_told_at_one_place};
+pub use route::{Route, direction_from, distance, is_axis, route_of};

@@ -4,7 +4,7 @@ use Rattle.std.proofs.lemmas.Bool.{cases_eq}
 use Rattle.embedding.proofs.Entries.{Stands, dart_stands}
 use Rattle.embedding.proofs.Rotation.{after_place}
 use Rattle.embedding.proofs.KeptFacts.{list_of-short}
-use Rattle.ortho_rep.specs.declared.turn.Turn.{Turn}
+use Rattle.ortho_rep.specs.declared.turn_strings.Turn.{Turn}
 use Rattle.faces.specs.Planes.{PlaneModel, IsPlane, HasEnds, darts, tail, reverse_dart, after, face_at}
 use Rattle.faces.proofs.Ends.{seven_rules}
 use Rattle.drawing_laws.proofs.Shifted.{AreFacePrices}

@@ -4,7 +4,7 @@ use Rattle.std.proofs.lemmas.Bool.{cases_lt, lt-ltb, le-ltb, ltb-true, cond-true
 use Rattle.std.proofs.lemmas.List.{get_or-reverse, length-reverse}
 use Rattle.faces.specs.Planes.{PlaneModel, IsPlane, darts, reverse_dart}
 use Rattle.faces.proofs.Ends.{plane_ends}
-use Rattle.ortho_rep.specs.declared.points.Point.{Point}
+use Rattle.ortho_rep.specs.declared.grid_points.Point.{Point}
 use Rattle.ortho_rep.specs.Points.{PointsModel, origin}
 use Rattle.ortho_rep.specs.Shapes.{ShapeModel}
 use Rattle.ortho_rep.specs.Edges.{is_lesser}

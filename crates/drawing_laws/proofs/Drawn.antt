@@ -9,7 +9,7 @@ use Rattle.std.proofs.lemmas.List.Elements.{All-cons, All-nil, All-head, All-tai
 use Rattle.geometry.specs.Directions.{left_of, left_quarters}
 use Rattle.faces.specs.Planes.{PlaneModel, IsPlane, darts, vertices, head, tail, reverse_dart, next}
 use Rattle.faces.proofs.Ends.{plane_ends}
-use Rattle.ortho_rep.specs.declared.points.Point.{Point}
+use Rattle.ortho_rep.specs.declared.grid_points.Point.{Point}
 use Rattle.ortho_rep.specs.Points.{PointsModel, origin, vertex_point, corners_at}
 use Rattle.ortho_rep.specs.Shapes.{ShapeModel, angle_at, turns_at}
 use Rattle.ortho_rep.specs.Edges.{is_lesser, lesser_darts, edge_number}
@@ -20,8 +20,8 @@ use Rattle.dissect.specs.Paths.{HasPath, IsPath, turn_to, turning_vertices}
 use Rattle.dissect.specs.Boxes.{BoxesModel, dart_map}
 use Rattle.dissect.specs.Boxed.{IsBoxed}
 use Rattle.dissect.specs.Monotone.{IsMonotone, AreWithin, AreTaken, AreLeastPoints, point_at}
-use Rattle.drawing_check.specs.declared.fault.CheckFault.{CheckFault}
-use Rattle.drawing_check.specs.declared.fault.CheckFault.TheVariants.{OutOfGrid, NotAxis, WrongTurn, Meet, Memory}
+use Rattle.drawing_check.specs.declared.drawing.CheckFault.{CheckFault}
+use Rattle.drawing_check.specs.declared.drawing.CheckFault.TheVariants.{OutOfGrid, NotAxis, WrongTurn, Meet, Memory}
 use Rattle.drawing_check.specs.Faults.{IsFirstFault}
 use Rattle.drawing_check.specs.Paths.{path_along, paths, point_of}
 use Rattle.drawing_check.specs.Walks.{interior, AreDistinct}

@@ -6,8 +6,8 @@ use Rattle.std.proofs.lemmas.Bool.{lt-ltb, le-ltb, cond-true, cond-false}
 use Rattle.std.proofs.lemmas.List.FromFn.{length-map-range_with_len, get_or-map-range_with_len}
 use Rattle.common.specs.Sums.{sum_below}
 use Rattle.common.proofs.Sums.{sum_below-same}
-use Rattle.min_cost_flow.specs.declared.arc.Arc.{Arc}
-use Rattle.min_cost_flow.specs.declared.arc.Cap.TheVariants.{AtMost, Any}
+use Rattle.min_cost_flow.specs.declared.network.Arc.{Arc}
+use Rattle.min_cost_flow.specs.declared.network.Cap.TheVariants.{AtMost, Any}
 use Rattle.min_cost_flow.specs.Networks.{NetworkModel, net_of, no_arc, arc_at, supply_at}
 use Rattle.faces.specs.Planes.{PlaneModel, IsPlane, darts, vertices, head, reverse_dart, face_at, degree}
 use Rattle.faces.proofs.Ends.{plane_ends}
@@ -16,7 +16,7 @@ use Rattle.flow_network.specs.FaceNet.{IsFaceNet, vertex_degree, crossing_cap}
 use Rattle.flow_network.proofs.GivenParts.{none_along, vertex_plain, face_plain}
 use Rattle.flow_network.proofs.Flowing.{net_flows}
 use Rattle.flow_network.proofs.Faultless.{arc_ends}
-use Rattle.ortho_rep.specs.declared.turn.Turn.{Turn}
+use Rattle.ortho_rep.specs.declared.turn_strings.Turn.{Turn}
 use Rattle.ortho_rep.specs.Shapes.{ShapeModel, angle_at, turns_at}
 use Rattle.ortho_rep.specs.OfFlow.{angles_of, strings_of}
 use Rattle.ortho_rep.specs.Representation.{Rep, IsShape, IsLeast, bends_of, whole_turn}

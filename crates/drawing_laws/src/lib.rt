@@ -3,22 +3,11 @@
 //! faces as regions, and that each laid answer is drawn.
 #![tactic(auto)]
 
-mod bends;
-mod cells;
-mod closed_sets;
-mod least_coordinates;
-mod orders;
-mod planarity;
-mod prices;
-mod regions;
+mod laws;
 
-pub use bends::few_bends;
-pub use cells::{cells_are_covered_once, cells_lie_in_faces};
-pub use closed_sets::closed_sets_hold_the_outside;
-pub use least_coordinates::{
-    least_coordinates_exist, least_coordinates_have_no_gap, least_points_have_no_gap,
+pub use laws::{
+    boxes_have_regions, cells_are_covered_once, cells_lie_in_faces, closed_sets_hold_the_outside,
+    few_bends, least_coordinates_exist, least_coordinates_have_no_gap, least_is_priced,
+    least_points_have_no_gap, least_points_pass, least_shape_exists, monotone_coordinates_draw,
+    monotone_coordinates_exist, regions_are_faces,
 };
-pub use orders::monotone_coordinates_exist;
-pub use planarity::{least_points_pass, monotone_coordinates_draw};
-pub use prices::{least_is_priced, least_shape_exists};
-pub use regions::{boxes_have_regions, regions_are_faces};

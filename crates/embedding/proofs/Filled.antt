@@ -1,7 +1,7 @@
 -- A table that is made longer by copies of one number, and what stands in it.
 use Rattle.std.proofs.Common.{◌≡◌, ℕ, ◌+◌, ◌*◌, ◌<◌, ◌≤◌, List, ◌++◌, length, get_or, take, drop, replicate, sym, ap, ◌∙◌, subst, arith}
 use Rattle.std.proofs.lemmas.List.{take_all, take_at, get_or-replicate, get_or-drop, get_or_append_left, length-append, length-replicate}
-use Rattle.embedding.specs.declared.numbering.TheConstants.{UNSET}
+use Rattle.embedding.specs.declared.genus.TheConstants.{UNSET}
 use Rattle.embedding.specs.Faces.{HasFaces}
 use Rattle.embedding.specs.Walk.{AreRotations, at}
 use Rattle.embedding.proofs.Faced.{behind_is}

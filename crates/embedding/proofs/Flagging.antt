@@ -1,6 +1,6 @@
 -- Flags that tell which entries of a list came before.
 use Rattle.std.proofs.Common.{◌≡◌, ◌≢◌, ℕ, ◌+◌, ◌<◌, ◌≤◌, List, length, get_or, ◌∙◌}
-use Rattle.embedding.specs.declared.lists.TheConstants.{VERTEX_NUMBERS}
+use Rattle.embedding.specs.declared.neighbour_lists.TheConstants.{VERTEX_NUMBERS}
 
 -- the numbers flagged with the vertex are the first n entries of the list, which differ
 pub record IsFlagging (list : List ℕ) (vertex : ℕ) (last : List ℕ) (n : ℕ) : Type 0 where

@@ -2,9 +2,9 @@
 use Rattle.std.proofs.Common.{◌≡◌, ℕ, ◌*◌, ◌<◌, ◌≤◌, List, length, get_or, ap, ◌∙◌, subst, inl, inr, arith}
 use Rattle.std.proofs.lemmas.List.{get_or_read}
 use Rattle.std.proofs.lemmas.Bool.{cases_lt}
-use Rattle.common.specs.declared.limits.TheConstants.{MAX_VERTICES}
+use Rattle.common.specs.declared.parameters.TheConstants.{MAX_VERTICES}
 use Rattle.embedding.specs.declared.graphs.TheConstants.{MAX_DARTS}
-use Rattle.embedding.specs.declared.rules.Rule.TheVariants.{Degree}
+use Rattle.embedding.specs.declared.breaks.Rule.TheVariants.{Degree}
 use Rattle.embedding.specs.Lists.{list_of}
 use Rattle.embedding.specs.Darts.{dart_count}
 use Rattle.embedding.specs.Rules.{KeepsBefore}

@@ -3,7 +3,7 @@ use Rattle.std.proofs.Common.{◌≡◌, ℕ, zero, suc, ◌+◌, ◌-◌, ◌*�
 use Rattle.std.specs.List.{slice_range}
 use Rattle.std.proofs.lemmas.List.{length-append, take_at, drop_at, drop-drop, ext_get_or, get_or_append_left, get_or_read, get_or-drop}
 use Rattle.std.proofs.lemmas.List.FromFn.{get_or-map-range_with_len, length-map-range_with_len}
-use Rattle.common.specs.declared.limits.TheConstants.{MAX_VERTICES}
+use Rattle.common.specs.declared.parameters.TheConstants.{MAX_VERTICES}
 use Rattle.embedding.specs.Lists.{list_of}
 use Rattle.embedding.specs.Darts.{heads, dart_count, first_dart, next_of}
 use Rattle.embedding.specs.Walk.{HasFaceTable, next_in}

@@ -1,7 +1,7 @@
 -- What a record's split says of the list at one place.
 use Rattle.std.proofs.Common.{◌≡◌, ℕ, zero, suc, ◌+◌, ◌-◌, ◌*◌, ◌<◌, ◌≤◌, List, [], ◌∷◌, length, get_or, take, drop, sym, ap, ◌∙◌, subst, arith}
 use Rattle.std.specs.List.{flat_map}
-use Rattle.embedding.specs.declared.wide.TheConstants.{MAX_ENTRIES}
+use Rattle.embedding.specs.declared.wide_record.TheConstants.{MAX_ENTRIES}
 use Rattle.planar_code.specs.Stream.{ended, lists_in}
 use Rattle.embedding.specs.Darts.{dart_count, first_dart}
 use Rattle.embedding.specs.Split.{HoldsLists, start_of}

@@ -4,7 +4,7 @@ use Rattle.std.specs.List.{All}
 use Rattle.std.proofs.lemmas.Bool.{cases_lt}
 use Rattle.std.proofs.lemmas.List.{get_or_default}
 use Rattle.embedding.specs.Lists.{list_of}
-use Rattle.embedding.specs.declared.rules.Rule.TheVariants.{Range}
+use Rattle.embedding.specs.declared.breaks.Rule.TheVariants.{Range}
 use Rattle.embedding.specs.Rules.{Breaks}
 use Rattle.embedding.proofs.EachList.{list_of-add}
 

@@ -4,9 +4,9 @@ use Rattle.std.specs.List.{All, Contains}
 use Rattle.std.proofs.lemmas.List.{get_or-set_same, get_or-set_other, get_or_default, length-set}
 use Rattle.std.proofs.lemmas.Bool.{cases_eq, true≢false}
 use Rattle.common.proofs.Sums.{sum_below-none, sum_below-le, sum_below-lt, sum_below-changed, sum_below-constant}
-use Rattle.embedding.specs.declared.lists.TheConstants.{VERTEX_NUMBERS}
+use Rattle.embedding.specs.declared.neighbour_lists.TheConstants.{VERTEX_NUMBERS}
 use Rattle.embedding.specs.Lists.{list_of}
-use Rattle.embedding.specs.declared.rules.Rule.TheVariants.{Disconnected}
+use Rattle.embedding.specs.declared.breaks.Rule.TheVariants.{Disconnected}
 use Rattle.embedding.specs.Rules.{Breaks, IsClosed}
 use Rattle.embedding.specs.Reached.{Holds, IsQueue, IsReached}
 

@@ -5,7 +5,7 @@ use Rattle.std.proofs.lemmas.List.{get_or_default, get_or_past, length-append}
 use Rattle.std.proofs.lemmas.Bool.{cases_eq, cases_lt, cases_order, eq-eqb, ne_eqb, eqb-true, and_parts, and_from, lt-ltb, le-ltb, cond-true, cond-false}
 use Rattle.common.specs.Sums.{sum_below}
 use Rattle.common.proofs.Sums.{sum_below-same, sum_below-add, sum_below-constant, sum_below-turned}
-use Rattle.embedding.specs.declared.rules.Rule.TheVariants.{Loop, Multi, Asymmetric, Edgeless, Degree}
+use Rattle.embedding.specs.declared.breaks.Rule.TheVariants.{Loop, Multi, Asymmetric, Edgeless, Degree}
 use Rattle.embedding.specs.Lists.{list_of}
 use Rattle.embedding.specs.Darts.{heads, tails_from, dart_count, head_of, tail_of, first_below, first_dart, reverse_of, after_of, next_of, IsInvolution, IsOneToOne}
 use Rattle.embedding.specs.Rules.{Breaks, KeepsBefore}

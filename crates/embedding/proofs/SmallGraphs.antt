@@ -3,7 +3,7 @@ use Rattle.std.proofs.Common.{◌≡◌, ℕ, ◌+◌, ◌<◌, ◌≤◌, Bool,
 use Rattle.std.specs.List.{Any, All, Contains}
 use Rattle.std.proofs.lemmas.Bool.{true≢false}
 use Rattle.embedding.specs.Lists.{list_of}
-use Rattle.embedding.specs.declared.rules.Rule.TheVariants.{Range, Loop, Multi, Asymmetric, Edgeless, Degree, Disconnected, Genus}
+use Rattle.embedding.specs.declared.breaks.Rule.TheVariants.{Range, Loop, Multi, Asymmetric, Edgeless, Degree, Disconnected, Genus}
 use Rattle.embedding.specs.Rules.{KeepsBefore, NamesTwice}
 use Rattle.embedding.specs.Rows.{HasBit, IsRow, IsRows, IsClosedUnderRows}
 use Rattle.embedding.proofs.EachList.{none_below}

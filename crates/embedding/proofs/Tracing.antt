@@ -3,7 +3,7 @@ use Rattle.std.proofs.Common.{◌≡◌, ◌≢◌, ℕ, ◌+◌, ◌<◌, Bool,
 use Rattle.std.proofs.lemmas.Bool.{cases_eq, cases_lt, eq-eqb, ne_eqb}
 use Rattle.std.proofs.lemmas.List.{get_or-set_other}
 use Rattle.std.proofs.lemmas.Grind.{get_or-set_at}
-use Rattle.embedding.specs.declared.numbering.TheConstants.{UNSET}
+use Rattle.embedding.specs.declared.genus.TheConstants.{UNSET}
 use Rattle.embedding.specs.Faces.{HasFaces}
 use Rattle.embedding.specs.Darts.{IsOneToOne}
 use Rattle.embedding.specs.Faces.{IsClosedUnder}

@@ -3,10 +3,10 @@ use Rattle.std.proofs.Common.{◌≡◌, ◌↔◌, ℕ, zero, suc, ◌+◌, ◌
 use Rattle.std.specs.List.{flat_map}
 use Rattle.std.proofs.lemmas.List.Elements.{All-head, All-tail, All-cons, All-nil, All-weaker}
 use Rattle.std.proofs.Math.Seq.{drop-cons}
-use Rattle.common.specs.declared.limits.TheConstants.{MAX_VERTICES}
-use Rattle.embedding.specs.declared.wide.TheConstants.{MAX_ENTRIES}
-use Rattle.embedding.specs.declared.wide.WideFault.{WideFault}
-use Rattle.embedding.specs.declared.wide.WideFault.TheVariants as fault
+use Rattle.common.specs.declared.parameters.TheConstants.{MAX_VERTICES}
+use Rattle.embedding.specs.declared.wide_record.TheConstants.{MAX_ENTRIES}
+use Rattle.embedding.specs.declared.wide_record.WideFault.{WideFault}
+use Rattle.embedding.specs.declared.wide_record.WideFault.TheVariants as fault
 use Rattle.planar_code.specs.Stream.{IsEntry, IsList, IsRecord, ended, lists_of}
 use Rattle.embedding.specs.Wide.{IsWideEntry, IsWideList, IsWideRecord, IsWideFault, BeginsAboveLimit, AreLists}
 use Rattle.planar_code.proofs.Lists.{lists_in-all_nonzero, ended_short}

@@ -3,9 +3,9 @@ use Rattle.std.proofs.Common.{◌≡◌, ℕ, zero, suc, ◌+◌, ◌-◌, ◌*�
 use Rattle.std.specs.List.{flat_map, slice_range, All}
 use Rattle.std.proofs.lemmas.List.{length-append, append_assoc, take_at, drop_at, get_or_append_left, get_or_at, drop-drop}
 use Rattle.std.proofs.lemmas.List.Concat.{get_or-flat_map}
-use Rattle.embedding.specs.declared.wide.TheConstants.{MAX_ENTRIES}
+use Rattle.embedding.specs.declared.wide_record.TheConstants.{MAX_ENTRIES}
 use Rattle.planar_code.specs.Stream.{IsList, ended, before_first, lists_in, lists_of}
-use Rattle.common.specs.declared.limits.TheConstants.{MAX_VERTICES}
+use Rattle.common.specs.declared.parameters.TheConstants.{MAX_VERTICES}
 use Rattle.embedding.specs.Darts.{heads, first_dart}
 use Rattle.embedding.specs.Split.{AreStarts, HoldsLists, start_of}
 

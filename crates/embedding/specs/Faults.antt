@@ -1,7 +1,7 @@
 -- Why lists give no graph.
 use Rattle.std.specs.Prelude.{ℕ, ◌<◌, List}
-use Rattle.embedding.specs.declared.faults.ReadFault.{ReadFault}
-use Rattle.embedding.specs.declared.faults.ReadFault.TheVariants.{Rule, Memory}
+use Rattle.embedding.specs.declared.breaks.ReadFault.{ReadFault}
+use Rattle.embedding.specs.declared.breaks.ReadFault.TheVariants.{Rule, Memory}
 use Rattle.embedding.specs.Rules.{KeepsBefore, FirstBroken, rule_number}
 
 -- the rule is the first of rules 1 to 7 that the lists break; memory is asked for only where they keep all seven

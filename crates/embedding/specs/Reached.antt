@@ -1,7 +1,7 @@
 -- The vertices that are reached from vertex 1, as flags and as a queue.
 use Rattle.std.specs.Prelude.{◌≡◌, ℕ, ◌<◌, Bool, true, false, List, length, slice_index, slice_index_or, if◌then◌else◌}
 use Rattle.common.specs.Sums.{sum_below}
-use Rattle.embedding.specs.declared.lists.TheConstants.{VERTEX_NUMBERS}
+use Rattle.embedding.specs.declared.neighbour_lists.TheConstants.{VERTEX_NUMBERS}
 use Rattle.embedding.specs.Rules.{IsClosed}
 
 -- the flag of v is set

@@ -2,8 +2,8 @@
 use Rattle.std.specs.Prelude.{◌≡◌, ℕ, ◌<◌, ◌≤◌, List, length, take, slice_index}
 use Rattle.std.specs.List.{flat_map}
 use Rattle.planar_code.specs.Stream.{ended, lists_in}
-use Rattle.common.specs.declared.limits.TheConstants.{MAX_VERTICES}
-use Rattle.embedding.specs.declared.wide.TheConstants.{MAX_ENTRIES}
+use Rattle.common.specs.declared.parameters.TheConstants.{MAX_VERTICES}
+use Rattle.embedding.specs.declared.wide_record.TheConstants.{MAX_ENTRIES}
 
 -- where list k begins, among lists that are written one after another, each ended by a 0
 abbrev pub start_of : List (List ℕ) → ℕ → ℕ

@@ -1,7 +1,7 @@
 -- What a graph keeps: where its lists start, the darts' ends and where they lead.
 use Rattle.std.specs.Prelude.{◌≡◌, ℕ, ◌+◌, ◌-◌, ◌*◌, ◌<◌, ◌≤◌, List, length, map, drop, slice_index, slice_range}
 use Rattle.std.specs.List.{range_with_len}
-use Rattle.common.specs.declared.limits.TheConstants.{MAX_VERTICES}
+use Rattle.common.specs.declared.parameters.TheConstants.{MAX_VERTICES}
 use Rattle.embedding.specs.Darts.{heads, dart_count, first_dart, reverse_of, after_of, next_of}
 use Rattle.embedding.specs.Faces.{HasFaces, degree_in}
 use Rattle.embedding.specs.Rules.{KeepsBefore}

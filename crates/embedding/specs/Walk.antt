@@ -1,6 +1,6 @@
 -- How far the numbering of the faces has come, and what it is made from.
 use Rattle.std.specs.Prelude.{◌≡◌, ℕ, ◌+◌, ◌*◌, ◌<◌, ◌≤◌, ◌⊎◌, Bool, true, List, length, slice_index, take}
-use Rattle.embedding.specs.declared.numbering.TheConstants.{UNSET}
+use Rattle.embedding.specs.declared.genus.TheConstants.{UNSET}
 use Rattle.embedding.specs.Darts.{IsOneToOne}
 use Rattle.embedding.specs.Faces.{HasFaces, IsClosedUnder, degree_in}
 

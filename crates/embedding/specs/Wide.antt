@@ -1,10 +1,10 @@
 -- What a wide record is: a record whose entries have 16 bits.
 use Rattle.std.specs.Prelude.{◌≡◌, ℕ, ◌<◌, ◌≤◌, List, [], ◌∷◌, length, All}
 use Rattle.std.specs.List.{flat_map}
-use Rattle.common.specs.declared.limits.TheConstants.{MAX_VERTICES}
-use Rattle.embedding.specs.declared.wide.TheConstants.{MAX_ENTRIES}
-use Rattle.embedding.specs.declared.wide.WideFault.{WideFault}
-use Rattle.embedding.specs.declared.wide.WideFault.TheVariants as fault
+use Rattle.common.specs.declared.parameters.TheConstants.{MAX_VERTICES}
+use Rattle.embedding.specs.declared.wide_record.TheConstants.{MAX_ENTRIES}
+use Rattle.embedding.specs.declared.wide_record.WideFault.{WideFault}
+use Rattle.embedding.specs.declared.wide_record.WideFault.TheVariants as fault
 use Rattle.planar_code.specs.Stream.{ended}
 
 -- an entry of a neighbour list: a 16-bit number other than 0

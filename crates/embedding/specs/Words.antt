@@ -1,7 +1,7 @@
 -- The words that reports have for the rules.
 use Rattle.std.specs.Prelude.{ℕ, List, codes}
-use Rattle.embedding.specs.declared.rules.Rule.{Rule}
-use Rattle.embedding.specs.declared.rules.Rule.TheVariants.{Range, Loop, Multi, Asymmetric, Edgeless, Degree, Disconnected, Genus}
+use Rattle.embedding.specs.declared.breaks.Rule.{Rule}
+use Rattle.embedding.specs.declared.breaks.Rule.TheVariants.{Range, Loop, Multi, Asymmetric, Edgeless, Degree, Disconnected, Genus}
 
 abbrev pub word_of : Rule → List ℕ
 word_of Range = codes "range"

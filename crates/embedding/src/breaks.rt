@@ -1,16 +1,80 @@
-//! Whether lists break each of the first seven rules. No test allocates.
-
+//! The rules that a record's graph may break, why lists give no graph, and whether lists break each of the first seven
+//! rules. No test allocates.
 ghost use Rattle.std.specs.Prelude.{◌≡◌, ℕ, ◌+◌, ◌<◌, ◌≤◌, ◌↔◌, ◌⊎◌, List, [], length, slice_index, IsTrue, MatchOption, All, Any, Contains};
-ghost use Rattle.embedding.specs.declared.lists.TheConstants.{VERTEX_NUMBERS};
+ghost use Rattle.embedding.specs.declared.neighbour_lists.TheConstants.{VERTEX_NUMBERS};
 ghost use Rattle.embedding.specs.Lists.{list_of};
 ghost use Rattle.embedding.specs.Pairs.{HasPair};
 ghost use Rattle.embedding.specs.Rules.{Breaks, KeepsBefore, FirstBroken, NamesTwice, rule_number};
 
-use crate::lists::{Lists, VERTEX_NUMBERS};
-use crate::pairs::Pairs;
-use crate::reach::breaks_disconnected;
-use crate::rows::is_small_graph;
-use crate::rules::Rule;
+use crate::adjacency::{Pairs, breaks_disconnected, is_small_graph};
+use crate::neighbour_lists::{Lists, VERTEX_NUMBERS};
+use std::alloc::AllocError;
+use thiserror::Error;
+
+/// A rule that graphs must obey; the variants are in the order in which they are checked.
+///
+/// A record is refused with the first one that it breaks.
+#[derive(Debug, Clone, Copy, PartialEq, Eq)]
+pub enum Rule {
+    /// Some entry is greater than the number of vertices.
+    Range,
+    /// Some vertex is in its own list.
+    Loop,
+    /// Some list names a neighbour twice.
+    Multi,
+    /// Some vertex v is in the list of a vertex u, and u is not in the list of v.
+    Asymmetric,
+    /// All lists are empty.
+    Edgeless,
+    /// Some list has more than four entries.
+    Degree,
+    /// Not every vertex is reached from the first one.
+    Disconnected,
+    /// Euler's formula fails: vertices minus edges plus faces is not 2.
+    Genus,
+}
+
+impl Rule {
+    ghost use Rattle.embedding.specs.Words.{word_of};
+
+    /// The word for the rule in reports.
+    pub fn word(self) -> &'static str
+        ensures { result.now ≡ word_of self }
+    {
+        match self {
+            Rule::Range => "range",
+            Rule::Loop => "loop",
+            Rule::Multi => "multi",
+            Rule::Asymmetric => "asymmetric",
+            Rule::Edgeless => "edgeless",
+            Rule::Degree => "degree",
+            Rule::Disconnected => "disconnected",
+            Rule::Genus => "genus",
+        }
+    }
+}
+
+/// The reason why the graph of lists was not read.
+#[derive(Debug, Clone, Copy, PartialEq, Eq, Error)]
+pub enum ReadFault {
+    /// The first rule that the lists break. `Graph::read` tests the first seven.
+    #[error("the graph breaks rule {}", .0.word())]
+    Rule(Rule),
+    /// Memory ran out for the graph.
+    #[error("out of memory")]
+    Memory,
+}
+
+impl From<AllocError> for ReadFault {
+    ghost use Rattle.std.specs.Prelude.{◌≡◌};
+    ghost use Rattle.embedding.specs.declared.breaks.ReadFault.TheVariants.{Memory};
+
+    ghost from_gives = { λ _ fault. fault ≡ Memory };
+
+    fn from(_refused: AllocError) -> ReadFault {
+        ReadFault::Memory
+    }
+}
 
 /// Whether some entry of the list is greater than n.
 fn exceeds(list: &[u16], n: u16) -> bool

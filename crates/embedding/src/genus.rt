@@ -1,23 +1,137 @@
-//! Whether a record breaks any of the eight rules, found without allocating.
-
-ghost use Rattle.std.specs.Prelude.{◌≡◌, ◌+◌, ◌<◌, ◌≤◌, ◌↔◌, length, IsTrue, MatchOption};
-ghost use Rattle.common.specs.declared.limits.TheConstants.{MAX_VERTICES};
+//! Faces traced as orbits of `next` (Edmonds 1960), numbered in the order of their least darts, with their degrees; and
+//! whether a record breaks any of the eight rules, found without allocating.
+ghost use Rattle.std.specs.Prelude.{◌≡◌, ◌+◌, ◌-◌, ◌*◌, ◌<◌, ◌≤◌, ℕ, length, take, drop, slice_index, IfOk, ◌↔◌, IsTrue, MatchOption};
+ghost use Rattle.embedding.specs.declared.graphs.TheConstants.{MAX_DARTS};
+ghost use Rattle.embedding.specs.Faces.{HasFaces, degree_in};
+ghost use Rattle.embedding.specs.Walk.{IsTraced, AreRotations, HasFaceTable, at, next_in};
+ghost use Rattle.common.specs.declared.parameters.TheConstants.{MAX_VERTICES};
 ghost use Rattle.embedding.specs.Rules.{Breaks, KeepsBefore, FirstBroken};
-ghost use Rattle.embedding.specs.declared.wide.TheConstants.{MAX_ENTRIES};
+ghost use Rattle.embedding.specs.declared.wide_record.TheConstants.{MAX_ENTRIES};
 ghost use Rattle.planar_code.specs.Stream.{lists_of};
 
-use crate::breaks::first_broken;
+use crate::breaks::{Rule, first_broken};
+use crate::combinatorial_map::write_rotation;
 use crate::graphs::MAX_DARTS;
-use crate::lists::Lists;
-use crate::numbering::count_faces;
-use crate::rules::Rule;
-use crate::tables::write_rotation;
-use crate::wide::WideRecord;
-use crate::writing::{
-    FEW_ENTRIES, FEW_STARTS, RECORD_ENTRIES, RECORD_STARTS, SOME_ENTRIES, WIDE_STARTS, entry_count,
-    find_starts, write_lists,
+use crate::neighbour_lists::{
+    FEW_ENTRIES, FEW_STARTS, Lists, RECORD_ENTRIES, RECORD_STARTS, SOME_ENTRIES, WIDE_STARTS,
+    entry_count, find_starts, write_lists,
 };
+use crate::wide_record::WideRecord;
 use planar_code::Record;
+use std::alloc::AllocError;
+
+/// Stands for the face of a dart that no walk has come to.
+pub(crate) const UNSET: u16 = u16::MAX;
+
+/// Walks the face of `start` once round, and gives its darts the number `face`.
+fn walk_face(rotation: &[u16], faces: &mut [u16], start: u16, face: u16)
+    requires tied { AreRotations (length faces.old) rotation.now }
+    requires few { length faces.old ≤ MAX_DARTS }
+    requires inside { start < length faces.old }
+    requires unset { slice_index faces.old start ≡ UNSET }
+    requires traced { IsTraced (length faces.old) (next_in rotation.now) (at faces.old) face start }
+    ensures { IsTraced (length faces.old) (next_in rotation.now) (at faces.new) (face + 1) (start + 1) }
+{
+    let mut dart = start;
+    loop {
+        faces[usize::from(dart)] = face;
+        let back = rotation[2 * usize::from(dart)];
+        dart = rotation[2 * usize::from(back) + 1];
+        if dart == start {
+            return;
+        }
+    }
+}
+
+/// Numbers the faces from 0 in the order of their least darts, gives each dart its face, and says how
+/// many faces there are. Each dart is walked over once.
+fn number_faces(rotation: &[u16], faces: &mut [u16]) -> u16
+    requires tied { AreRotations (length faces.old) rotation.now }
+    requires few { length faces.old ≤ MAX_DARTS }
+    requires unset { (d : ℕ) → d < length faces.old → slice_index faces.old d ≡ UNSET }
+    ensures numbered { HasFaces (length faces.old) (next_in rotation.now) (at faces.new) result }
+    ensures few { result ≤ length faces.old }
+{
+    let mut count = 0;
+    for dart in 0..faces.len() as u16 {
+        if faces[usize::from(dart)] == UNSET {
+            walk_face(rotation, faces, dart, count);
+            count += 1;
+        }
+    }
+    count
+}
+
+/// Counts how many darts each face has.
+fn count_degrees(faces: &[u16], degrees: &mut [u16])
+    requires few { length faces.now ≤ MAX_DARTS }
+    requires named { (d : ℕ) → d < length faces.now → slice_index faces.now d < length degrees.old }
+    requires none { (k : ℕ) → k < length degrees.old → slice_index degrees.old k ≡ 0 }
+    ensures size { length degrees.new ≡ length degrees.old }
+    ensures degrees { (k : ℕ) → k < length degrees.old
+        → slice_index degrees.new k ≡ degree_in (length faces.now) (at faces.now) k }
+{
+    for face in faces {
+        degrees[usize::from(*face)] += 1;
+    }
+}
+
+/// Numbers the faces in the part of the table after the rotation of this many darts; returns how many there are.
+fn number_behind(table: &mut [u16], darts: usize) -> u16
+    requires tied { AreRotations darts (take (2 * darts) table.old) }
+    requires few { darts ≤ MAX_DARTS }
+    requires size { length table.old ≡ 3 * darts }
+    requires unset { (d : ℕ) → d < darts → slice_index table.old (2 * darts + d) ≡ UNSET }
+    ensures size { length table.new ≡ 3 * darts }
+    ensures rotation { take (2 * darts) table.new ≡ take (2 * darts) table.old }
+    ensures numbered { HasFaces darts (next_in (take (2 * darts) table.old)) (at (drop (2 * darts) table.new)) result }
+    ensures few { result ≤ darts }
+{
+    let (rotation, faces) = table.split_at_mut(2 * darts);
+    number_faces(rotation, faces)
+}
+
+/// Counts the degrees of the faces in the part of the table after the faces of this many darts.
+fn count_behind(table: &mut [u16], darts: usize)
+    requires few { darts ≤ MAX_DARTS }
+    requires size { 3 * darts ≤ length table.old }
+    requires named { (d : ℕ) → d < darts
+        → slice_index table.old (2 * darts + d) < length table.old - 3 * darts }
+    requires none { (k : ℕ) → 3 * darts + k < length table.old → slice_index table.old (3 * darts + k) ≡ 0 }
+    ensures size { length table.new ≡ length table.old }
+    ensures front { take (3 * darts) table.new ≡ take (3 * darts) table.old }
+    ensures degrees { (k : ℕ) → 3 * darts + k < length table.old
+        → slice_index table.new (3 * darts + k) ≡ degree_in darts (λ d. slice_index table.old (2 * darts + d)) k }
+{
+    let (front, degrees) = table.split_at_mut(3 * darts);
+    count_degrees(&front[2 * darts..], degrees);
+}
+
+/// Appends the face of each dart and the degree of each face after the rotation of this many darts; returns the number
+/// of faces. They are numbered where they stand.
+pub(crate) fn add_faces(table: &mut Vec<u16>, darts: usize) -> Result<u16, AllocError>
+    requires tied { AreRotations darts table.old.items }
+    requires few { darts ≤ MAX_DARTS }
+    ensures { IfOk result (λ count. HasFaceTable darts table.old.items count table.new.items) }
+{
+    table.resize(3 * darts, UNSET)?;
+    let count = number_behind(table, darts);
+    table.resize(3 * darts + usize::from(count), 0)?;
+    count_behind(table, darts);
+    Ok(count)
+}
+
+/// The number of faces of a rotation of this many darts. It allocates nothing.
+pub(crate) fn count_faces(rotation: &[u16], darts: usize) -> u16
+    requires tied { AreRotations darts rotation.now }
+    requires few { darts ≤ MAX_DARTS }
+    ensures numbered { (face : ℕ → ℕ) × HasFaces darts (next_in rotation.now) face result }
+    ensures few { result ≤ darts }
+{
+    let mut room = [UNSET; MAX_DARTS];
+    let faces = &mut room[..darts];
+    number_faces(rotation, faces)
+}
 
 /// How many numbers the rotation of a graph has at most: two for each dart.
 const MAX_ROTATION: usize = 2 * MAX_DARTS;

@@ -1,7 +1,7 @@
 //! A graph that keeps rules 1 to 7, as a combinatorial map (Edmonds 1960): darts, and their order round each vertex.
-
+//! Its buffers are reused by one call after another.
 ghost use Rattle.std.specs.Prelude.{◌≡◌, ℕ, ◌+◌, ◌*◌, ◌<◌, ◌≤◌, List, length, IfOk, IfErr, OnOk};
-ghost use Rattle.common.specs.declared.limits.TheConstants.{MAX_VERTICES};
+ghost use Rattle.common.specs.declared.parameters.TheConstants.{MAX_VERTICES};
 ghost use Rattle.embedding.specs.declared.graphs.TheConstants.{MAX_DARTS, MAX_EDGES};
 ghost use Rattle.embedding.specs.Lists.{list_of};
 ghost use Rattle.embedding.specs.Darts.{dart_count, head_of, tail_of, reverse_of, after_of, next_of, IsInvolution, IsOneToOne};
@@ -9,25 +9,42 @@ ghost use Rattle.embedding.specs.Faces.{HasFaces, degree_in};
 ghost use Rattle.embedding.specs.Walk.{at};
 ghost use Rattle.embedding.specs.Rules.{KeepsBefore};
 ghost use Rattle.embedding.specs.Faults.{IsReadFault};
-ghost use Rattle.embedding.specs.declared.wide.TheConstants.{MAX_ENTRIES};
+ghost use Rattle.embedding.specs.declared.wide_record.TheConstants.{MAX_ENTRIES};
 ghost use Rattle.planar_code.specs.Stream.{lists_of};
 
-use crate::breaks::first_broken;
-use crate::faults::ReadFault;
-use crate::lists::Lists;
-use crate::numbering::add_faces;
-use crate::scratch::Scratch;
-use crate::tables::{add_heads, add_starts, make_rotation};
-use crate::wide::WideRecord;
-use crate::writing::{
-    FEW_ENTRIES, FEW_STARTS, RECORD_ENTRIES, RECORD_STARTS, SHORT_ENTRIES, SHORT_STARTS,
+use crate::breaks::{ReadFault, first_broken};
+use crate::combinatorial_map::{add_heads, add_starts, make_rotation};
+use crate::genus::add_faces;
+use crate::neighbour_lists::{
+    FEW_ENTRIES, FEW_STARTS, Lists, RECORD_ENTRIES, RECORD_STARTS, SHORT_ENTRIES, SHORT_STARTS,
     SOME_ENTRIES, WIDE_STARTS, entry_count, find_starts, write_lists,
 };
+use crate::wide_record::WideRecord;
 use common::{MAX_VERTICES, emptied};
 use planar_code::Record;
 use std::alloc::Global;
 use std::marker::Model;
 use std::mem;
+
+/// The buffers of a graph, to be reused for the next one. Their contents between two graphs do not matter.
+///
+/// A graph takes its two lists with it. If each graph is returned before the next one is read, none allocates for a
+/// record with no more vertices and no more darts than one before it had; if one is not, the next graph allocates both.
+#[derive(Drop)]
+pub struct Scratch {
+    pub(crate) heads: Vec<u16>,
+    pub(crate) table: Vec<u16>,
+}
+
+impl Scratch {
+    /// An empty scratch. It allocates nothing.
+    pub fn empty(alloc: Global) -> Scratch {
+        Scratch {
+            heads: Vec::new(alloc),
+            table: Vec::new(alloc),
+        }
+    }
+}
 
 /// The maximum number of darts of a graph: four for each of 1,200 vertices.
 pub const MAX_DARTS: usize = 4 * MAX_VERTICES;

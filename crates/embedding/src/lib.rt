@@ -4,27 +4,16 @@
 //! numbered from 0 in the order of their entries.
 #![tactic(auto)]
 
+mod adjacency;
 mod breaks;
-mod faults;
+mod combinatorial_map;
 mod genus;
 mod graphs;
-mod lesser_darts;
-mod lists;
-mod numbering;
-mod pairs;
-mod reach;
-mod rows;
-mod rules;
-mod scratch;
-mod tables;
-mod wide;
-pub mod wide_laws;
-mod writing;
+mod neighbour_lists;
+pub mod wide_record;
 
-pub use faults::ReadFault;
+pub use breaks::{ReadFault, Rule};
+pub use combinatorial_map::LesserDarts;
 pub use genus::{broken_rule, broken_wide_rule};
-pub use graphs::{Graph, MAX_DARTS, MAX_EDGES};
-pub use lesser_darts::LesserDarts;
-pub use rules::Rule;
-pub use scratch::Scratch;
-pub use wide::{MAX_ENTRIES, WideFault, WideRecord};
+pub use graphs::{Graph, MAX_DARTS, MAX_EDGES, Scratch};
+pub use wide_record::{MAX_ENTRIES, WideFault, WideRecord};

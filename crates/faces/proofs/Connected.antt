@@ -3,7 +3,7 @@
 use Rattle.std.proofs.Common.{◌≡◌, ℕ, zero, suc, ◌+◌, ◌-◌, ◌<◌, Bool, true, false, not, List, [], length, get_or, inl, inr, refl, sym, ap, ◌∙◌, subst, arith}
 use Rattle.std.proofs.lemmas.Bool.{cases_lt, cases_Bool, both_ways, not-true, not_from_false}
 use Rattle.std.proofs.lemmas.List.{get_or_default}
-use Rattle.embedding.specs.declared.rules.Rule.TheVariants.{Disconnected}
+use Rattle.embedding.specs.declared.breaks.Rule.TheVariants.{Disconnected}
 use Rattle.embedding.specs.Lists.{list_of}
 use Rattle.embedding.specs.Darts.{dart_count, first_dart, head_of, tail_of, reverse_of, after_of, next_of}
 use Rattle.embedding.specs.Rules.{KeepsBefore, IsClosed}

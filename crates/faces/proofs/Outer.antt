@@ -1,7 +1,7 @@
 -- What is known once the faces are numbered: they make a plane, and the first greatest face is the outer one.
 use Rattle.std.proofs.Common.{◌≡◌, ℕ, ◌+◌, ◌*◌, ◌<◌, ◌≤◌, List, length, inl, inr, ◌∙◌, arith}
 use Rattle.std.proofs.lemmas.Bool.{cases_order}
-use Rattle.common.specs.declared.limits.TheConstants.{MAX_VERTICES}
+use Rattle.common.specs.declared.parameters.TheConstants.{MAX_VERTICES}
 use Rattle.embedding.specs.Darts.{dart_count, next_of}
 use Rattle.embedding.specs.Faces.{HasFaces}
 use Rattle.embedding.specs.Rules.{KeepsBefore}

@@ -1,6 +1,6 @@
 -- The reason why a graph is not a plane.
 use Rattle.std.specs.Prelude.{◌≡◌, ℕ, List}
-use Rattle.embedding.specs.declared.rules.Rule.TheVariants.{Genus as genus_rule}
+use Rattle.embedding.specs.declared.breaks.Rule.TheVariants.{Genus as genus_rule}
 use Rattle.embedding.specs.Rules.{FirstBroken}
 use Rattle.faces.specs.declared.plane.TraceFault.{TraceFault}
 use Rattle.faces.specs.declared.plane.TraceFault.TheVariants.{Genus, Memory}

@@ -1,6 +1,6 @@
 -- The model of a plane: the neighbour lists of its graph, the face of each dart, the outer face.
 use Rattle.std.specs.Prelude.{◌≡◌, ℕ, ◌+◌, ◌*◌, ◌<◌, ◌≤◌, ◌≢◌, List, length, slice_index}
-use Rattle.common.specs.declared.limits.TheConstants.{MAX_VERTICES}
+use Rattle.common.specs.declared.parameters.TheConstants.{MAX_VERTICES}
 use Rattle.embedding.specs.declared.graphs.TheConstants.{MAX_DARTS}
 use Rattle.embedding.specs.Darts.{dart_count, head_of, tail_of, reverse_of, after_of, next_of, IsOneToOne}
 use Rattle.embedding.specs.Faces.{HasFaces}

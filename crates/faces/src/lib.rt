@@ -6,8 +6,6 @@
 
 pub mod laws;
 mod plane;
-mod scratch;
 
 pub use common::Choice;
-pub use plane::{MAX_FACES, Plane, TraceFault};
-pub use scratch::Scratch;
+pub use plane::{MAX_FACES, Plane, Scratch, TraceFault};

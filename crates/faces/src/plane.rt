@@ -1,5 +1,5 @@
-//! Plane graphs (Euler's formula): connected embedded graphs with their faces, one of which is the outer face.
-
+//! Plane graphs (Euler's formula): connected embedded graphs with their faces, one of which is the outer face. Buffers
+//! are reused by one call after another.
 ghost use Rattle.std.specs.Prelude.{◌≡◌, ◌≢◌, ◌<◌, ◌≤◌, ℕ, IfOk, IfErr, Err};
 ghost use Rattle.embedding.specs.Darts.{dart_count, next_of};
 ghost use Rattle.embedding.specs.Faces.{HasFaces};
@@ -8,12 +8,27 @@ ghost use Rattle.faces.specs.declared.plane.TheConstants.{MAX_FACES};
 ghost use Rattle.faces.specs.Numbering.{Numbering, Numbering-prop};
 ghost use Rattle.faces.specs.Greatest.{IsFirstGreatest};
 
-use crate::scratch::Scratch;
 use common::MAX_VERTICES;
 use embedding::Graph;
 use std::alloc::Global;
 use std::marker::Model;
 use thiserror::Error;
+
+/// The buffers of a plane's graph, to be reused. A plane has none of its own.
+#[derive(Drop)]
+pub struct Scratch {
+    /// The buffers of a graph, for the next graph that is read.
+    pub graph: embedding::Scratch,
+}
+
+impl Scratch {
+    /// An empty scratch. It allocates nothing.
+    pub fn empty(alloc: Global) -> Scratch {
+        Scratch {
+            graph: embedding::Scratch::empty(alloc),
+        }
+    }
+}
 
 /// The maximum number of faces of a plane: 2,400 edges - 1,200 vertices + 2.
 pub const MAX_FACES: usize = MAX_VERTICES + 2;

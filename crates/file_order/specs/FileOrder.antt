@@ -1,10 +1,10 @@
 -- A reorder buffer for the texts of files.
 use Rattle.std.specs.Prelude.{◌≡◌, ◌≢◌, ℕ, ◌+◌, ◌^◌, ◌==◌, List, [], All, Some, length, if◌then◌else◌, ⊤}
 use Rattle.streams.specs.declared.output.SinkFault.{SinkFault}
-use Rattle.streams.specs.declared.reading.SourceEnd.{SourceEnd}
-use Rattle.lanes.specs.declared.fault.RunFault.{RunFault}
-use Rattle.lanes.specs.declared.fault.RunFault.TheVariants.{Memory, LaneLost, Thread, Refused}
-use Rattle.file_order.specs.declared.waiting.Waiting.{Waiting}
+use Rattle.streams.specs.declared.source.SourceEnd.{SourceEnd}
+use Rattle.lanes.specs.declared.gathering.RunFault.{RunFault}
+use Rattle.lanes.specs.declared.gathering.RunFault.TheVariants.{Memory, LaneLost, Thread, Refused}
+use Rattle.file_order.specs.declared.chunks.Waiting.{Waiting}
 use Rattle.file_order.specs.Waits.{IsNothing}
 
 -- the model of a reorder buffer: the text in transit to the sink, the first file that has not ended, and what has

@@ -2,7 +2,7 @@
 use Rattle.std.specs.Prelude.{◌≡◌, ◌≢◌, ◌<◌, ℕ, ◌+◌, List, [], ◌++◌, None, Some, length, slice_index_or}
 use Rattle.planar_code.specs.declared.TheConstants.{MAX_RECORDS}
 use Rattle.streams.specs.declared.frames.Mark.{Mark}
-use Rattle.file_order.specs.declared.waiting.Waiting.{Waiting}
+use Rattle.file_order.specs.declared.chunks.Waiting.{Waiting}
 
 -- nothing is buffered
 pub record IsNothing (waiting : Waiting) : Type 0 where

@@ -2,8 +2,8 @@
 use Rattle.std.specs.Prelude.{◌≡◌, ℕ, Bool, true, false, List, ◌++◌, Option, Result, OnOk, IfErr, ⊤}
 use Rattle.streams.specs.declared.output.SinkFault.{SinkFault}
 use Rattle.streams.specs.Sink.{AppendsPrefix, IsInTransit}
-use Rattle.lanes.specs.declared.fault.RunFault.{RunFault}
-use Rattle.lanes.specs.declared.fault.RunFault.TheVariants.{Memory, LaneLost, Thread, Refused}
+use Rattle.lanes.specs.declared.gathering.RunFault.{RunFault}
+use Rattle.lanes.specs.declared.gathering.RunFault.TheVariants.{Memory, LaneLost, Thread, Refused}
 
 -- The sink has failed exactly if the message was refused for that. Otherwise memory ran out, or no lane gives such a
 -- message.

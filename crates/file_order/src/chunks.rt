@@ -1,14 +1,38 @@
-//! Text that grows without being moved, in chunks.
-ghost use Rattle.std.specs.Prelude.{◌≡◌, ◌++◌, [], false, IfErr, OnOk, OnErr};
-ghost use Rattle.file_order.specs.Concatenated.{concatenated};
+//! Text that grows without being moved, in chunks, and so the buffered lines of files that are not current yet. It is
+//! written to a sink through a buffer.
+ghost use Rattle.std.specs.Prelude.{◌≡◌, false, IfErr, OnOk, OnErr, ◌++◌, [], IfOk, All, length};
 ghost use Rattle.file_order.specs.Writing.{GoesOn, IsPartlyAdded, IsRefused, TellsFailure};
+ghost use Rattle.file_order.specs.Concatenated.{concatenated};
+ghost use Rattle.file_order.specs.Waits.{IsNothing};
 
-use crate::writing::put;
 use lanes::RunFault;
+use reports::push_line;
 use std::alloc::{AllocError, Global};
 use std::marker::Model;
 use std::mem;
-use streams::{Sink, SinkFault, TextBuffer};
+use streams::{Mark, Sink, SinkFault, TextBuffer};
+
+/// Writes `text` to the sink through the buffer.
+///
+/// # Errors
+///
+/// `Refused` exactly if the sink has then failed. There is no other error.
+pub(crate) fn put<S: Sink>(
+    buffer: &mut TextBuffer,
+    sink: &mut S,
+    text: &[u8],
+) -> Result<(), RunFault<SinkFault>>
+    requires { S.failed sink.old ≡ false }
+    ensures put { OnOk result (GoesOn (S.taken sink.old) buffer.old (S.taken sink.new) buffer.new text.now) }
+    ensures partial { OnErr result (IsPartlyAdded (S.taken sink.old) buffer.old (S.taken sink.new) text.now) }
+    ensures stands { TellsFailure (S.failed sink.new) result }
+    ensures refused { IfErr result IsRefused }
+{
+    match push_line(buffer, sink, text) {
+        Ok(()) => Ok(()),
+        Err(_) => Err(RunFault::Refused(SinkFault)),
+    }
+}
 
 /// The minimum capacity of a chunk, in bytes.
 const CHUNK: usize = 16_384;
@@ -111,4 +135,31 @@ fn put_each<S: Sink>(
         put(buffer, sink, chunk.as_slice())?;
     }
     Ok(())
+}
+
+/// The buffered lines and the state of a file that has not been written completely.
+#[derive(Drop)]
+pub struct Waiting {
+    /// The lines of its entries, while it is not current.
+    pub lines: Chunks,
+    /// The number of its entries that have arrived.
+    pub count: u32,
+    /// Its mark, once it has ended.
+    pub mark: Option<Mark>,
+}
+
+/// The state of each of `files` files, of which nothing has arrived.
+pub(crate) fn none_come(alloc: Global, files: u32) -> Result<Vec<Waiting>, AllocError>
+    ensures count { IfOk result (λ waiting. length waiting.items ≡ files) }
+    ensures empty { IfOk result (λ waiting. All IsNothing waiting.items) }
+{
+    let mut waiting = Vec::with_capacity(alloc, files as usize)?;
+    for _ in 0..files {
+        waiting.push(Waiting {
+            lines: Chunks::new(alloc),
+            count: 0,
+            mark: None,
+        })?;
+    }
+    Ok(waiting)
 }

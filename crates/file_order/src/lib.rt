@@ -3,14 +3,7 @@
 #![tactic(auto)]
 
 mod chunks;
-mod known_files;
 mod order;
-mod pace;
-mod waiting;
-mod writing;
 
-pub use chunks::Chunks;
-pub use known_files::{KnownEnd, KnownFiles, known_end};
-pub use order::FileOrder;
-pub use pace::Pace;
-pub use waiting::Waiting;
+pub use chunks::{Chunks, Waiting};
+pub use order::{FileOrder, KnownEnd, KnownFiles, Pace, known_end};

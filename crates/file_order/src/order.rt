@@ -1,25 +1,98 @@
-//! A reorder buffer for the texts of files, which go to a sink file after file.
-ghost use Rattle.std.specs.Prelude.{◌≡◌, ◌+◌, ◌<◌, ◌≤◌, ◌↔◌, [], None, false, true, IfOk, IfErr, IfSome, OnOk, OnErr, IsSome, IsTrue, length, slice_index_or};
+//! A reorder buffer for the texts of files, which go to a sink file after file: what is known in advance of the files
+//! of a run, and which files pause while too much is buffered.
+ghost use Rattle.std.specs.Prelude.{ℕ, ◌≡◌, ◌+◌, ◌<◌, ◌≤◌, ◌↔◌, [], None, false, true, IfOk, IfErr, IfSome, OnOk, OnErr, IsSome, IsTrue, length, slice_index_or};
+ghost use Rattle.std.proofs.Props.{props};
+ghost use Rattle.lanes.specs.Opening.{Meaning, Silent, IsEndAt};
 ghost use Rattle.std.specs.Io.KnownBytes.{Appends};
-ghost use Rattle.streams.specs.declared.text_buffer.TheConstants.{ROOM};
+ghost use Rattle.streams.specs.declared.output.TheConstants.{ROOM};
 ghost use Rattle.streams.specs.Sink.{AppendsPrefix};
-ghost use Rattle.lanes.specs.Opening.{IsEndAt};
-ghost use Rattle.file_order.specs.declared.waiting.Waiting.{Waiting};
+ghost use Rattle.file_order.specs.declared.chunks.Waiting.{Waiting};
 ghost use Rattle.file_order.specs.FileOrder.{HasEnd, IsAddFault, IsBegun, StaysAt, at_once, for_later};
 ghost use Rattle.file_order.specs.Waits.{ChangesAt, GetsMark, IsNext, IsTaken, IsUnmarked, TakesIn};
 ghost use Rattle.file_order.specs.Writing.{GoesOn, IsPartlyAdded, IsRefused, TellsFailure};
 
-use crate::chunks::Chunks;
-use crate::known_files::{KnownEnd, KnownFiles};
-use crate::pace::Pace;
-use crate::waiting::{Waiting, none_come};
-use crate::writing::put;
-use lanes::RunFault;
+use crate::chunks::{Chunks, Waiting, none_come, put};
+use lanes::{Pauses, RunFault};
 use planar_code::MAX_RECORDS;
 use std::alloc::{AllocError, Global};
-use std::marker::Model;
+use std::marker::{Brand, Model, PhantomData};
 use std::mem;
 use streams::{Mark, Sink, SinkFault, SourceEnd, TextBuffer};
+
+/// What is known in advance of each file of a run, its meaning. It exists only in proofs.
+pub trait KnownFiles {
+    ghost meaning: { ℕ → Meaning };
+}
+
+// A call that passes `Brand` chooses what the files mean.
+impl KnownFiles for Brand {
+    ghost meaning = { λ _. Silent };
+}
+
+/// The end of a file, with the guarantee that it fits the meaning that `J` gives the file.
+///
+/// A file of which `J` means this by its number has this many records and this mark.
+#[derive(Drop)]
+pub struct KnownEnd<J: KnownFiles> {
+    /// The index of the file, from 0.
+    pub file: u32,
+    /// The number of its records that were read.
+    pub count: u32,
+    /// Its mark.
+    pub mark: Mark,
+    pub known_files: PhantomData<J>,
+    pub ghost is_end: { ∥ IsEndAt (J.meaning file) count mark ∥₁ } by { Prim.hlevel props },
+}
+
+/// The `KnownEnd` for the end of a file, which must fit the meaning that `J` gives the file.
+pub fn known_end<J: KnownFiles>(file: u32, end: SourceEnd) -> KnownEnd<J>
+    requires { IsEndAt (J.meaning file) end.count end.mark }
+{
+    KnownEnd {
+        file,
+        count: end.count,
+        mark: end.mark,
+        known_files: PhantomData,
+    }
+}
+
+/// The fraction (1 / `QUARTER`) of the limit from which on only the next file that has not ended goes on beside the
+/// current file. With it two lanes work for most of a run; a single limit for all files would leave one lane working
+/// alone.
+const QUARTER: usize = 4;
+
+/// A limit on the buffered text of later files, and the pauses by which their reading is held to it.
+#[derive(Drop)]
+pub struct Pace<'p> {
+    pub pauses: &'p Pauses,
+    /// The number of bytes of buffered text from which on the reading of all files after the current file pauses.
+    pub most: usize,
+}
+
+impl Pace<'_> {
+    /// Pauses the files after the current file if `held` bytes of buffered text reach the limit, those after the next
+    /// one if they reach a fraction of it, and otherwise none.
+    pub(crate) fn keep(&self, held: usize, current: u32, waiting: &[Waiting]) {
+        if held >= self.most {
+            self.pauses.pause_after(current);
+        } else if held >= self.most / QUARTER {
+            self.pauses.pause_after(next_unended(current, waiting));
+        } else {
+            self.pauses.lift();
+        }
+    }
+}
+
+/// The first file after the current file that has not ended.
+fn next_unended(current: u32, waiting: &[Waiting]) -> u32 {
+    for file in current.saturating_add(1)..u32::MAX {
+        let place = file as usize;
+        if place >= waiting.len() || waiting[place].mark.is_none() {
+            return file;
+        }
+    }
+    u32::MAX
+}
 
 /// A reorder buffer for the texts of the files of a run, since entries of several files arrive mixed.
 ///

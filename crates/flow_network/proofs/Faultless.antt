@@ -5,14 +5,14 @@ use Rattle.std.proofs.lemmas.Bool.{cases_lt}
 use Rattle.std.proofs.lemmas.Int.{ints}
 use Rattle.common.specs.Sums.{sum_below}
 use Rattle.common.proofs.Sums.{sum_below-le, sum_below-times}
-use Rattle.common.specs.declared.limits.TheConstants.{MAX_VERTICES}
+use Rattle.common.specs.declared.parameters.TheConstants.{MAX_VERTICES}
 use Rattle.faces.specs.Planes.{PlaneModel, IsPlane, darts, vertices, head, reverse_dart, face_at, degree}
 use Rattle.faces.proofs.Ends.{plane_ends}
 use Rattle.faces.proofs.FaceDegrees.{degree_at_most}
-use Rattle.min_cost_flow.specs.declared.arc.Arc.{Arc}
+use Rattle.min_cost_flow.specs.declared.network.Arc.{Arc}
 use Rattle.min_cost_flow.specs.Networks.{NetworkModel, node_count, arc_count, arc_at, supply_at, IsInSupplyRange, IsNetwork}
 use Rattle.flow_network.specs.FaceNet.{IsKeepingNet, vertex_degree, beyond_at_vertex, beyond_in_face, lefts_in_face, vertex_has_to_turn, face_has_to_turn}
-use Rattle.flow_network.specs.declared.given.TheConstants.{MAX_GIVEN_TURNS}
+use Rattle.flow_network.specs.declared.given_shape.TheConstants.{MAX_GIVEN_TURNS}
 use Rattle.flow_network.specs.Given.{GivenModel, CanBeGiven, angle_given, beyond_first}
 use Rattle.flow_network.proofs.GivenParts.{beyond_first_few, lefts_few, abs_le}
 use Rattle.flow_network.proofs.VertexDegrees.{arrivals_most}

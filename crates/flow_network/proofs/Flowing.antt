@@ -10,13 +10,13 @@ use Rattle.faces.specs.Planes.{PlaneModel, IsPlane, HasEnds, darts, vertices, he
 use Rattle.faces.proofs.Ends.{plane_ends}
 use Rattle.faces.proofs.Connected.{faces_connected}
 use Rattle.faces.proofs.Degrees.{degrees_sum}
-use Rattle.min_cost_flow.specs.declared.arc.Arc.{Arc}
+use Rattle.min_cost_flow.specs.declared.network.Arc.{Arc}
 use Rattle.min_cost_flow.specs.Networks.{NetworkModel, node_count, arc_count, arc_at, supply_at}
 use Rattle.min_cost_flow.specs.Flow.{Flow, IsWithinCap, outflow, inflow, net_outflow}
 use Rattle.min_cost_flow.specs.Excess.{IsWithinCaps}
 use Rattle.min_cost_flow.specs.Existence.{HasUnlimitedPaths, SuppliesSumToZero}
 use Rattle.min_cost_flow.proofs.Existence.{flow_where_joined, excess_leaves}
-use Rattle.min_cost_flow.specs.declared.arc.Cap.TheVariants.{Any}
+use Rattle.min_cost_flow.specs.declared.network.Cap.TheVariants.{Any}
 use Rattle.flow_network.specs.Given.{GivenModel, angle_given, turns_given, beyond_first}
 use Rattle.flow_network.specs.FaceNet.{IsFaceNet, IsKeepingNet, vertex_degree, beyond_at_vertex, beyond_in_face, lefts_in_face, vertex_has_to_turn, crossing_cap}
 use Rattle.flow_network.proofs.GivenParts.{left_part, right_part, none_along, vertex_plain, lefts_of_face, rights_of_face, face_parts, all_at, all_at_vertices, lefts_are_rights}

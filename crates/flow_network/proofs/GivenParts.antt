@@ -10,7 +10,7 @@ use Rattle.common.proofs.Sums.{sum_below-same, sum_below-le, sum_below-add, sum_
 use Rattle.embedding.specs.Lesser.{is_lesser_of}
 use Rattle.faces.specs.Planes.{PlaneModel, IsPlane, HasEnds, darts, vertices, head, reverse_dart, face_at, degree}
 use Rattle.faces.proofs.Ends.{plane_ends}
-use Rattle.flow_network.specs.declared.given.TheConstants.{MAX_GIVEN_TURNS}
+use Rattle.flow_network.specs.declared.given_shape.TheConstants.{MAX_GIVEN_TURNS}
 use Rattle.flow_network.specs.Given.{GivenModel, CanBeGiven, IsAngle, nothing_given, angle_given, turns_given, walked_back, beyond_first, lefts_given, turns_in_all}
 use Rattle.flow_network.specs.FaceNet.{vertex_degree, beyond_at_vertex, beyond_in_face, lefts_in_face, vertex_has_to_turn, face_has_to_turn}
 

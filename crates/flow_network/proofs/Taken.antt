@@ -11,7 +11,7 @@ use Rattle.embedding.specs.declared.graphs.TheConstants.{MAX_DARTS}
 use Rattle.faces.specs.Planes.{PlaneModel, IsPlane, HasEnds, darts, vertices, head, face_at, degree}
 use Rattle.faces.proofs.Ends.{plane_ends}
 use Rattle.faces.proofs.Degrees.{degree_few}
-use Rattle.flow_network.specs.declared.given.TheConstants.{MAX_GIVEN_TURNS}
+use Rattle.flow_network.specs.declared.given_shape.TheConstants.{MAX_GIVEN_TURNS}
 use Rattle.flow_network.specs.Given.{GivenModel, CanBeGiven, angle_given, turns_given, beyond_first, lefts_given}
 use Rattle.flow_network.specs.FaceNet.{vertex_degree, beyond_at_vertex, beyond_in_face, lefts_in_face, vertex_has_to_turn, face_has_to_turn}
 use Rattle.flow_network.proofs.GivenParts.{left_part, right_part, lefts_parts, both_parts, abs_le, beyond_first_few, turns_few, lefts_of_face, rights_of_face, face_parts}

@@ -7,7 +7,7 @@ use Rattle.common.proofs.Sums.{sum_below-same, sum_below-none, sum_below-turned}
 use Rattle.embedding.specs.Lists.{list_of}
 use Rattle.embedding.specs.Darts.{dart_count, tail_of, head_of, first_dart}
 use Rattle.embedding.specs.Rules.{IsClosed}
-use Rattle.embedding.specs.declared.rules.Rule.TheVariants.{Disconnected}
+use Rattle.embedding.specs.declared.breaks.Rule.TheVariants.{Disconnected}
 use Rattle.embedding.proofs.Entries.{stands_at, dart_stands}
 use Rattle.embedding.proofs.Rotation.{list_of-place, tail_at, dart_below}
 use Rattle.embedding.proofs.KeptFacts.{list_of-short}

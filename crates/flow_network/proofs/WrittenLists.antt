@@ -1,8 +1,8 @@
 -- Lists that are written place by place, from two places on at once.
 use Rattle.std.proofs.Common.{◌≡◌, ℕ, ◌+◌, ◌<◌, ◌∙◌, List, length, get_or, set, length-set, arith, sym, ap, inl, inr, get_or-set_same, get_or-set_other}
 use Rattle.std.proofs.lemmas.Bool.{cases_eq}
-use Rattle.min_cost_flow.specs.declared.arc.Arc.{Arc}
-use Rattle.min_cost_flow.specs.declared.arc.Cap.{Cap}
+use Rattle.min_cost_flow.specs.declared.network.Arc.{Arc}
+use Rattle.min_cost_flow.specs.declared.network.Cap.{Cap}
 
 -- one value more from the beginning on, and one more from place n on
 pub first_written : {X : Type 0} (xs : List X) (n j : ℕ) (x y e : X) (f : ℕ → X) → j < n → length xs ≡ n + n → x ≡ f j →

@@ -4,7 +4,7 @@ use Rattle.std.specs.Prelude.{ℕ, ◌-◌, ◌≤◌, ℤ, pos, neg_ℤ, nat_ab
 use Rattle.common.specs.Sums.{sum_below}
 use Rattle.embedding.specs.Lesser.{is_lesser_of}
 use Rattle.faces.specs.Planes.{PlaneModel, reverse_dart}
-use Rattle.flow_network.specs.declared.given.TheConstants.{MAX_GIVEN_TURNS}
+use Rattle.flow_network.specs.declared.given_shape.TheConstants.{MAX_GIVEN_TURNS}
 
 -- angles in right angles; turns to the left, a negative number being turns to the right
 pub record GivenModel : Type 0 where

@@ -2,14 +2,8 @@
 //! and each representation gives a flow.
 #![tactic(auto)]
 
-mod face_net;
-mod given;
-mod marks;
-mod parts;
-mod scratch;
+mod given_shape;
+mod plane_network;
 
-pub use face_net::FaceNet;
-pub use given::{Given, MAX_GIVEN_TURNS};
-pub use marks::has_mark;
-pub use parts::vertex_to_turn;
-pub use scratch::Scratch;
+pub use given_shape::{Given, MAX_GIVEN_TURNS, has_mark};
+pub use plane_network::{FaceNet, Scratch, vertex_to_turn};

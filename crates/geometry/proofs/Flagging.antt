@@ -7,7 +7,7 @@ use Rattle.std.proofs.lemmas.Bool.{cases_lt, cases_eq}
 use Rattle.std.proofs.lemmas.Nat.Bits.{bit_at_lowest, bit_at-suc, bit_at-zero, bit_at_and, bit_at_or, bit_at-lt, bit_at_mask_inside, bit_at_mask_below, bit_at_mask_above}
 use Rattle.std.proofs.lemmas.List.{get_or_default, get_or-take, get_or-drop, places}
 use borrow.Rule.Slice.PartMut.{put_mid, mid_of}
-use Rattle.geometry.specs.declared.rectangles.Rectangle.{Rectangle}
+use Rattle.geometry.specs.declared.plane_sweep.Rectangle.{Rectangle}
 use Rattle.geometry.specs.Rectangles.{Covers, IsNonempty, AreApart}
 use Rattle.geometry.specs.Masks.{Flags, IsMet}
 use Rattle.geometry.proofs.Frontiers.{written, below, above}

@@ -4,7 +4,7 @@ use Rattle.std.specs.List.Sorted.{IsNonDecreasingBy}
 use Rattle.std.proofs.lemmas.Bool.{cases_lt, cases_eq}
 use Rattle.std.proofs.lemmas.List.{get_or_default, get_or-take, get_or-drop, places, length-replicate, get_or-replicate}
 use borrow.Rule.Slice.PartMut.{put_mid, mid_of}
-use Rattle.geometry.specs.declared.rectangles.Rectangle.{Rectangle}
+use Rattle.geometry.specs.declared.plane_sweep.Rectangle.{Rectangle}
 use Rattle.geometry.specs.Rectangles.{IsNonempty, AreApart}
 use Rattle.geometry.specs.Frontier.{HasRow, MovesPast, IsBeyond}
 use Rattle.geometry.proofs.Holdings.{none_there, at}

@@ -1,7 +1,7 @@
 -- The active rectangles of a sweep, as a map by their bottom rows. Only the contracts of the sweep's private steps
 -- mention them.
 use Rattle.std.specs.Prelude.{◌≡◌, ℕ, ◌<◌, ◌≤◌, Option, Some}
-use Rattle.geometry.specs.declared.rectangles.Rectangle.{Rectangle}
+use Rattle.geometry.specs.declared.plane_sweep.Rectangle.{Rectangle}
 use Rattle.geometry.specs.Rectangles.{IsNonempty}
 
 -- each rectangle is listed at its bottom row, and the rows of any two are disjoint

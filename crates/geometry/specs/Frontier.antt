@@ -1,7 +1,7 @@
 -- The frontier of a sweep: for each row, the first column right of all that the sweep met there. Only the contracts of
 -- the sweep's private steps mention it.
 use Rattle.std.specs.Prelude.{◌≡◌, ℕ, ◌+◌, ◌<◌, ◌≤◌, List, slice_index}
-use Rattle.geometry.specs.declared.rectangles.Rectangle.{Rectangle}
+use Rattle.geometry.specs.declared.plane_sweep.Rectangle.{Rectangle}
 
 -- the row is one of the rectangle's
 abbrev pub HasRow : Rectangle → ℕ → Type 0

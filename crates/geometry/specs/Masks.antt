@@ -1,7 +1,7 @@
 -- Flags on a grid: for each row a number with a bit for each column. Only the contracts of private steps mention them.
 use Rattle.std.specs.Prelude.{◌≡◌, ℕ, List, slice_index}
 use Rattle.std.specs.Int.{bit_at}
-use Rattle.geometry.specs.declared.rectangles.Rectangle.{Rectangle}
+use Rattle.geometry.specs.declared.plane_sweep.Rectangle.{Rectangle}
 use Rattle.geometry.specs.Rectangles.{Covers}
 
 -- no point of the rectangle had a flag; now each has one, and the flags of all other points are unchanged

@@ -1,6 +1,6 @@
 -- Rectangles of grid points, borders included.
 use Rattle.std.specs.Prelude.{ℕ, ◌≤◌}
-use Rattle.geometry.specs.declared.rectangles.Rectangle.{Rectangle}
+use Rattle.geometry.specs.declared.plane_sweep.Rectangle.{Rectangle}
 
 -- the point (x, y) lies in the rectangle
 abbrev pub Covers : Rectangle → ℕ → ℕ → Type 0

@@ -1,11 +1,9 @@
 //! The four directions along the axes, and rectangles of grid points.
 #![tactic(auto)]
 
-mod dictionary;
 mod direction;
-mod frontier;
 mod masks;
-mod rectangles;
+mod plane_sweep;
 
 pub use direction::Direction;
-pub use rectangles::{Rectangle, all_apart_in};
+pub use plane_sweep::{Rectangle, all_apart_in};

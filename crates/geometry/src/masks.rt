@@ -8,7 +8,7 @@ ghost use Rattle.geometry.specs.declared.masks.TheConstants.{COLUMNS};
 ghost use Rattle.geometry.specs.Rectangles.{IsNonempty, AreApart};
 ghost use Rattle.geometry.specs.Masks.{Flags, IsMet};
 
-use crate::rectangles::Rectangle;
+use crate::plane_sweep::Rectangle;
 use std::alloc::AllocError;
 
 /// The number of columns of a row.

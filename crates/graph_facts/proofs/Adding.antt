@@ -3,9 +3,9 @@ use Rattle.std.proofs.Common.{◌≡◌, ℕ, ◌+◌, ◌-◌, ◌^◌, ◌<◌
 use Rattle.std.specs.BTreeMap.{IsOrdered, get}
 use Rattle.std.specs.Cmp.{eq_by_cmp_equiv}
 use Rattle.std.proofs.lemmas.List.Sums.{sum_by_push, count_by-le-length}
-use Rattle.graph_facts.specs.declared.facts.Facts.{Facts}
-use Rattle.graph_facts.specs.declared.combination.Columns.{Columns}
-use Rattle.graph_facts.specs.declared.combination.Combination.{Combination}
+use Rattle.graph_facts.specs.declared.selection.Facts.{Facts}
+use Rattle.graph_facts.specs.declared.table.Columns.{Columns}
+use Rattle.graph_facts.specs.declared.table.Combination.{Combination}
 use Rattle.graph_facts.specs.Combinations.{combination_of, compare, compare_total, is_same}
 use Rattle.graph_facts.specs.Tables.{TableModel, IsTable, number_at, number_with}
 

@@ -4,7 +4,7 @@ use Rattle.std.specs.Prelude.{fold, bytes_eq}
 use Rattle.std.proofs.lemmas.List.Elements.{All-nil, All-cons, All-head, All-tail}
 use Rattle.std.proofs.lemmas.List.Sums.{sum_by-cons}
 use Rattle.std.proofs.lemmas.Slice.Eq.{bytes_eq-Decides}
-use Rattle.graph_facts.specs.declared.combination.Columns.{Columns}
+use Rattle.graph_facts.specs.declared.table.Columns.{Columns}
 use Rattle.graph_facts.specs.Words.{AreNamesOf, IsColumnName, columns_in, listed, no_columns, times_listed, with_column, with_name}
 
 -- the columns with those of some names, which are not yet among them

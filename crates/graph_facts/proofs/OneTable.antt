@@ -12,12 +12,12 @@ use Rattle.std.proofs.lemmas.Map.{lookup-none}
 use Rattle.std.proofs.lemmas.Map.Entries.{lookup_head, lookup_tail, none_past_head, none_below_head}
 use Rattle.std.proofs.lemmas.Map.Keys.{IsDistinct-from_sorted, sorted_tail}
 use Rattle.std.proofs.lemmas.Map.Lookups.{exact_unsigned}
-use Rattle.embedding.specs.declared.rules.Rule.{Rule}
-use Rattle.embedding.specs.declared.rules.Rule.TheVariants as rule
+use Rattle.embedding.specs.declared.breaks.Rule.{Rule}
+use Rattle.embedding.specs.declared.breaks.Rule.TheVariants as rule
 use Rattle.embedding.specs.Rules.{rule_number}
-use Rattle.graph_facts.specs.declared.facts.Facts.{Facts}
-use Rattle.graph_facts.specs.declared.combination.Columns.{Columns}
-use Rattle.graph_facts.specs.declared.combination.Combination.{Combination}
+use Rattle.graph_facts.specs.declared.selection.Facts.{Facts}
+use Rattle.graph_facts.specs.declared.table.Columns.{Columns}
+use Rattle.graph_facts.specs.declared.table.Combination.{Combination}
 use Rattle.graph_facts.specs.Combinations.{combination_of, compare, compare_total, is_same, rule_place}
 use Rattle.graph_facts.specs.Tables.{IsTable, TableModel, number_with}
 

@@ -2,8 +2,8 @@
 use Rattle.std.proofs.Common.{◌≡◌, ℕ, List, [], ◌∷◌, ◌++◌, sym, ap, ◌∙◌, append_assoc, append-nil}
 use Rattle.std.specs.List.{flat_map}
 use Rattle.std.proofs.lemmas.List.Concat.{flat_map-append}
-use Rattle.graph_facts.specs.declared.combination.Columns.{Columns}
-use Rattle.graph_facts.specs.declared.combination.Combination.{Combination}
+use Rattle.graph_facts.specs.declared.table.Columns.{Columns}
+use Rattle.graph_facts.specs.declared.table.Combination.{Combination}
 use Rattle.graph_facts.specs.Tables.{TableModel, row_text, table_text, total_text}
 
 -- one more row

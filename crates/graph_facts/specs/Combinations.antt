@@ -6,9 +6,9 @@ use Rattle.std.specs.declared.cmp.Ordering.{Ordering}
 use Rattle.std.specs.Option.{option_cmp}
 use Rattle.std.specs.Ordering.{nat_cmp, on, then_cmp, eq_by_cmp}
 use Rattle.embedding.specs.Rules.{rule_number}
-use Rattle.graph_facts.specs.declared.facts.Facts.{Facts}
-use Rattle.graph_facts.specs.declared.combination.Columns.{Columns}
-use Rattle.graph_facts.specs.declared.combination.Combination.{Combination}
+use Rattle.graph_facts.specs.declared.selection.Facts.{Facts}
+use Rattle.graph_facts.specs.declared.table.Columns.{Columns}
+use Rattle.graph_facts.specs.declared.table.Combination.{Combination}
 
 -- what a graph has in a column, if the column is asked for
 abbrev pub if_asked : {A : Type 0} → Bool → Option A → Option A

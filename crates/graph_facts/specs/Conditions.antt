@@ -1,13 +1,13 @@
 -- Conditions on graphs, and the graphs that they choose.
 use Rattle.std.specs.Prelude.{ℕ, ◌==◌, ◌&&◌, Bool, true, false, not, if◌then◌else◌, Option, None, Some, is_none}
-use Rattle.embedding.specs.declared.rules.Rule.{Rule}
+use Rattle.embedding.specs.declared.breaks.Rule.{Rule}
 use Rattle.embedding.specs.Rules.{rule_number}
-use Rattle.graph_facts.specs.declared.range.Range.{Range}
-use Rattle.graph_facts.specs.declared.facts.Facts.{Facts}
-use Rattle.graph_facts.specs.declared.selecting.Conditions.{Conditions}
-use Rattle.graph_facts.specs.declared.selecting.Selection.{Selection}
-use Rattle.graph_facts.specs.declared.selecting.RuleCondition.{RuleCondition}
-use Rattle.graph_facts.specs.declared.selecting.RuleCondition.TheVariants.{BreaksNone, BreaksFirst}
+use Rattle.graph_facts.specs.declared.selection.Range.{Range}
+use Rattle.graph_facts.specs.declared.selection.Facts.{Facts}
+use Rattle.graph_facts.specs.declared.selection.Conditions.{Conditions}
+use Rattle.graph_facts.specs.declared.selection.Selection.{Selection}
+use Rattle.graph_facts.specs.declared.selection.RuleCondition.{RuleCondition}
+use Rattle.graph_facts.specs.declared.selection.RuleCondition.TheVariants.{BreaksNone, BreaksFirst}
 use Rattle.graph_facts.specs.Ranges.{in_range}
 
 -- The number meets a condition on it, if there is one. A graph that has no such number meets no condition on it.

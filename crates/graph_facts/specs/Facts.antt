@@ -1,15 +1,15 @@
 -- What is known of a graph once its record is answered.
 use Rattle.std.specs.Prelude.{◌≡◌, ◌/◌, ◌⊎◌, ℕ, List, length, Option, None, Some}
-use Rattle.common.specs.declared.choice.Choice.{Choice}
-use Rattle.embedding.specs.declared.rules.Rule.{Rule}
-use Rattle.embedding.specs.declared.rules.Rule.TheVariants.{Range, Loop, Multi, Asymmetric, Edgeless, Degree, Disconnected, Genus}
+use Rattle.common.specs.declared.parameters.Choice.{Choice}
+use Rattle.embedding.specs.declared.breaks.Rule.{Rule}
+use Rattle.embedding.specs.declared.breaks.Rule.TheVariants.{Range, Loop, Multi, Asymmetric, Edgeless, Degree, Disconnected, Genus}
 use Rattle.embedding.specs.Darts.{dart_count}
 use Rattle.embedding.specs.Rules.{FirstBroken, KeepsBefore}
 use Rattle.faces.specs.Planes.{PlaneModel, IsPlane, vertices, darts}
 use Rattle.ortho_rep.specs.Shapes.{ShapeModel, turns_at}
 use Rattle.ortho_rep.specs.Representation.{IsShape, IsLeast, bends_of}
 use Rattle.ortho_rep.specs.Best.{IsChosen}
-use Rattle.graph_facts.specs.declared.facts.Facts.{Facts}
+use Rattle.graph_facts.specs.declared.selection.Facts.{Facts}
 
 -- The number of edges of lists that break this rule first: half their entries, if they are those of a simple graph.
 -- Otherwise, if they break one of the first four rules, they have no edges.

@@ -2,9 +2,9 @@
 use Rattle.std.specs.Prelude.{◌≡◌, ◌≢◌, ◌<◌, ◌⊎◌, ◌==◌, ◌&&◌, nat_le, ℕ, Bool, true, false, List, [], length, Option, None, Some, Ok, unwrap_or, ⊤}
 use Rattle.std.specs.List.{position_or_len, before_first, after_first}
 use Rattle.std.specs.Str.Parse.{ParsesUnsigned}
-use Rattle.graph_facts.specs.declared.range.Range.{Range}
-use Rattle.graph_facts.specs.declared.range.RangeFault.{RangeFault}
-use Rattle.graph_facts.specs.declared.range.RangeFault.TheVariants.{Malformed, Empty}
+use Rattle.graph_facts.specs.declared.selection.Range.{Range}
+use Rattle.graph_facts.specs.declared.selection.RangeFault.{RangeFault}
+use Rattle.graph_facts.specs.declared.selection.RangeFault.TheVariants.{Malformed, Empty}
 
 -- the number is at most the limit, if there is one
 abbrev pub is_up_to : Option ℕ → ℕ → Bool

@@ -3,11 +3,11 @@ use Rattle.std.specs.Prelude.{◌≡◌, ◌<◌, ◌||◌, ℕ, Bool, List, [],
 use Rattle.std.specs.List.{flat_map}
 use Rattle.std.specs.List.Sorted.{IsStrictlySortedBy}
 use Rattle.std.specs.Map.{keys_of, lookup}
-use Rattle.embedding.specs.declared.rules.Rule.{Rule}
+use Rattle.embedding.specs.declared.breaks.Rule.{Rule}
 use Rattle.embedding.specs.Words as rules
-use Rattle.graph_facts.specs.declared.facts.Facts.{Facts}
-use Rattle.graph_facts.specs.declared.combination.Columns.{Columns}
-use Rattle.graph_facts.specs.declared.combination.Combination.{Combination}
+use Rattle.graph_facts.specs.declared.selection.Facts.{Facts}
+use Rattle.graph_facts.specs.declared.table.Columns.{Columns}
+use Rattle.graph_facts.specs.declared.table.Combination.{Combination}
 use Rattle.graph_facts.specs.Combinations.{combination_of, compare, is_same}
 
 -- the model of a table: its columns, a row for each combination with its number of graphs, and the number of all graphs

@@ -2,9 +2,9 @@
 use Rattle.std.specs.Prelude.{◌≡◌, ◌⊎◌, ◌==◌, ℕ, All, Bool, count_by, true, false, if◌then◌else◌, List, Option, None, Some, codes, bytes_eq, fold}
 use Rattle.std.specs.List.{slice_split}
 use Rattle.embedding.specs.Words.{word_of}
-use Rattle.graph_facts.specs.declared.selecting.RuleCondition.{RuleCondition}
-use Rattle.graph_facts.specs.declared.selecting.RuleCondition.TheVariants.{BreaksNone, BreaksFirst}
-use Rattle.graph_facts.specs.declared.combination.Columns.{Columns}
+use Rattle.graph_facts.specs.declared.selection.RuleCondition.{RuleCondition}
+use Rattle.graph_facts.specs.declared.selection.RuleCondition.TheVariants.{BreaksNone, BreaksFirst}
+use Rattle.graph_facts.specs.declared.table.Columns.{Columns}
 
 -- the text of a condition on the first broken rule: 'none', or the word of a rule
 abbrev pub IsRuleText : List ℕ → RuleCondition → Type 0

@@ -1,10 +1,10 @@
 //! Theorems about conditions, columns and tables, each as the contract of an empty function.
 ghost use Rattle.std.specs.Prelude.{◌≡◌, ◌↔◌, true, List, ℕ, Some, not};
 ghost use Rattle.std.specs.List.Sorted.{IsPermutation};
-ghost use Rattle.graph_facts.specs.declared.facts.Facts.{Facts};
-ghost use Rattle.graph_facts.specs.declared.combination.Columns.{Columns};
-ghost use Rattle.graph_facts.specs.declared.combination.Combination.{Combination};
-ghost use Rattle.graph_facts.specs.declared.selecting.Conditions.{Conditions};
+ghost use Rattle.graph_facts.specs.declared.selection.Facts.{Facts};
+ghost use Rattle.graph_facts.specs.declared.table.Columns.{Columns};
+ghost use Rattle.graph_facts.specs.declared.table.Combination.{Combination};
+ghost use Rattle.graph_facts.specs.declared.selection.Conditions.{Conditions};
 ghost use Rattle.graph_facts.specs.Combinations.{is_same};
 ghost use Rattle.graph_facts.specs.Conditions.{chooses, others_than, those_meeting};
 ghost use Rattle.graph_facts.specs.Tables.{IsTable, TableModel};

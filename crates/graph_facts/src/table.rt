@@ -1,13 +1,203 @@
-//! The text of a table.
-ghost use Rattle.std.specs.Prelude.{◌≡◌, ◌+◌, ◌≤◌, ◌++◌, codes, false, length};
+//! Tables of how many graphs have each combination of what they have in the columns, and their text.
+ghost use Rattle.std.specs.Prelude.{◌≡◌, ◌+◌, ◌-◌, ◌<◌, ◌^◌, List, [], ◌∷◌, ◌++◌, length, OnOk, OnErr, ◌≤◌, codes, false};
+ghost use Rattle.std.proofs.Common.{rules};
+ghost use Rattle.std.specs.Cmp.{eq_by_cmp_equiv, partial_equiv_from_equiv, partial_order_from_total};
+ghost use Rattle.std.specs.Cmp.Rules.{comparing};
+ghost use Rattle.std.specs.Ordering.{as_partial_cmp, eq_by_cmp};
+ghost use Rattle.graph_facts.specs.Combinations.{combination_of, compare, compare_total, rule_place};
+ghost use Rattle.graph_facts.specs.Tables.{asks_any, IsTable, number_at, column_text, columns_text, number_text, row_text, rule_text, table_text, total_text};
+ghost use Rattle.graph_facts.specs.declared.selection.Facts.{Facts};
 ghost use Rattle.streams.specs.Sink.{Writes, StaysInTransit};
-ghost use Rattle.streams.specs.declared.text_buffer.TheConstants.{LINE, ROOM};
-ghost use Rattle.graph_facts.specs.Tables.{column_text, columns_text, number_text, row_text, rule_text, table_text, total_text};
+ghost use Rattle.streams.specs.declared.output.TheConstants.{LINE, ROOM};
 
-use crate::combination::{Columns, Combination};
-use crate::counts::Counts;
+use crate::selection::{Facts, place_of};
 use embedding::Rule;
+use std::alloc::{AllocError, Global};
+use std::cmp::Ordering;
+use std::collections::BTreeMap;
+use std::marker::Model;
 use streams::{Sink, TextBuffer, WriteFault};
+
+/// The columns of a table.
+#[derive(Clone, Copy, Debug)]
+pub struct Columns {
+    pub vertices: bool,
+    pub edges: bool,
+    pub faces: bool,
+    pub bends: bool,
+    /// The first rule that is broken.
+    pub rule: bool,
+}
+
+/// What a graph has in the columns of a table; `None` in a column that is not asked for, or if the graph has no such
+/// number or breaks no rule.
+///
+/// Combinations are ordered by these fields in order, with `None` before all else, and rules in the order in which they
+/// are tried.
+#[derive(Clone, Copy, Debug)]
+pub struct Combination {
+    pub vertices: Option<u32>,
+    pub edges: Option<u32>,
+    pub faces: Option<u32>,
+    pub bends: Option<u32>,
+    pub rule: Option<Rule>,
+}
+
+impl Columns {
+    /// Whether some column is asked for.
+    pub fn is_any(&self) -> bool
+        ensures { result ≡ asks_any self.now }
+    {
+        self.vertices || self.edges || self.faces || self.bends || self.rule
+    }
+
+    /// What a graph has in these columns.
+    pub fn combination_of(&self, facts: &Facts) -> Combination
+        ensures { result ≡ combination_of self.now facts.now }
+    {
+        Combination {
+            vertices: if self.vertices {
+                Some(facts.vertices)
+            } else {
+                None
+            },
+            edges: if self.edges { facts.edges } else { None },
+            faces: if self.faces { facts.faces } else { None },
+            bends: if self.bends { facts.bends } else { None },
+            rule: if self.rule { facts.rule } else { None },
+        }
+    }
+}
+
+impl Combination {
+    /// The place of the rule in the order in which rules are tried.
+    fn rule_place(&self) -> Option<u8>
+        ensures { result ≡ rule_place self.now }
+    {
+        self.rule.map(place_of)
+    }
+}
+
+impl Ord for Combination {
+    ghost cmp = { compare };
+
+    ghost total = { compare_total };
+
+    ghost matches_partial_cmp = { Prim.search (comparing, rules) };
+
+    ghost matches_eq = { Prim.search (comparing, rules) };
+
+    fn cmp(&self, other: &Combination) -> Ordering {
+        self.vertices
+            .cmp(&other.vertices)
+            .then(self.edges.cmp(&other.edges))
+            .then(self.faces.cmp(&other.faces))
+            .then(self.bends.cmp(&other.bends))
+            .then(self.rule_place().cmp(&other.rule_place()))
+    }
+}
+
+impl PartialOrd for Combination {
+    ghost partial_cmp = { as_partial_cmp compare };
+
+    ghost laws = { partial_order_from_total compare_total };
+
+    fn partial_cmp(&self, other: &Combination) -> Option<Ordering> {
+        Some(self.cmp(other))
+    }
+}
+
+impl PartialEq for Combination {
+    ghost eq = { eq_by_cmp compare };
+
+    ghost laws = { partial_equiv_from_equiv (eq_by_cmp_equiv compare_total) };
+
+    fn eq(&self, other: &Combination) -> bool {
+        self.cmp(other) == Ordering::Equal
+    }
+}
+
+impl Eq for Combination {
+    ghost laws = { eq_by_cmp_equiv compare_total };
+}
+
+/// How many graphs have each combination of what the columns show, and how many there are in all.
+///
+/// In contracts it is a `TableModel`. Memory grows with the number of different combinations.
+#[derive(Drop)]
+pub struct Counts {
+    columns: Columns,
+    rows: BTreeMap<Combination, u64>,
+    total: u64,
+}
+
+impl Model for Counts {
+    ghost use Rattle.graph_facts.specs.Tables.{TableModel};
+
+    ghost Value = { TableModel };
+
+    ghost view = { λ c. record { columns = c.columns; rows = c.rows.entries; total = c.total } };
+}
+
+impl Counts {
+    /// The table of no graphs, in these columns.
+    pub fn new(alloc: Global, columns: Columns) -> Counts
+        ensures columns { result.columns ≡ columns }
+        ensures table { IsTable [] result }
+    {
+        Counts {
+            columns,
+            rows: BTreeMap::new(alloc),
+            total: 0,
+        }
+    }
+
+    /// Counts one more graph.
+    ///
+    /// # Errors
+    ///
+    /// `AllocError` if there is no memory for a new combination; nothing has then changed.
+    pub fn add(&mut self, facts: &Facts) -> Result<(), AllocError>
+        ensures columns { self.new.columns ≡ self.old.columns }
+        ensures table { OnOk result ((graphs : List Facts) → IsTable graphs self.old → length graphs < 2 ^ 64 - 1
+            → IsTable (graphs ++ facts.now ∷ []) self.new) }
+        ensures unchanged { OnErr result (self.new ≡ self.old) }
+    {
+        let combination = self.columns.combination_of(facts);
+        let number = self.number_of(&combination).saturating_add(1);
+        self.rows.insert(combination, number)?;
+        self.total = self.total.saturating_add(1);
+        Ok(())
+    }
+
+    /// The columns.
+    pub fn columns(&self) -> Columns
+        ensures { result ≡ self.now.columns }
+    {
+        self.columns
+    }
+
+    /// The number of all graphs.
+    pub fn total(&self) -> u64
+        ensures { result ≡ self.now.total }
+    {
+        self.total
+    }
+
+    /// The number of graphs with each combination that occurs, in their order.
+    pub(crate) fn rows(&self) -> &BTreeMap<Combination, u64>
+        ensures { result.now.entries ≡ self.now.rows }
+    {
+        &self.rows
+    }
+
+    /// The number of graphs with a combination.
+    fn number_of(&self, combination: &Combination) -> u64
+        ensures { result ≡ number_at self.now.rows combination.now }
+    {
+        self.rows.get(combination).copied().unwrap_or(0)
+    }
+}
 
 /// Writes a table: a line for each combination that occurs, in their order, and one for the number of all graphs.
 ///

@@ -2,9 +2,9 @@
 use Rattle.std.proofs.Common.{◌≡◌, ℕ, ◌+◌, ◌<◌, List, [], ◌∷◌, ◌++◌, map, length, Option, None, Some, refl, sym, ap, subst, ◌∙◌, arith, append-nil, append_assoc, length-append}
 use Rattle.ruled_lanes.specs.LinkEnds.{Settles}
 use Rattle.streams.specs.declared.frames.Mark.{Mark}
-use Rattle.common.specs.declared.choice.Choice.{Choice}
+use Rattle.common.specs.declared.parameters.Choice.{Choice}
 use Rattle.lanes.specs.declared.message.Message.{Message}
-use Rattle.lanes.specs.declared.drafts.Draft.{Draft}
+use Rattle.lanes.specs.declared.gathering.Draft.{Draft}
 use Rattle.lanes.specs.Notes.{About, Note, notes, numbered, GoOn, IsStopped, Item, End, Stop}
 use Rattle.lanes.specs.Opening.{Meaning}
 use Rattle.lanes.specs.Stages.{IsHandedOn}

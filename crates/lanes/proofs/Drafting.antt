@@ -4,7 +4,7 @@ use Rattle.std.proofs.lemmas.Bool.{eq-eqb, ne_eqb}
 use Rattle.std.proofs.lemmas.List.{map-append}
 use Rattle.std.proofs.lemmas.List.Elements.{filter-append}
 use Rattle.streams.specs.declared.frames.Mark.{Mark}
-use Rattle.lanes.specs.declared.drafts.Draft.{Draft}
+use Rattle.lanes.specs.declared.gathering.Draft.{Draft}
 use Rattle.lanes.specs.Notes.{About, Note, is_of, of_file, Item, End, Stop}
 use Rattle.lanes.specs.Drafts.{abouts, mark_after, IsDraft, AreDrafts}
 

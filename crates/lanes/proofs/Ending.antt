@@ -1,15 +1,15 @@
 -- How a run ends: beside its consumer, which holds what it held, or with its seats.
 use Rattle.std.proofs.Common.{◌≡◌, ℕ, List, All, true, Result, Ok, Err, Vec, vec_len, IfOk, IfErr, ◌∙◌}
 use Rattle.std.specs.declared.alloc.Global.{Global}
-use Rattle.common.specs.declared.choice.Choice.{Choice}
-use Rattle.ruled_lanes.specs.declared.dealing.Tickets.{Tickets}
-use Rattle.ruled_lanes.specs.declared.dealing.Seat.{Seat}
+use Rattle.common.specs.declared.parameters.Choice.{Choice}
+use Rattle.ruled_lanes.specs.declared.tickets.Tickets.{Tickets}
+use Rattle.ruled_lanes.specs.declared.tickets.Seat.{Seat}
 use Rattle.ruled_lanes.specs.TicketProtocol.{times}
 use Rattle.ruled_lanes.specs.TicketSeats.{all_drawn, has_ended, IsSeatOf}
 use Rattle.lanes.specs.Opening.{Meaning}
 use Rattle.lanes.specs.Files.{HasFile}
 use Rattle.lanes.specs.Notes.{Note}
-use Rattle.lanes.specs.declared.fault.RunFault.{RunFault}
+use Rattle.lanes.specs.declared.gathering.RunFault.{RunFault}
 use Rattle.lanes.specs.Faults.{HoldsOnFault}
 use Rattle.lanes.specs.Running.{LeavesConsumer}
 

@@ -1,15 +1,15 @@
 -- What is kept of a file that was not opened, or was read as its source.
 use Rattle.std.proofs.Common.{◌≡◌, ℕ, Bool, true, false, List, [], Option, None, Some, Ok, Err, refl, sym, subst, append-nil}
-use Rattle.planar_code.specs.declared.ending.Ending.TheVariants as ending
+use Rattle.planar_code.specs.declared.partial_record.Ending.TheVariants as ending
 use Rattle.planar_code.specs.FramerState.{Early}
 use Rattle.streams.specs.declared.frames.Mark.{Mark}
 use Rattle.streams.specs.declared.frames.Mark.TheVariants.{Ended}
 use Rattle.streams.specs.declared.frames.Mark.TheVariants as mark
 use Rattle.streams.specs.Reading.{IsFoundIn}
 use Rattle.streams.proofs.Pieces.{nothing_read, found_failed, found_nothing}
-use Rattle.common.specs.declared.choice.Choice.{Choice}
-use Rattle.lanes.specs.declared.opener.OpenFault.{OpenFault}
-use Rattle.lanes.specs.declared.opener.OpenFault.TheVariants.{Io}
+use Rattle.common.specs.declared.parameters.Choice.{Choice}
+use Rattle.lanes.specs.declared.run.OpenFault.{OpenFault}
+use Rattle.lanes.specs.declared.run.OpenFault.TheVariants.{Io}
 use Rattle.lanes.specs.Notes.{Note}
 use Rattle.lanes.specs.Opening.{Meaning, Silent, Unopened, Opened, Opens, IsFoundAt, known_of, fails_of}
 use Rattle.lanes.specs.Keeping.{KeepsFile, KeepsSource}

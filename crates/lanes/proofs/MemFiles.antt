@@ -1,7 +1,7 @@
 -- What files in memory mean, each and past the last.
 use Rattle.std.proofs.Common.{◌≡◌, ℕ, zero, suc, ◌<◌, ◌≤◌, false, List, [], ◌∷◌, Vec, length, get_or, Option, Some, Bool, Ok, Err, refl, ap, ◌∙◌, arith}
 use Rattle.std.specs.declared.alloc.Global.{Global}
-use Rattle.lanes.specs.declared.opener.OpenFault.{OpenFault}
+use Rattle.lanes.specs.declared.run.OpenFault.{OpenFault}
 use Rattle.lanes.specs.Opening.{Unopened, Opened, Opens}
 use Rattle.lanes.specs.MemFiles.{bytes_at, meaning_in}
 

@@ -1,6 +1,6 @@
 -- Records that are kept with their numbers, some and then others.
 use Rattle.std.proofs.Common.{◌≡◌, ℕ, ◌+◌, List, [], ◌∷◌, ◌++◌, length, map, sym, ap, ◌∙◌, subst, append_assoc}
-use Rattle.common.specs.declared.choice.Choice.{Choice}
+use Rattle.common.specs.declared.parameters.Choice.{Choice}
 use Rattle.lanes.specs.Notes.{Note, numbered, Item}
 use Rattle.lanes.specs.Numbering.{AreOfSame, numbered-append}
 

@@ -6,12 +6,12 @@ use Rattle.std.specs.PromisedHandle.{KeepsEach}
 use Rattle.std.specs.declared.thread.PromisedHandle.{PromisedHandle}
 use Rattle.std.specs.declared.thread.Promise as Promise
 use Rattle.crossbeam_channel.specs.Ends.{sends_on, receives_on}
-use Rattle.common.specs.declared.choice.Choice.{Choice}
-use Rattle.ruled_lanes.specs.declared.fan_ends.LaneGiver.{LaneGiver}
-use Rattle.ruled_lanes.specs.declared.fan_ends.Gatherer.{Gatherer}
-use Rattle.ruled_lanes.specs.declared.dealing.Tickets.{Tickets}
-use Rattle.ruled_lanes.specs.declared.dealing.Seat.{Seat}
-use Rattle.ruled_lanes.specs.declared.errors.Closed.{Closed}
+use Rattle.common.specs.declared.parameters.Choice.{Choice}
+use Rattle.ruled_lanes.specs.declared.fan_channel.LaneGiver.{LaneGiver}
+use Rattle.ruled_lanes.specs.declared.fan_channel.Gatherer.{Gatherer}
+use Rattle.ruled_lanes.specs.declared.tickets.Tickets.{Tickets}
+use Rattle.ruled_lanes.specs.declared.tickets.Seat.{Seat}
+use Rattle.ruled_lanes.specs.declared.channel.Closed.{Closed}
 use Rattle.ruled_lanes.specs.FanEnds.{lane_of, given_at, AreGiversOf, TakesFromSameFan}
 use Rattle.lanes.specs.declared.message.Message.{Message}
 use Rattle.lanes.specs.Notes.{About}

@@ -3,7 +3,7 @@ use Rattle.std.proofs.Common.{◌≡◌, ◌≢◌, ℕ, zero, suc, ◌+◌, ◌
 use Rattle.std.proofs.lemmas.Bool.{cases_eq}
 use Rattle.std.proofs.lemmas.List.Sums.{sum_by-cons, sum_by-append}
 use Rattle.std.proofs.lemmas.List.Elements.{All-head}
-use Rattle.ruled_lanes.specs.declared.dealing.Seat.{Seat}
+use Rattle.ruled_lanes.specs.declared.tickets.Seat.{Seat}
 use Rattle.ruled_lanes.specs.TicketProtocol.{times, HasOnceBelow}
 use Rattle.ruled_lanes.specs.TicketSeats.{drawn, has_ended, all_drawn}
 

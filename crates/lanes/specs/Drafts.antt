@@ -1,8 +1,8 @@
 -- What has arrived of the files so far.
 use Rattle.std.specs.Prelude.{◌≡◌, ℕ, ◌+◌, List, [], ◌∷◌, map, Option, None, Some, ⊤}
 use Rattle.streams.specs.declared.frames.Mark.{Mark}
-use Rattle.common.specs.declared.choice.Choice.{Choice}
-use Rattle.lanes.specs.declared.drafts.Draft.{Draft}
+use Rattle.common.specs.declared.parameters.Choice.{Choice}
+use Rattle.lanes.specs.declared.gathering.Draft.{Draft}
 use Rattle.lanes.specs.Notes.{About, Note, of_file, numbered, Item, End}
 use Rattle.lanes.specs.Opening.{Meaning, IsFoundAt}
 

@@ -1,7 +1,7 @@
 -- What is known of a consumer if a run of lanes failed.
 use Rattle.std.specs.Prelude.{◌⊎◌, List, ⊤}
-use Rattle.lanes.specs.declared.fault.RunFault.{RunFault}
-use Rattle.lanes.specs.declared.fault.RunFault.TheVariants.{Memory, LaneLost, Thread, Refused}
+use Rattle.lanes.specs.declared.gathering.RunFault.{RunFault}
+use Rattle.lanes.specs.declared.gathering.RunFault.TheVariants.{Memory, LaneLost, Thread, Refused}
 use Rattle.lanes.specs.Notes.{Note}
 
 module _ {F : Type 0} where

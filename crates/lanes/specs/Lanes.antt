@@ -1,18 +1,18 @@
 -- The values that the threads of a lane return.
 use Rattle.std.specs.Prelude.{◌≡◌, ◌++◌, ◌∷◌, ℕ, List, [], true, Result, IfOk, IfErr, OnOk}
-use Rattle.common.specs.declared.choice.Choice.{Choice}
-use Rattle.ruled_lanes.specs.declared.link_ends.Giver.{Giver}
-use Rattle.ruled_lanes.specs.declared.link_ends.Taker.{Taker}
-use Rattle.ruled_lanes.specs.declared.fan_ends.LaneGiver.{LaneGiver}
-use Rattle.ruled_lanes.specs.declared.dealing.Tickets.{Tickets}
-use Rattle.ruled_lanes.specs.declared.dealing.Seat.{Seat}
-use Rattle.ruled_lanes.specs.declared.errors.Closed.{Closed}
+use Rattle.common.specs.declared.parameters.Choice.{Choice}
+use Rattle.ruled_lanes.specs.declared.link_channel.Giver.{Giver}
+use Rattle.ruled_lanes.specs.declared.link_channel.Taker.{Taker}
+use Rattle.ruled_lanes.specs.declared.fan_channel.LaneGiver.{LaneGiver}
+use Rattle.ruled_lanes.specs.declared.tickets.Tickets.{Tickets}
+use Rattle.ruled_lanes.specs.declared.tickets.Seat.{Seat}
+use Rattle.ruled_lanes.specs.declared.channel.Closed.{Closed}
 use Rattle.ruled_lanes.specs.HandedBack.{handed_back}
 use Rattle.ruled_lanes.specs.LinkEnds.{given, taken, capacity_of, AreEnds, GivesToSame}
 use Rattle.ruled_lanes.specs.FanEnds.{given_at, GivesToSameLane}
 use Rattle.ruled_lanes.specs.TicketSeats.{drawn, has_ended, IsSeatOf, IsUnused}
 use Rattle.streams.specs.declared.frames.Mark.{Mark}
-use Rattle.streams.specs.declared.reading.TheConstants.{PIECE}
+use Rattle.streams.specs.declared.source.TheConstants.{PIECE}
 use Rattle.lanes.specs.declared.message.Message.{Message}
 use Rattle.lanes.specs.declared.message.Message.TheVariants.{Stop}
 use Rattle.lanes.specs.Notes.{About, Note, End, notes, GoOn, IsStopped}

@@ -1,6 +1,6 @@
 -- What is kept of a file's records as they are read.
 use Rattle.std.proofs.Common.{◌≡◌, ℕ, ◌+◌, List, [], ◌∷◌, ◌++◌, length, map, refl, sym, ap, ◌∙◌, subst, append_assoc, append-nil, arith}
-use Rattle.common.specs.declared.choice.Choice.{Choice}
+use Rattle.common.specs.declared.parameters.Choice.{Choice}
 use Rattle.streams.specs.Placing.{EachAt}
 use Rattle.lanes.specs.Notes.{Note, numbered, Item}
 

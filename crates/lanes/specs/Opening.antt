@@ -3,8 +3,8 @@ use Rattle.std.specs.Prelude.{◌≡◌, ℕ, Bool, true, false, List, [], Optio
 use Rattle.streams.specs.declared.frames.Mark.{Mark}
 use Rattle.streams.specs.Reading.{IsFoundIn}
 use Rattle.streams.specs.Placing.{IsPlaced}
-use Rattle.lanes.specs.declared.opener.OpenFault.{OpenFault}
-use Rattle.lanes.specs.declared.opener.OpenFault.TheVariants.{Io, Memory}
+use Rattle.lanes.specs.declared.run.OpenFault.{OpenFault}
+use Rattle.lanes.specs.declared.run.OpenFault.TheVariants.{Io, Memory}
 
 -- nothing is known of it; or it does not open; or it opens, gives these bytes, and then fails or ends
 pub data Meaning : Type 0 where

@@ -2,13 +2,13 @@
 use Rattle.std.specs.Prelude.{◌≡◌, ℕ, ◌+◌, ◌≤◌, List, [], ◌∷◌, All, true, Result, Ok, Err, Vec, vec_len, ⊤}
 use Rattle.std.specs.declared.alloc.Global.{Global}
 use Rattle.crossbeam_channel.specs.Ends.{sends_on, receives_on}
-use Rattle.common.specs.declared.choice.Choice.{Choice}
-use Rattle.ruled_lanes.specs.declared.fan_ends.LaneGiver.{LaneGiver}
-use Rattle.ruled_lanes.specs.declared.fan_ends.Gatherer.{Gatherer}
-use Rattle.ruled_lanes.specs.declared.dealing.Tickets.{Tickets}
-use Rattle.ruled_lanes.specs.declared.dealing.Seat.{Seat}
-use Rattle.ruled_lanes.specs.declared.errors.Closed.{Closed}
-use Rattle.ruled_lanes.specs.declared.limits.TheConstants.{LANES}
+use Rattle.common.specs.declared.parameters.Choice.{Choice}
+use Rattle.ruled_lanes.specs.declared.fan_channel.LaneGiver.{LaneGiver}
+use Rattle.ruled_lanes.specs.declared.fan_channel.Gatherer.{Gatherer}
+use Rattle.ruled_lanes.specs.declared.tickets.Tickets.{Tickets}
+use Rattle.ruled_lanes.specs.declared.tickets.Seat.{Seat}
+use Rattle.ruled_lanes.specs.declared.channel.Closed.{Closed}
+use Rattle.ruled_lanes.specs.declared.channel.TheConstants.{LANES}
 use Rattle.ruled_lanes.specs.FanEnds.{lane_of, given_at, gathered}
 use Rattle.ruled_lanes.specs.TicketProtocol.{times}
 use Rattle.ruled_lanes.specs.TicketSeats.{all_drawn, has_ended, IsSeatOf, IsUnused}
@@ -17,7 +17,7 @@ use Rattle.lanes.specs.Notes.{About, Note}
 use Rattle.lanes.specs.Opening.{Meaning}
 use Rattle.lanes.specs.Files.{HasFile}
 use Rattle.lanes.specs.Lanes.{TellsSeat, LeavesLane}
-use Rattle.lanes.specs.declared.fault.RunFault.{RunFault}
+use Rattle.lanes.specs.declared.gathering.RunFault.{RunFault}
 use Rattle.lanes.specs.Faults.{HoldsOnFault}
 
 -- each element fits its number; the first has this one

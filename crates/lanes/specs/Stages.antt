@@ -1,7 +1,7 @@
 -- The messages that a stage of a lane gives.
 use Rattle.std.specs.Prelude.{◌≡◌, List}
-use Rattle.ruled_lanes.specs.declared.link_ends.Giver.{Giver}
-use Rattle.ruled_lanes.specs.declared.link_ends.Taker.{Taker}
+use Rattle.ruled_lanes.specs.declared.link_channel.Giver.{Giver}
+use Rattle.ruled_lanes.specs.declared.link_channel.Taker.{Taker}
 use Rattle.ruled_lanes.specs.LinkEnds.{given, taken, GivesToSame, TakesFromSame}
 use Rattle.lanes.specs.declared.message.Message.{Message}
 use Rattle.lanes.specs.Notes.{About, notes, IsStopped}

@@ -1,6 +1,6 @@
 -- A stop says nothing about any file.
 use Rattle.std.proofs.Common.{◌≡◌, ℕ, ◌+◌, cond, List, [], ◌∷◌, ◌++◌, None, refl, sym, ap, ◌∙◌}
-use Rattle.lanes.specs.declared.drafts.Draft.{Draft}
+use Rattle.lanes.specs.declared.gathering.Draft.{Draft}
 use Rattle.lanes.specs.Notes.{About, Note, is_of, of_file, Stop}
 use Rattle.lanes.specs.Drafts.{abouts, mark_after, AreDrafts}
 

@@ -1,28 +1,219 @@
-//! Running all lanes of a run.
-ghost use Rattle.std.specs.Prelude.{◌≡◌, ◌<◌, ◌≤◌, List, [], All, IfOk, IfErr, map, vec_len};
-ghost use Rattle.ruled_lanes.specs.declared.limits.TheConstants.{LANES, MAX_TICKETS};
-ghost use Rattle.ruled_lanes.specs.FanEnds.{given_at};
-ghost use Rattle.ruled_lanes.specs.TicketSeats.{IsSeatOf, IsUnused};
-ghost use Rattle.lanes.specs.Notes.{Note};
-ghost use Rattle.lanes.specs.Files.{AreToldWhole};
-ghost use Rattle.lanes.specs.Lanes.{StartsLane};
-ghost use Rattle.lanes.specs.Running.{StartsRun, LeavesRun};
+//! Running all lanes of a run: the fan to which they give is created, each lane runs in a thread of its own, and the
+//! calling thread joins them.
+ghost use Rattle.std.specs.Prelude.{◌≡◌, ◌≤◌, ◌+◌, [], IfOk, vec_len, ℕ, List, All, Ok, IfErr, true, ◌<◌, map};
+ghost use Rattle.ruled_lanes.specs.declared.channel.TheConstants.{LANES, MAX_CAPACITY, MAX_TICKETS};
+ghost use Rattle.ruled_lanes.specs.FanEnds.{gathered, capacity_of_fan, given_at};
+ghost use Rattle.lanes.specs.Running.{AreNumbered, IsIdle, AreMatched, IsRunning, HasEnded, StartsRun, LeavesRun};
+ghost use Rattle.lanes.specs.Lanes.{LeavesLane, StartsLane};
+ghost use Rattle.ruled_lanes.specs.TicketProtocol.{times};
+ghost use Rattle.ruled_lanes.specs.TicketSeats.{all_drawn, has_ended, IsSeatOf, IsUnused};
+ghost use Rattle.lanes.specs.Notes.{Note, notes};
+ghost use Rattle.lanes.specs.Files.{HasFile, AreToldWhole};
+ghost use Rattle.lanes.specs.Fans.{untagged, HaveStopped};
 ghost use Rattle.lanes.specs.Faults.{HoldsOnFault};
 ghost use Rattle.lanes.specs.Accepting.{AcceptsFiles, AcceptsAll};
 
-use crate::joining::drop_lanes;
 use crate::lane::Lane;
-use crate::lane_kind::LaneKind;
-use crate::new_fan::{Fan, new_fan};
-use crate::run::Run;
-use crate::running::{LaneFault, LanePromise, LaneReturn, Running};
-use crate::shared::Shared;
-use crate::{Consumer, Gate, Message, Opener, RunFault};
-use ruled_lanes::{LaneGiver, Seat, Tickets};
+use crate::run::{Run, Shared};
+use crate::stage::LaneKind;
+use crate::{Consumer, Gate, Message, Numbered, Opener, RunFault, gather};
+use common::Choice;
+use ruled_lanes::{Closed, Gatherer, LaneGiver, Seat, Tickets, fan_in};
+use std::alloc::{AllocError, Global};
+use std::convert::Infallible;
 use std::snapshot::Snapshot;
 use std::sync::Wait;
 use std::thread;
-use std::thread::{Scope, Threads};
+use std::thread::{Promise, PromisedHandle, Scope, Threads, join_promised};
+
+/// The ends of a fan: the givers of the lanes that run, those of the other lanes, and the gatherer.
+#[derive(Drop)]
+pub struct Fan<E: Numbered, M: Drop + Send> {
+    pub givers: Vec<LaneGiver<Message<E, M>>>,
+    pub idle: Vec<LaneGiver<Message<E, M>>>,
+    pub gatherer: Gatherer<Message<E, M>>,
+}
+
+/// A new fan with room for `capacity` messages; its first `lanes` lanes are to run.
+///
+/// The givers are in the order of their lanes.
+pub fn new_fan<E: Numbered, M: Drop + Send>(
+    alloc: Global,
+    capacity: u32,
+    lanes: u32,
+) -> Result<Fan<E, M>, AllocError>
+    requires least { 1 ≤ capacity }
+    requires most { capacity ≤ MAX_CAPACITY }
+    requires few { lanes ≤ LANES }
+    ensures room { IfOk result (λ fan. capacity_of_fan fan.gatherer ≡ capacity) }
+    ensures count { IfOk result (λ fan. vec_len fan.givers ≡ lanes) }
+    ensures lanes { IfOk result (λ fan. vec_len fan.givers + vec_len fan.idle ≡ LANES) }
+    ensures givers { IfOk result (λ fan. AreNumbered (IsIdle fan.gatherer) 0 fan.givers.items) }
+    ensures idle { IfOk result (λ fan. AreNumbered (IsIdle fan.gatherer) (vec_len fan.givers) fan.idle.items) }
+    ensures none_gathered { IfOk result (λ fan. gathered fan.gatherer ≡ []) }
+{
+    let Ok((mut givers, gatherer)) = fan_in(alloc, capacity) else {
+        return Err(AllocError);
+    };
+    let Ok(idle) = givers.split_off(lanes as usize) else {
+        return Err(AllocError);
+    };
+    Ok(Fan {
+        givers,
+        idle,
+        gatherer,
+    })
+}
+
+/// The fault of a lane, which has no consumer.
+pub type LaneFault = RunFault<Infallible>;
+
+/// The return value of a lane's thread: its end of the fan, the result of giving its stop, and its seat or its fault.
+#[derive(Drop)]
+pub struct LaneReturn<E: Numbered, M: Drop + Send> {
+    pub giver: LaneGiver<Message<E, M>>,
+    /// Only a refused give makes the error, so that no lane can omit its stop.
+    pub stop: Result<(), Closed<Message<E, M>>>,
+    pub seat: Result<Seat, LaneFault>,
+}
+
+/// What the thread of a lane promises of the end and the seat that it returns.
+#[derive(Drop)]
+pub struct LanePromise<E: Numbered, M: Drop + Send, O: Opener> {
+    pub choice: Choice,
+    pub opener: Snapshot<O>,
+    pub tickets: Snapshot<Tickets>,
+    pub giver: Snapshot<LaneGiver<Message<E, M>>>,
+}
+
+impl<E: Numbered, M: Drop + Send, O: Opener> Promise<LaneReturn<E, M>> for LanePromise<E, M, O> {
+    ghost kept_by = { λ p end. LeavesLane E.about p.choice (O.meaning p.opener.value) p.tickets.value p.giver.value end.giver end.stop end.seat };
+}
+
+/// The handle of a running lane.
+pub type Running<E, M, O> = PromisedHandle<LaneReturn<E, M>, LanePromise<E, M, O>>;
+
+/// Joins the threads of lanes, and drops what they return.
+///
+/// What a thread returns is dropped only if it is joined: a lane's end of the fan keeps the messages that are left in it.
+pub fn drop_lanes<E: Numbered, M: Drop + Send, R: Threads, O: Opener>(
+    rt: &R,
+    running: Vec<Running<E, M, O>>,
+) {
+    for handle in running {
+        let _ended = handle.join(rt);
+    }
+}
+
+/// Joins the threads of lanes; returns what they return, in order. `Memory` if there is no memory for that; they are
+/// joined all the same.
+fn join_lanes<E: Numbered, M: Drop + Send, R: Threads, O: Opener>(
+    rt: &R,
+    running: Vec<Running<E, M, O>>,
+) -> Result<Vec<LaneReturn<E, M>>, LaneFault>
+    ensures count { IfOk result (λ ended. vec_len ended ≡ vec_len running) }
+    ensures kept { IfOk result (λ ended. AreMatched (λ r end. LeavesLane E.about r.promise.choice (O.meaning r.promise.opener.value) r.promise.tickets.value
+        r.promise.giver.value end.giver end.stop end.seat) running.items ended.items) }
+{
+    match join_promised(rt, running) {
+        Ok(ended) => Ok(ended),
+        Err(refused) => {
+            drop_lanes(rt, refused.value);
+            Err(LaneFault::Memory)
+        }
+    }
+}
+
+/// The seat and the end of the fan that a lane returned, if it gave its stop and lost nothing.
+fn lane_of<E: Numbered, M: Drop + Send>(end: LaneReturn<E, M>) -> Result<Lane<E, M>, LaneFault>
+    ensures giver { IfOk result (λ lane. lane.giver ≡ end.giver) }
+    ensures stop { IfOk result (λ lane. end.stop ≡ Ok tt) }
+    ensures seat { IfOk result (λ lane. end.seat ≡ Ok lane.seat) }
+{
+    let LaneReturn { giver, stop, seat } = end;
+    let Ok(()) = stop else {
+        return Err(LaneFault::LaneLost);
+    };
+    match seat {
+        Ok(seat) => Ok(Lane { seat, giver }),
+        Err(fault) => Err(fault),
+    }
+}
+
+impl<R: Threads + Wait + Sync, O: Opener, G: Gate, L> Shared<'_, R, O, G, L> {
+    /// Settles the fan with the givers of all lanes, also of those that did not run. This proves that the messages taken
+    /// of each lane are all that it gave, and that all messages of a file drawn by one seat arrived. Returns the seats.
+    fn settle_lanes<E: Numbered, M: Drop + Send>(
+        &self,
+        gatherer: Gatherer<Message<E, M>>,
+        ended: Vec<LaneReturn<E, M>>,
+        mut givers: Vec<LaneGiver<Message<E, M>>>,
+    ) -> Result<Vec<Seat>, LaneFault>
+        requires some { 1 ≤ vec_len ended }
+        requires lanes { vec_len ended + vec_len givers ≡ LANES }
+        requires ended { AreNumbered (λ lane end. HasEnded E.about gatherer self.now.run.now.choice (O.meaning self.now.run.now.opener.now) self.now.tickets.now lane
+            end.giver end.stop end.seat) 0 ended.items }
+        requires idle { AreNumbered (IsIdle gatherer) (vec_len ended) givers.items }
+        requires stopped { HaveStopped E.about (vec_len ended) (gathered gatherer) }
+        ensures count { IfOk result (λ seats. vec_len seats ≡ vec_len ended) }
+        ensures seats { IfOk result (λ seats. All (λ s. IsSeatOf self.now.tickets.now s × (has_ended s ≡ true)) seats.items) }
+        ensures told { IfOk result (λ seats. (file : ℕ) → times file (all_drawn seats.items) ≡ 1
+            → HasFile self.now.run.now.choice (O.meaning self.now.run.now.opener.now file) file (notes E.about (untagged (gathered gatherer)))) }
+    {
+        let Ok(mut seats) = Vec::with_capacity(self.run.alloc, ended.len()) else {
+            return Err(LaneFault::Memory);
+        };
+        let Ok(()) = givers.reserve(ended.len()) else {
+            return Err(LaneFault::Memory);
+        };
+        for end in ended {
+            let lane = lane_of(end)?;
+            let Lane { seat, giver } = lane;
+            seats.push_reserved(seat);
+            givers.push_reserved(giver);
+        }
+        gatherer.settle(self.run.rt, givers);
+        Ok(seats)
+    }
+
+    /// Passes all messages of the lanes to the consumer, and joins the lanes' threads, whatever happened; returns the
+    /// seats.
+    ///
+    /// The messages of a lane end with its stop. Then the consumer holds all of each file that one seat drew.
+    pub fn finish_lanes<E: Numbered, M: Drop + Send, C: Consumer<E, M>>(
+        &self,
+        gatherer: Gatherer<Message<E, M>>,
+        running: Vec<Running<E, M, O>>,
+        idle: Vec<LaneGiver<Message<E, M>>>,
+        consumer: &mut C,
+    ) -> Result<Vec<Seat>, RunFault<C::Refusal>>
+        requires some { 1 ≤ vec_len running }
+        requires lanes { vec_len running + vec_len idle ≡ LANES }
+        requires running { AreNumbered (λ lane r. IsRunning gatherer self.now.run.now.choice self.now.run.now.opener.now self.now.tickets.now lane
+            r.promise.choice r.promise.opener.value r.promise.tickets.value r.promise.giver.value) 0 running.items }
+        requires idle { AreNumbered (IsIdle gatherer) (vec_len running) idle.items }
+        requires none_gathered { gathered gatherer ≡ [] }
+        requires empty { C.holds consumer.old [] }
+        ensures count { IfOk result (λ seats. vec_len seats ≡ vec_len running) }
+        ensures seats { IfOk result (λ seats. All (λ s. IsSeatOf self.now.tickets.now s × (has_ended s ≡ true)) seats.items) }
+        ensures told { IfOk result (λ seats. (ns : List Note) × C.holds consumer.new ns
+            × ((file : ℕ) → times file (all_drawn seats.items) ≡ 1 → HasFile self.now.run.now.choice (O.meaning self.now.run.now.opener.now file) file ns)) }
+        ensures failed { IfErr result (HoldsOnFault (C.gave_up consumer.new) (C.holds consumer.new)) }
+        ensures stays { C.stays consumer.old consumer.new }
+    {
+        let lanes = running.len() as u32;
+        let taken = gather(self.run.rt, self.run.alloc, gatherer, lanes, consumer);
+        let ended = join_lanes(self.run.rt, running);
+        let gatherer = taken?;
+        match ended {
+            Ok(ended) => match self.settle_lanes(gatherer, ended, idle) {
+                Ok(seats) => Ok(seats),
+                Err(fault) => Err(fault.of_any_consumer()),
+            },
+            Err(fault) => Err(fault.of_any_consumer()),
+        }
+    }
+}
 
 /// The handles of lanes that run.
 type RunningLanes<E, M, O> = Vec<Running<E, M, O>>;

@@ -1,19 +1,210 @@
-//! Gathering, by the calling thread, of the messages that the lanes give.
-ghost use Rattle.std.specs.Prelude.{◌≡◌, ◌⊎◌, ◌≤◌, ◌∷◌, ◌++◌, [], ℕ, List, IfOk, OnOk, IfErr, true, false, vec_len, slice_index_or};
-ghost use Rattle.ruled_lanes.specs.declared.limits.TheConstants.{LANES};
+//! Gathering, by the calling thread, of the messages that the lanes give; what it does with them, for example keep
+//! drafts of files; and the reason why a run of lanes fails.
+ghost use Rattle.std.specs.Prelude.{◌≡◌, ◌↔◌, List, [], ◌∷◌, ◌++◌, IsTrue, OnOk, IfErr, ℕ, IfOk, ⊤, vec_len, ◌⊎◌, ◌≤◌, true, false, slice_index_or};
+ghost use Rattle.lanes.specs.Notes.{Note, Item, End, Stop, notes, notes_of_items};
+ghost use Rattle.lanes.specs.declared.gathering.RunFault.{RunFault};
+ghost use Rattle.std.proofs.Common.{refl, ◌∙◌};
+ghost use Rattle.common.specs.declared.parameters.Choice.{Choice};
+ghost use Rattle.lanes.specs.Opening.{Meaning};
+ghost use Rattle.lanes.specs.Drafts.{AreDrafts};
+ghost use Rattle.lanes.specs.Files.{AreToldWhole, AreReady};
+ghost use Rattle.lanes.specs.Stops.{drafts_stop};
+ghost use Rattle.ruled_lanes.specs.declared.channel.TheConstants.{LANES};
 ghost use Rattle.ruled_lanes.specs.FanEnds.{gathered, TakesFromSameFan};
-ghost use Rattle.lanes.specs.Notes.{Note, notes, notes_of_items};
 ghost use Rattle.lanes.specs.Fans.{untagged, HaveStopped};
 ghost use Rattle.lanes.specs.Faults.{HoldsOnFault};
 
-use crate::batch::Batch;
-use crate::consumer::Consumer;
-use crate::fault::RunFault;
-use crate::message::Message;
-use crate::numbered::Numbered;
+use crate::message::{Batch, Message};
+use crate::stage::Numbered;
 use ruled_lanes::Gatherer;
-use std::alloc::Global;
+use std::alloc::{AllocError, Global};
+use std::convert::Infallible;
 use std::sync::Wait;
+use streams::Mark;
+
+/// The reason why a run of lanes failed, or why a consumer refused one of their messages.
+#[derive(Clone, Copy, Debug, PartialEq, Eq, Drop)]
+pub enum RunFault<F: Drop> {
+    /// Memory ran out for links, the fan, tickets, buffers, lists of lanes, or what the consumer keeps.
+    Memory,
+    /// An end of a link or of the fan was gone, or the consumer received a message that no lane gives.
+    LaneLost,
+    /// A thread could not be started.
+    Thread,
+    /// The consumer failed for a reason of its own.
+    Refused(F),
+}
+
+impl RunFault<Infallible> {
+    ghost use Rattle.lanes.specs.Faults.{IsOfLanes};
+
+    /// This fault, as that of a run with any consumer.
+    pub fn of_any_consumer<F: Drop>(self) -> RunFault<F>
+        ensures { IsOfLanes result }
+    {
+        match self {
+            RunFault::Memory => RunFault::Memory,
+            RunFault::LaneLost => RunFault::LaneLost,
+            RunFault::Thread => RunFault::Thread,
+        }
+    }
+}
+
+impl<F: Drop> From<AllocError> for RunFault<F> {
+    ghost use Rattle.std.specs.Prelude.{◌≡◌};
+    ghost use Rattle.lanes.specs.declared.gathering.RunFault.TheVariants.{Memory};
+
+    ghost from_gives = { λ _ fault. fault ≡ Memory };
+
+    fn from(_refused: AllocError) -> RunFault<F> {
+        RunFault::Memory
+    }
+}
+
+/// A consumer of the messages of all lanes, one after another.
+///
+/// In proofs it has what it holds: the notes of the messages that it took in. It also has which part of it stays the
+/// same over any number of calls, what is known of it once it refused a message, and that nothing is buffered in it.
+pub trait Consumer<E: Numbered, M: Drop>: Drop {
+    /// Its own reason to refuse a message, beside lack of memory and a message that no lane gives.
+    type Refusal: Drop;
+
+    ghost holds: { Self → List Note → Type 0 };
+
+    ghost stays: { Self → Self → Type 0 };
+
+    ghost gave_up: { Self → RunFault Self.Refusal → Type 0 };
+
+    ghost passed_on: { Self → Type 0 };
+
+    /// Takes in an item. If it refuses, for a reason of the implementation, no more messages are gathered.
+    fn item(&mut self, item: E) -> Result<(), RunFault<Self::Refusal>>
+        requires { (ns : List Note) × holds self.old ns }
+        ensures taken { OnOk result ((ns : List Note) → holds self.old ns → holds self.new (ns ++ Item (E.about item) ∷ [])) }
+        ensures gave_up { IfErr result (λ fault. gave_up self.new fault) }
+        ensures stays { stays self.old self.new };
+
+    /// Takes in the end of a file: its mark, and what else is known of that end. It refuses as `item` does.
+    fn end(&mut self, file: u32, mark: Mark, known: M) -> Result<(), RunFault<Self::Refusal>>
+        requires { (ns : List Note) × holds self.old ns }
+        ensures taken { OnOk result ((ns : List Note) → holds self.old ns → holds self.new (ns ++ End file mark ∷ [])) }
+        ensures gave_up { IfErr result (λ fault. gave_up self.new fault) }
+        ensures stays { stays self.old self.new };
+
+    /// Whether nothing is buffered that `flush` would pass on.
+    fn is_flushed(&self) -> bool
+        ensures { IsTrue result ↔ passed_on self.now };
+
+    /// Passes on what is buffered. It is called if no message has arrived for some time, so that nothing is delayed
+    /// long. It refuses as `item` does.
+    fn flush(&mut self) -> Result<(), RunFault<Self::Refusal>>
+        requires { (ns : List Note) × holds self.old ns }
+        ensures kept { OnOk result ((ns : List Note) → holds self.old ns → holds self.new ns) }
+        ensures flushed { OnOk result (passed_on self.new) }
+        ensures gave_up { IfErr result (λ fault. gave_up self.new fault) }
+        ensures stays { stays self.old self.new };
+
+    // A stop says nothing about any file.
+    ghost holds_on: { (x : Self) (ns : List Note) → holds x ns → holds x (ns ++ Stop ∷ []) };
+
+    // What stays the same stays so over any number of calls.
+    ghost stays_itself: { (x : Self) → stays x x };
+
+    ghost stays_on: { (x y z : Self) → stays x y → stays y z → stays x z };
+}
+
+/// The entries of one file received so far, and its mark if it has ended.
+#[derive(Drop)]
+pub struct Draft<E: Drop> {
+    pub entries: Vec<E>,
+    pub mark: Option<Mark>,
+}
+
+/// The drafts of the first files of a run, from file 0 on. A message of any other file is dropped.
+#[derive(Drop)]
+pub struct Drafts<E: Numbered> {
+    pub files: Vec<Draft<E>>,
+}
+
+impl<E: Numbered> Drafts<E> {
+    /// An empty draft for each of `files` files. `AllocError` if there is no memory for them.
+    pub fn new(alloc: Global, files: u32) -> Result<Drafts<E>, AllocError>
+        ensures count { IfOk result (λ drafts. vec_len drafts.files ≡ files) }
+        ensures empty { IfOk result (λ drafts. AreDrafts E.about 0 [] drafts.files.items) }
+    {
+        let mut drafts = Vec::with_capacity(alloc, files as usize)?;
+        for _ in 0..files {
+            drafts.push(Draft {
+                entries: Vec::new(alloc),
+                mark: None,
+            })?;
+        }
+        Ok(Drafts { files: drafts })
+    }
+
+    /// Returns the draft of each file; it is complete if everything about the file was received.
+    pub fn into_ready(self) -> Vec<Draft<E>>
+        ensures count { vec_len result ≡ vec_len self.files }
+        ensures ready { (choice : Choice) (meaning : ℕ → Meaning) (ns : List Note) → AreDrafts E.about 0 ns self.files.items
+            → AreToldWhole choice meaning (vec_len self.files) ns → AreReady E.about choice meaning 0 result.items }
+    {
+        self.files
+    }
+}
+
+impl<E: Numbered, M: Drop> Consumer<E, M> for Drafts<E> {
+    type Refusal = Infallible;
+
+    ghost holds = { λ d ns. AreDrafts E.about 0 ns d.files.items };
+
+    ghost stays = { λ a b. vec_len b.files ≡ vec_len a.files };
+
+    ghost gave_up = { λ _ _. ⊤ };
+
+    ghost passed_on = { λ _. ⊤ };
+
+    fn item(&mut self, item: E) -> Result<(), RunFault<Infallible>>
+        ensures taken { OnOk result ((ns : List Note) → AreDrafts E.about 0 ns self.old.files.items
+            → AreDrafts E.about 0 (ns ++ Item (E.about item) ∷ []) self.new.files.items) }
+        ensures stays { vec_len self.new.files ≡ vec_len self.old.files }
+    {
+        let file = item.file() as usize;
+        if file < self.files.len() {
+            let Ok(()) = self.files[file].entries.push(item) else {
+                return Err(RunFault::Memory);
+            };
+        }
+        Ok(())
+    }
+
+    fn end(&mut self, file: u32, mark: Mark, _known: M) -> Result<(), RunFault<Infallible>>
+        ensures taken { OnOk result ((ns : List Note) → AreDrafts E.about 0 ns self.old.files.items
+            → AreDrafts E.about 0 (ns ++ End file mark ∷ []) self.new.files.items) }
+        ensures stays { vec_len self.new.files ≡ vec_len self.old.files }
+    {
+        let place = file as usize;
+        if place < self.files.len() {
+            self.files[place].mark = Some(mark);
+        }
+        Ok(())
+    }
+
+    fn is_flushed(&self) -> bool {
+        true
+    }
+
+    fn flush(&mut self) -> Result<(), RunFault<Infallible>>
+        ensures same { self.new ≡ self.old }
+    {
+        Ok(())
+    }
+
+    ghost holds_on = { λ d ns holds. drafts_stop E.about 0 ns d.files.items holds };
+
+    ghost stays_itself = { λ x. refl };
+
+    ghost stays_on = { λ x y z p q. q ∙ p };
+}
 
 /// How long something stays buffered in the consumer, in microseconds of sleep, before it is flushed although no
 /// message arrives.

@@ -1,25 +1,59 @@
 //! One lane: a pipeline of four stages. The last one runs on the lane's own thread, which starts a thread for each
-//! other one.
-ghost use Rattle.std.specs.Prelude.{◌≡◌, ◌∷◌, ◌++◌, [], List, IfOk, IfSome, Some};
-ghost use Rattle.ruled_lanes.specs.LinkEnds.{taken, AreEnds};
-ghost use Rattle.ruled_lanes.specs.FanEnds.{given_at, GivesToSameLane};
+//! other one and settles the links between them at the end.
+ghost use Rattle.std.specs.Prelude.{ℕ, List, ◌≡◌, ◌∷◌, ◌++◌, [], IfOk, IfSome, Some};
+ghost use Rattle.ruled_lanes.specs.LinkEnds.{given, taken, AreEnds};
+ghost use Rattle.common.specs.declared.parameters.Choice.{Choice};
 ghost use Rattle.lanes.specs.declared.message.Message.{Message as AnyMessage};
+ghost use Rattle.lanes.specs.Opening.{Meaning};
+ghost use Rattle.lanes.specs.Stages.{IsHandedOn};
+ghost use Rattle.lanes.specs.Files.{TellsDrawn};
+ghost use Rattle.ruled_lanes.specs.FanEnds.{given_at, GivesToSameLane};
 ghost use Rattle.lanes.specs.declared.message.Message.TheVariants.{Stop};
 ghost use Rattle.lanes.specs.Notes.{notes, GoOn};
-ghost use Rattle.lanes.specs.Stages.{IsHandedOn};
 ghost use Rattle.lanes.specs.Lanes.{TellsSeat, StartsLane, LeavesLane};
 ghost use Rattle.lanes.specs.Accepting.{AcceptsAll};
 
-use crate::lane_kind::LaneKind;
-use crate::running::{LaneFault, LaneReturn};
-use crate::settling::settle_links;
-use crate::shared::Shared;
-use crate::stages::{LastStage, Stages, new_stages};
-use crate::starting::{Started, StartedRead, start_stage};
+use crate::all_lanes::{LaneFault, LaneReturn};
+use crate::run::Shared;
+use crate::stage::LaneKind;
+use crate::starting::{LastStage, Stages, Started, StartedRead, new_stages, start_stage};
 use crate::{Gate, Message, Numbered, Opener, StageWork, run_until_stop};
-use ruled_lanes::{LaneGiver, Seat, Taker};
+use ruled_lanes::{Giver, LaneGiver, Seat, Taker};
 use std::sync::Wait;
 use std::thread::{Scope, Threads};
+
+/// Consumes the links of a lane; proves that the messages of the last stage say all that those of the first do.
+///
+/// It takes the ends that the stages returned.
+pub fn settle_links<L: LaneKind, R: Wait>(
+    rt: &R,
+    read: Giver<Message<L::Framed, L::End>>,
+    embed: (
+        Taker<Message<L::Framed, L::End>>,
+        Giver<Message<L::Embedded, L::End>>,
+    ),
+    shape: (
+        Taker<Message<L::Embedded, L::End>>,
+        Giver<Message<L::Shaped, L::End>>,
+    ),
+    draw: Taker<Message<L::Shaped, L::End>>,
+)
+    requires framed { AreEnds read embed.0 }
+    requires embedded { AreEnds embed.1 shape.0 }
+    requires shaped { AreEnds shape.1 draw }
+    requires embeds { IsHandedOn L.Framed.about L.Embedded.about (taken embed.0) (given embed.1) }
+    requires shapes { IsHandedOn L.Embedded.about L.Shaped.about (taken shape.0) (given shape.1) }
+    ensures { (choice : Choice) (meaning : ℕ → Meaning) (drawn : List ℕ) (gave : List (AnyMessage L.Entry L.End))
+        → IsHandedOn L.Shaped.about L.Entry.about (taken draw) gave
+        → TellsDrawn L.Framed.about choice meaning drawn (given read)
+        → TellsDrawn L.Entry.about choice meaning drawn gave }
+{
+    let (framed_taker, embedded_giver) = embed;
+    let (embedded_taker, shaped_giver) = shape;
+    framed_taker.settle(rt, read);
+    embedded_taker.settle(rt, embedded_giver);
+    draw.settle(rt, shaped_giver);
+}
 
 /// A lane that does not run: the seat by which it draws files, and its end of the fan.
 #[derive(Drop)]

@@ -1,18 +1,161 @@
-//! The stages of a lane, which is a pipeline.
-ghost use Rattle.std.specs.Prelude.{◌≡◌, ◌∷◌, ◌++◌, [], IfSome};
+//! The stages of a lane, which is a pipeline: the states of a record on its way through it, the kinds of lanes with the
+//! items of each stage, the scratches of a lane, and the work of a stage on the records of its messages.
+ghost use Rattle.std.specs.Prelude.{◌≡◌, ◌≤◌, ℕ, List, ◌++◌, [], OnOk, ◌∷◌, IfSome};
+ghost use Rattle.lanes.specs.Notes.{About, notes_of_items, GoOn, notes, Stop};
+ghost use Rattle.streams.specs.declared.frames.Mark.{Mark};
 ghost use Rattle.ruled_lanes.specs.LinkEnds.{given, taken, TakesFromSame};
-ghost use Rattle.lanes.specs.Notes.{notes, GoOn, Stop};
 ghost use Rattle.lanes.specs.Stages.{HandedOnAll};
 
-use crate::filling::Filling;
-use crate::gate::Gate;
-use crate::message::Message;
-use crate::numbered::Staged;
-use crate::outlet::Outlet;
-use crate::running_stage::RunningStage;
+use crate::message::{Batch, Filling, Gone, Message, Outlet};
+use crate::run::{Gate, Stage};
+use common::Choice;
+use planar_code::Record;
 use ruled_lanes::{Giver, Taker};
-use std::alloc::Global;
+use std::alloc::{AllocError, Global};
 use std::sync::Wait;
+use streams::SourceEnd;
+
+/// An item of a lane: what is known of one record of a file.
+pub trait Numbered: Drop + Send {
+    /// Which record it is: its file, its place there, its bytes, and the choice of its outer face.
+    ghost about: { Self → About };
+
+    /// The index of the record's file, from 0.
+    fn file(&self) -> u32
+        ensures { result ≡ (about self.now).file };
+
+    /// The index of the record in its file, from 0.
+    fn ordinal(&self) -> u32
+        ensures { result ≡ (about self.now).ordinal };
+}
+
+/// An item that waits for a stage, together with the work of that stage.
+pub trait Staged: Numbered {
+    /// The item after the work.
+    type Next: Numbered;
+
+    /// The buffers that the work uses and does not keep. The stage's thread reuses them for each record. Lists that
+    /// later stages of its lane no longer need may return through them.
+    type Scratch: Drop + Send;
+
+    /// The stage that does the work.
+    const STAGE: Stage;
+
+    /// An empty scratch, without queues on which buffers return. It allocates nothing.
+    fn scratch(alloc: Global) -> Self::Scratch;
+
+    /// Takes in lists that later stages of the lane no longer need, and returns those that this stage no longer needs.
+    /// It never waits, and has no influence on results. Called before each record.
+    fn exchange<R: Wait>(rt: &R, scratch: &mut Self::Scratch);
+
+    /// Does the work of the stage. The record and the choice stay the same.
+    fn work(self, alloc: Global, scratch: &mut Self::Scratch) -> Self::Next
+        ensures { Self.Next.about result ≡ Self.about self };
+}
+
+/// The scratches of the second, third and fourth stage of a lane.
+#[derive(Drop)]
+pub struct LaneScratch<E: Drop, S: Drop, D: Drop> {
+    pub embed: E,
+    pub shape: S,
+    pub draw: D,
+}
+
+/// The `LaneScratch` of a lane of this kind.
+pub type ScratchOf<L> = LaneScratch<
+    <<L as LaneKind>::Framed as Staged>::Scratch,
+    <<L as LaneKind>::Embedded as Staged>::Scratch,
+    <<L as LaneKind>::Shaped as Staged>::Scratch,
+>;
+
+/// The work of the lanes of a run: the item types of the four stages, and the type of a file's end.
+///
+/// Each stage makes the next item from its own. All lanes share one value of this type.
+pub trait LaneKind: Sync {
+    /// A record that was read from its file, the item of the first stage.
+    type Framed: Staged<Next = Self::Embedded>;
+
+    /// The item that the second stage makes.
+    type Embedded: Staged<Next = Self::Shaped>;
+
+    /// The item that the third stage makes.
+    type Shaped: Staged<Next = Self::Entry>;
+
+    /// The item that the lane gives in the end.
+    type Entry: Numbered;
+
+    /// What is known of the end of a file besides its mark.
+    type End: Drop + Send;
+
+    // Which records it may be passed: of which file, and at which place there.
+    ghost accepts: { ℕ → ℕ → List ℕ → Type 0 };
+
+    // Which ends it may be passed: of which file, with how many records and which mark.
+    ghost ends: { ℕ → ℕ → Mark → Type 0 };
+
+    /// The first item for the record at place `ordinal` of a file, with this choice of the outer face.
+    fn framed(&self, file: u32, ordinal: u32, rec: Record, choice: Choice) -> Self::Framed
+        requires { accepts file ordinal rec }
+        ensures { Self.Framed.about result ≡ record { file = file; ordinal = ordinal; bytes = rec; choice = choice } };
+
+    /// What is known of this end of a file besides its mark.
+    fn end(&self, file: u32, end: SourceEnd) -> Self::End
+        requires { ends file end.count end.mark };
+
+    /// The scratch of each stage of a lane whose links have room for `capacity` messages. Lists that one stage no
+    /// longer needs may return through it to the stage that fills them.
+    ///
+    /// # Errors
+    ///
+    /// `AllocError` if there is no memory for the channels by which lists return.
+    fn scratch(&self, alloc: Global, capacity: u32) -> Result<ScratchOf<Self>, AllocError>
+        requires { 1 ≤ capacity };
+}
+
+/// A running stage: its lane's number, the scratch that all its records reuse, and the items of its next message.
+#[derive(Drop)]
+pub(crate) struct RunningStage<'g, A: Staged, R, G> {
+    pub(crate) rt: &'g R,
+    pub(crate) alloc: Global,
+    pub(crate) gate: &'g G,
+    pub(crate) lane: u32,
+    pub(crate) scratch: A::Scratch,
+    pub(crate) filling: Filling<A::Next>,
+}
+
+impl<A: Staged, R: Wait, G: Gate> RunningStage<'_, A, R, G> {
+    /// Passes the gate, exchanges lists with other stages, and does the work on one record.
+    pub(crate) fn work_on(&mut self, item: A) -> A::Next
+        ensures told { A.Next.about result ≡ A.about item }
+        ensures same { self.new.filling.items.items ≡ self.old.filling.items.items }
+    {
+        self.gate.pass(self.lane, A::STAGE, item.ordinal());
+        A::exchange(self.rt, &mut self.scratch);
+        item.work(self.alloc, &mut self.scratch)
+    }
+
+    /// Does the work on several records, in order, and gives them.
+    pub(crate) fn pass_on<M: Drop, O: Outlet<A::Next, M>>(
+        &mut self,
+        batch: Batch<A>,
+        to: &mut O,
+    ) -> Result<(), Gone>
+        requires about { O.about ≡ A.Next.about }
+        requires none { self.old.filling.items.items ≡ [] }
+        ensures told { OnOk result (O.told to.new ≡ O.told to.old ++ notes_of_items A.about batch.items.items) }
+        ensures none { OnOk result (self.new.filling.items.items ≡ []) }
+        ensures going { GoOn (O.told to.old) → GoOn (O.told to.new) }
+        ensures stays { O.stays to.old to.new }
+    {
+        let Batch { mut items, home } = batch;
+        for item in items.drain(..) {
+            let next = self.work_on(item);
+            self.filling.add(self.rt, to, next)?;
+        }
+        home.send(self.rt, items);
+        self.filling.give(self.rt, to)
+    }
+}
 
 /// The parameters of a running stage: its lane's number, and the scratch that all its records reuse.
 #[derive(Drop)]

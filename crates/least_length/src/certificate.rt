@@ -1,15 +1,16 @@
 //! The check of a certificate by linear programming duality (Ahuja, Magnanti and Orlin, Network Flows, 1993, section
-//! 9.4): weights of pairs bound all lengths from below.
-
-ghost use Rattle.std.specs.Prelude.{◌≡◌, ◌<◌, ◌≤◌, ◌↔◌, ℕ, length, true, IfOk};
+//! 9.4): weights of pairs bound all lengths from below. Theorems say so, and what shortest coordinates have in common.
+ghost use Rattle.std.specs.Prelude.{◌≡◌, ◌<◌, ◌≤◌, ◌↔◌, ℕ, length, true, IfOk, List};
 ghost use Rattle.least_length.specs.declared.segments.TheConstants.{MAX_WIRES, MAX_SIGHTS};
 ghost use Rattle.least_length.specs.Lengths.{wire_at, coordinates_in, segment_at, total_length, StandsBefore, IsShortest, KeepsOrder};
-ghost use Rattle.least_length.specs.Weights.{sight_at, total_weight, HasEnds, IsCertificate, IsSight};
+ghost use Rattle.least_length.specs.Weights.{sight_at, total_weight, HasEnds, IsCertificate, IsSight, AreWeights};
+ghost use Rattle.least_length.specs.declared.segments.Wire.{Wire};
+ghost use Rattle.least_length.specs.declared.segments.Segment.{Segment};
+ghost use Rattle.least_length.specs.declared.segments.Sight.{Sight};
 
-use crate::balance::Balance;
-use crate::scratch::Scratch;
-use crate::segments::{Segment, Sight, Wire};
-use crate::sweep;
+use crate::least;
+use crate::least::Scratch;
+use crate::segments::{Balance, Segment, Sight, Wire};
 use std::alloc::AllocError;
 
 /// Whether the weighted pairs `sights` certify that the total length of the wires is least with these coordinates.
@@ -55,7 +56,7 @@ pub(crate) fn certify(
     if !have_ends(segments, wires) || !are_sights(segments, sights) {
         return Ok(false);
     }
-    let kept = sweep::is_order_kept(&mut balance.frontier, segments, coordinates)?;
+    let kept = least::is_order_kept(&mut balance.frontier, segments, coordinates)?;
     if !kept {
         return Ok(false);
     }
@@ -178,3 +179,20 @@ pub(crate) fn measure(wires: &[Wire], coordinates: &[u16]) -> u64
     }
     total
 }
+
+/// Weights in balance at each segment bound the total length of the wires from below.
+///
+/// Their sum is at most the total length with any coordinates that keep the order.
+pub fn weights_bound_lengths()
+    ensures { (segments : List Segment) (wires : List Wire) (sights : List Sight) (coordinates : ℕ → ℕ) → AreWeights segments wires sights → KeepsOrder segments coordinates → total_weight sights ≤ total_length wires coordinates }
+{}
+
+/// With shortest coordinates, segments keep their current order on each level.
+pub fn shortest_keep_order()
+    ensures { (segments : List Segment) (wires : List Wire) (coordinates : ℕ → ℕ) → IsShortest segments wires coordinates → KeepsOrder segments coordinates }
+{}
+
+/// With any two shortest coordinates the total length of the wires is the same.
+pub fn shortest_are_equally_long()
+    ensures { (segments : List Segment) (wires : List Wire) (first second : ℕ → ℕ) → IsShortest segments wires first → IsShortest segments wires second → total_length wires first ≡ total_length wires second }
+{}

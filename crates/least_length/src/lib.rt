@@ -7,19 +7,14 @@
 //! coordinates from below (Tamassia 1987, by a flow; strong duality).
 #![tactic(auto)]
 
-mod balance;
 mod certificate;
-mod chains;
-mod laws;
 mod least;
 mod pulling;
-mod scratch;
 mod segments;
 mod sight_lists;
-mod sweep;
 
-pub use certificate::certify_lengths;
-pub use laws::{shortest_are_equally_long, shortest_keep_order, weights_bound_lengths};
-pub use least::{find_shorter, take_shorter};
-pub use scratch::Scratch;
+pub use certificate::{
+    certify_lengths, shortest_are_equally_long, shortest_keep_order, weights_bound_lengths,
+};
+pub use least::{Scratch, find_shorter, take_shorter};
 pub use segments::{MAX_SIGHTS, MAX_WIRES, Segment, Sight, Wire};

@@ -7,8 +7,7 @@ ghost use Rattle.least_length.specs.Lengths.{segment_at, wire_at};
 ghost use Rattle.least_length.specs.Weights.{HasEnds};
 ghost use Rattle.least_length.specs.Searching.{AreMarks, ArePairs, AreSegments, IsPair, IsReady};
 
-use crate::balance::{add_sights, add_wires, are_same};
-use crate::segments::{MAX_SIGHTS, Segment, Sight, Wire};
+use crate::segments::{MAX_SIGHTS, Segment, Sight, Wire, add_sights, add_wires, are_same};
 use crate::sight_lists::SightLists;
 use std::alloc::{AllocError, Global};
 

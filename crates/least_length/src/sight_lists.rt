@@ -6,8 +6,7 @@ ghost use Rattle.least_length.specs.Lengths.{segment_at, wire_at};
 ghost use Rattle.least_length.specs.Weights.{HasEnds};
 ghost use Rattle.least_length.specs.Searching.{seen_at, ArePairs, IsMet};
 
-use crate::chains::Chains;
-use crate::segments::{Segment, Sight, Wire};
+use crate::segments::{Chains, Segment, Sight, Wire};
 use std::alloc::{AllocError, Global};
 
 /// The last segment and wire end met on a level.

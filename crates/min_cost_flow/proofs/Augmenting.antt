@@ -3,26 +3,26 @@ use Rattle.std.proofs.Common.{◌≡◌, ◌≢◌, ◌≤◌, ◌<◌, ℕ, suc
 use Rattle.std.specs.Prelude.{ℤ, pos, negsuc, ◌+ℤ◌, ◌-ℤ◌, ◌≤ℤ◌, ◌<ℤ◌}
 use Rattle.std.proofs.lemmas.Bool.{both_ways, cases_eq, cases_lt, eq-eqb, ne_eqb, cond-true, cond-false}
 use Rattle.std.proofs.lemmas.Int.{ints}
-use Rattle.min_cost_flow.specs.declared.fault.TheConstants.{MAX_SUPPLY}
-use Rattle.min_cost_flow.specs.declared.residual.TheConstants.{SATURATED}
+use Rattle.min_cost_flow.specs.declared.network.TheConstants.{MAX_SUPPLY}
+use Rattle.min_cost_flow.specs.declared.residual_network.TheConstants.{SATURATED}
 use Rattle.common.proofs.Sums.{sum_below-same, sum_below-changed}
-use Rattle.min_cost_flow.specs.declared.arc.Cap.{Cap}
-use Rattle.min_cost_flow.specs.declared.arc.Cap.TheVariants.{AtMost, Any}
-use Rattle.min_cost_flow.specs.declared.residual.ResidualArc.{ResidualArc}
+use Rattle.min_cost_flow.specs.declared.network.Cap.{Cap}
+use Rattle.min_cost_flow.specs.declared.network.Cap.TheVariants.{AtMost, Any}
+use Rattle.min_cost_flow.specs.declared.residual_network.ResidualArc.{ResidualArc}
 use Rattle.min_cost_flow.specs.Networks.{NetworkModel, node_count, arc_count, arc_at, HasUnitCosts, IsNetwork}
 use Rattle.min_cost_flow.specs.Flow.{outflow, inflow, IsWithinCap, IsUnsaturated, IsResidual, HasPotentials, start_of, end_of, unit_cost, reduced_cost}
-use Rattle.min_cost_flow.specs.declared.search_state.Visit.{Visit}
+use Rattle.min_cost_flow.specs.declared.dijkstra.Visit.{Visit}
 use Rattle.min_cost_flow.specs.Search.{predecessor_at, place_at, no_visit}
 use Rattle.std.proofs.lemmas.List.{get_or_read}
 use Rattle.std.specs.Prelude.{length, slice_index_or}
 use Rattle.min_cost_flow.specs.Excess.{IsWithinCaps, Carries}
 use Rattle.min_cost_flow.specs.Residual.{IsMoved}
-use Rattle.min_cost_flow.specs.declared.residual.Residual.{Residual}
+use Rattle.min_cost_flow.specs.declared.residual_network.Residual.{Residual}
 use Rattle.min_cost_flow.specs.ResidualArcs.{start_at, end_at, cost_at, reverse_of, capacity_at, number_of, units_of, AreResidualArcs, carried}
 use Rattle.min_cost_flow.specs.Residuals.{IsResidualNetwork}
 use Rattle.min_cost_flow.specs.Path.{IsTight, HasTightPath, path_node, IsOnPath}
 use Rattle.min_cost_flow.specs.Round.{IsLess, carrying}
-use Rattle.min_cost_flow.specs.declared.state.Solver.{Solver}
+use Rattle.min_cost_flow.specs.declared.solver.Solver.{Solver}
 use Rattle.min_cost_flow.specs.SolverState.{potential_at, predecessors_in, places_in, CanAugment, HasUnitCost, IsPaired, IsPushedAlong}
 use Rattle.min_cost_flow.proofs.Ends.{end_in, unit_cost_most}
 use Rattle.min_cost_flow.proofs.Links.{other_way, reverse_is, reverse_below, reverse_apart, number_parts, number_alone, arc_below, stems_from_arc, linked_same}

@@ -6,8 +6,8 @@ use Rattle.std.proofs.lemmas.Int.{ints}
 use borrow.Author.Differences.{up, down}
 use Rattle.common.specs.Sums.{sum_below, total_below}
 use Rattle.common.proofs.Sums.{sum_below-same, sum_below-changed, sum_below-some, sum_below-member, exchanged, total_below-parts}
-use Rattle.min_cost_flow.specs.declared.arc.Cap.{Cap}
-use Rattle.min_cost_flow.specs.declared.arc.Cap.TheVariants.{AtMost, Any}
+use Rattle.min_cost_flow.specs.declared.network.Cap.{Cap}
+use Rattle.min_cost_flow.specs.declared.network.Cap.TheVariants.{AtMost, Any}
 use Rattle.min_cost_flow.specs.Networks.{NetworkModel, node_count, arc_count, arc_at, supply_at, HasEnds}
 use Rattle.min_cost_flow.specs.Flow.{outflow, inflow, net_outflow, IsWithinCap, Flow}
 use Rattle.min_cost_flow.specs.Excess.{IsWithinCaps, HasExcess, Carries}

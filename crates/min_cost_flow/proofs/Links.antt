@@ -5,8 +5,8 @@ use Rattle.std.specs.Int.Bits.{xor_zero_r}
 use Rattle.std.proofs.lemmas.Nat.{xor_block}
 use Rattle.std.proofs.lemmas.Bool.{cases_eq, eq-eqb, ne_eqb, cond-true, cond-false}
 use Rattle.common.proofs.Sums.{sum_below-none, sum_below-member}
-use Rattle.min_cost_flow.specs.declared.residual.TheConstants.{NONE}
-use Rattle.min_cost_flow.specs.declared.residual.ResidualArc.{ResidualArc}
+use Rattle.min_cost_flow.specs.declared.residual_network.TheConstants.{NONE}
+use Rattle.min_cost_flow.specs.declared.residual_network.ResidualArc.{ResidualArc}
 use Rattle.min_cost_flow.specs.Networks.{NetworkModel, arc_count}
 use Rattle.min_cost_flow.specs.Flow.{start_of, end_of}
 use Rattle.min_cost_flow.specs.ResidualArcs.{numbers, end_at, next_at, start_at, number_of, reverse_of, StartsAt, started, out_degree, IsLatest, IsLinked, AreResidualArcs}

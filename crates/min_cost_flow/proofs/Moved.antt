@@ -3,22 +3,22 @@ use Rattle.std.proofs.Common.{◌≡◌, ◌≢◌, ◌<◌, ◌≤◌, ℕ, ◌
 use Rattle.std.specs.Prelude.{ℤ, pos, negsuc, ◌+ℤ◌, ◌-ℤ◌, ◌≤ℤ◌, ◌<ℤ◌}
 use Rattle.std.proofs.lemmas.Bool.{cases_eq, ne_eqb, eqb-true, cond-false}
 use Rattle.std.proofs.lemmas.Int.{ints}
-use Rattle.min_cost_flow.specs.declared.fault.TheConstants.{MAX_SUPPLY}
+use Rattle.min_cost_flow.specs.declared.network.TheConstants.{MAX_SUPPLY}
 use Rattle.min_cost_flow.specs.declared.network.TheConstants.{MAX_NODES}
-use Rattle.min_cost_flow.specs.declared.resume.TheConstants.{MAX_CARRIED}
+use Rattle.min_cost_flow.specs.declared.warm_start.TheConstants.{MAX_CARRIED}
 use borrow.Author.Differences.{up}
 use Rattle.common.specs.Sums.{sum_below}
 use Rattle.common.proofs.Sums.{sum_below-changed, sum_below-none}
 use Rattle.min_cost_flow.specs.Networks.{NetworkModel, node_count, arc_count, supply_at, moved, shifted, IsInSupplyRange, IsNetwork}
 use Rattle.min_cost_flow.proofs.Moving.{delta, moved_at, length-moved}
 use Rattle.min_cost_flow.specs.Flow.{SolvedModel, Flow, Solves, amounts, at_nodes, cost_of, net_outflow, start_of, end_of, unit_cost, HasPotentials}
-use Rattle.min_cost_flow.specs.declared.residual.ResidualArc.{ResidualArc}
+use Rattle.min_cost_flow.specs.declared.residual_network.ResidualArc.{ResidualArc}
 use Rattle.min_cost_flow.specs.ResidualArcs.{IsLinked}
 use Rattle.min_cost_flow.specs.Round.{remaining_units, IsRound}
 use Rattle.min_cost_flow.specs.Networks.{HasSuppliesInRange}
 use Rattle.min_cost_flow.specs.Residuals.{IsResidualNetwork, flow_of}
 use Rattle.min_cost_flow.proofs.Moving.{still_network}
-use Rattle.min_cost_flow.specs.declared.state.Solver.{Solver}
+use Rattle.min_cost_flow.specs.declared.solver.Solver.{Solver}
 use Rattle.min_cost_flow.specs.SolverState.{IsShown, IsSized, IsReady, IsAllSent, IsReadyIn}
 use Rattle.min_cost_flow.proofs.Ends.{start_in, end_in}
 use Rattle.min_cost_flow.proofs.Duality.{least_by_potentials}

@@ -6,7 +6,7 @@ use Rattle.std.specs.Prelude.{ℤ, pos, ◌+ℤ◌, ◌-ℤ◌, ◌≤ℤ◌}
 use Rattle.std.proofs.lemmas.Bool.{cases_eq, eq-eqb, ne_eqb, cond-true, cond-false}
 use Rattle.std.proofs.lemmas.Int.{ints}
 use Rattle.std.proofs.lemmas.List.{get_or-set_same, get_or-set_other, length-set}
-use Rattle.min_cost_flow.specs.declared.fault.TheConstants.{MAX_SUPPLY}
+use Rattle.min_cost_flow.specs.declared.network.TheConstants.{MAX_SUPPLY}
 use Rattle.min_cost_flow.specs.declared.network.TheConstants.{MAX_NODES}
 use Rattle.min_cost_flow.specs.Networks.{NetworkModel, arc_at, raised, lowered, moved, shifted, HasSuppliesInRange, IsNetwork}
 

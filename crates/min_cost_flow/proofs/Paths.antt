@@ -4,8 +4,8 @@ use Rattle.std.specs.Prelude.{ℤ, pos, negsuc, ◌≤ℤ◌, ◌<ℤ◌}
 use Rattle.std.proofs.lemmas.Bool.{both_ways, ltb-true, lt-ltb}
 use Rattle.std.proofs.lemmas.Int.{ints}
 use borrow.Author.Differences.{up}
-use Rattle.min_cost_flow.specs.declared.arc.Cap.{Cap}
-use Rattle.min_cost_flow.specs.declared.arc.Cap.TheVariants.{AtMost, Any}
+use Rattle.min_cost_flow.specs.declared.network.Cap.{Cap}
+use Rattle.min_cost_flow.specs.declared.network.Cap.TheVariants.{AtMost, Any}
 use Rattle.min_cost_flow.specs.Networks.{NetworkModel, node_count, arc_count, arc_at, HasEnds}
 use Rattle.min_cost_flow.specs.Flow.{IsUnsaturated, IsResidual, start_of, end_of, HasNoFlow}
 use Rattle.min_cost_flow.specs.Excess.{HasExcess, IsClosedOut, IsResidualPath, HasNoAugmentingPath}

@@ -4,8 +4,8 @@ use Rattle.std.specs.Prelude.{ℤ, pos, negsuc, ◌+ℤ◌, ◌-ℤ◌, ◌≤�
 use Rattle.std.proofs.lemmas.Bool.{cases_eq, cases_lt}
 use Rattle.std.proofs.lemmas.Int.{ints}
 use Rattle.min_cost_flow.specs.declared.network.TheConstants.{MAX_NODES}
-use Rattle.min_cost_flow.specs.declared.residual.TheConstants.{SATURATED}
-use Rattle.min_cost_flow.specs.declared.residual.ResidualArc.{ResidualArc}
+use Rattle.min_cost_flow.specs.declared.residual_network.TheConstants.{SATURATED}
+use Rattle.min_cost_flow.specs.declared.residual_network.ResidualArc.{ResidualArc}
 use Rattle.min_cost_flow.proofs.Distinct.{AreDistinct, counted_once, room_for}
 use Rattle.min_cost_flow.specs.ResidualArcs.{start_at, end_at, cost_at, started, out_degree, StartsAt}
 use Rattle.min_cost_flow.specs.Search.{far, IsGraph, AreFeasiblePotentials, IsNear, HasPredecessor, IsReached, IsNearest, IsFeasibleAt, AreFeasible, IsRemaining, AreLowered, IsCandidate, IsPut, IsSwapped, IsWithinFar, looked}

@@ -6,11 +6,11 @@ use Rattle.std.proofs.lemmas.Bool.{cases_eq, cases_lt}
 use Rattle.std.specs.Borrow.{MutBor}
 use mir.Syntax.{w16, w32}
 use mir.Val.{of_z, to_z}
-use Rattle.min_cost_flow.specs.declared.search_state.SearchInput.{SearchInput}
-use Rattle.min_cost_flow.specs.declared.search_state.Search.{Search}
-use Rattle.min_cost_flow.specs.declared.search_state.Candidate.{Candidate}
-use Rattle.min_cost_flow.specs.declared.search_state.Visit.{Visit}
-use Rattle.min_cost_flow.specs.declared.residual.TheConstants.{NONE}
+use Rattle.min_cost_flow.specs.declared.dijkstra.SearchInput.{SearchInput}
+use Rattle.min_cost_flow.specs.declared.dijkstra.Search.{Search}
+use Rattle.min_cost_flow.specs.declared.dijkstra.Candidate.{Candidate}
+use Rattle.min_cost_flow.specs.declared.dijkstra.Visit.{Visit}
+use Rattle.min_cost_flow.specs.declared.residual_network.TheConstants.{NONE}
 use Rattle.min_cost_flow.specs.ResidualArcs.{start_at, end_at, cost_at, next_at, started, out_degree, StartsAt, IsLatest}
 use Rattle.min_cost_flow.specs.Search.{far, nodes_of, arcs_of, IsScanning, potential_of, excess_of, labels, orders, places, Reaches, HasLowered, IsSearch, HasCandidate, IsLabelled, IsRelaxed, AreLowered, IsSwapped, IsReordered, HasFeasibleLabels, IsSearchInput, IsFeasibleAt, AreFeasible, looked, SameBesideBound, SameBesideOrder, IsWithinFar}
 use Rattle.min_cost_flow.proofs.Links.{started_most, latest_counts, latest_none}

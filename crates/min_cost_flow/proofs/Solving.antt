@@ -7,21 +7,21 @@ use Rattle.std.proofs.lemmas.Int.{ints, to_z-of_z}
 use mir.Syntax.{w16, w32}
 use mir.Val.{of_z, to_z}
 use Rattle.min_cost_flow.specs.declared.network.TheConstants.{MAX_NODES}
-use Rattle.min_cost_flow.specs.declared.residual.TheConstants.{SATURATED}
+use Rattle.min_cost_flow.specs.declared.residual_network.TheConstants.{SATURATED}
 use lib.Signed.{lt_z}
 use Rattle.common.specs.Sums.{sum_below}
 use Rattle.common.proofs.Sums.{sum_below-le, sum_below-constant}
-use Rattle.min_cost_flow.specs.declared.arc.Cap.{Cap}
-use Rattle.min_cost_flow.specs.declared.arc.Cap.TheVariants.{AtMost, Any}
-use Rattle.min_cost_flow.specs.declared.residual.ResidualArc.{ResidualArc}
+use Rattle.min_cost_flow.specs.declared.network.Cap.{Cap}
+use Rattle.min_cost_flow.specs.declared.network.Cap.TheVariants.{AtMost, Any}
+use Rattle.min_cost_flow.specs.declared.residual_network.ResidualArc.{ResidualArc}
 use Rattle.min_cost_flow.specs.Networks.{NetworkModel, node_count, arc_count, arc_at, HasUnitCosts, IsNetwork}
 use Rattle.min_cost_flow.specs.Flow.{IsUnsaturated, IsResidual, HasPotentials, start_of, end_of, unit_cost, reduced_cost}
-use Rattle.min_cost_flow.specs.declared.resume.TheConstants.{MAX_CARRIED}
+use Rattle.min_cost_flow.specs.declared.warm_start.TheConstants.{MAX_CARRIED}
 use Rattle.min_cost_flow.specs.Round.{IsRound}
-use Rattle.min_cost_flow.specs.declared.residual.Residual.{Residual}
+use Rattle.min_cost_flow.specs.declared.residual_network.Residual.{Residual}
 use Rattle.min_cost_flow.specs.Flow.{at_nodes}
-use Rattle.min_cost_flow.specs.declared.search_state.Search.{Search}
-use Rattle.min_cost_flow.specs.declared.search_state.Visit.{Visit}
+use Rattle.min_cost_flow.specs.declared.dijkstra.Search.{Search}
+use Rattle.min_cost_flow.specs.declared.dijkstra.Visit.{Visit}
 use Rattle.min_cost_flow.specs.SolverState.{IsReadyIn, CanAugmentIn, IsCleared}
 use Rattle.min_cost_flow.specs.ResidualArcs.{start_at, end_at, cost_at, reverse_of, capacity_at, StartsAt, out_degree, number_of, units_of, AreResidualArcs, carried}
 use Rattle.min_cost_flow.specs.Search.{far, IsArcCost, HasResidualCapacity, IsGraph, AreFeasiblePotentials, IsNear, IsReached, IsHit, IsNearest, AreFeasible, IsRemaining, IsPut, IsWithinFar, looked, place_at, labels, predecessors, orders, places}

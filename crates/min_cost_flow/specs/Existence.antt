@@ -2,7 +2,7 @@
 -- carry any number of units.
 use Rattle.std.specs.Prelude.{ℕ, ◌<◌, ◌≡◌, ℤ, pos, ◌<ℤ◌, Bool, true}
 use Rattle.common.specs.Sums.{total_below}
-use Rattle.min_cost_flow.specs.declared.arc.Cap.TheVariants.{Any}
+use Rattle.min_cost_flow.specs.declared.network.Cap.TheVariants.{Any}
 use Rattle.min_cost_flow.specs.Networks.{NetworkModel, node_count, arc_count, arc_at, supply_at}
 
 -- no unlimited arc leads out of the set

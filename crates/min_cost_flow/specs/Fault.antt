@@ -1,10 +1,10 @@
 -- What a list of supplies and a list of arcs can be refused for.
 use Rattle.std.specs.Prelude.{ℕ, ◌<◌, ◌≤◌, pos, ◌-ℤ◌, ◌<ℤ◌, ◌⊎◌}
 use Rattle.min_cost_flow.specs.declared.network.TheConstants.{MAX_ARCS, MAX_NODES}
-use Rattle.min_cost_flow.specs.declared.fault.TheConstants.{MAX_SUPPLY}
+use Rattle.min_cost_flow.specs.declared.network.TheConstants.{MAX_SUPPLY}
 use Rattle.min_cost_flow.specs.Networks.{NetworkModel, node_count, arc_count, arc_at, supply_at, IsSmall, HasEnds, HasSuppliesInRange}
-use Rattle.min_cost_flow.specs.declared.fault.NetFault.{NetFault}
-use Rattle.min_cost_flow.specs.declared.fault.NetFault.TheVariants.{TooLarge, BadEnd, BadSupply, BadCost}
+use Rattle.min_cost_flow.specs.declared.network.NetFault.{NetFault}
+use Rattle.min_cost_flow.specs.declared.network.NetFault.TheVariants.{TooLarge, BadEnd, BadSupply, BadCost}
 
 -- the fault is there
 abbrev pub HasFault : NetworkModel → NetFault → Type 0

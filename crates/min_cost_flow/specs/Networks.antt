@@ -1,9 +1,9 @@
 -- What a network is: nodes with supplies, arcs with capacities and costs.
 use Rattle.std.specs.Prelude.{ℕ, ◌<◌, ◌≤◌, ℤ, pos, ◌+ℤ◌, ◌-ℤ◌, ◌≤ℤ◌, List, length, slice_index_or, slice_set}
 use Rattle.min_cost_flow.specs.declared.network.TheConstants.{MAX_ARCS, MAX_NODES}
-use Rattle.min_cost_flow.specs.declared.fault.TheConstants.{MAX_SUPPLY}
-use Rattle.min_cost_flow.specs.declared.arc.Arc.{Arc}
-use Rattle.min_cost_flow.specs.declared.arc.Cap.TheVariants.{AtMost}
+use Rattle.min_cost_flow.specs.declared.network.TheConstants.{MAX_SUPPLY}
+use Rattle.min_cost_flow.specs.declared.network.Arc.{Arc}
+use Rattle.min_cost_flow.specs.declared.network.Cap.TheVariants.{AtMost}
 
 -- what callers see of a `Network`: a supply for each node, and the arcs; nodes and arcs are numbered from 0
 pub record NetworkModel : Type 0 where

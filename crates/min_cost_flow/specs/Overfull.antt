@@ -1,8 +1,8 @@
 -- Sets of nodes that supply more than the arcs out of them can carry (Gale 1957): what shows that there is no flow.
 use Rattle.std.specs.Prelude.{ℕ, ◌<◌, ◌≡◌, ◌≢◌, ℤ, pos, ◌<ℤ◌, Bool, true, false, not, ◌&&◌, if◌then◌else◌, int_lt, List, length, slice_index_or}
 use Rattle.common.specs.Sums.{sum_below, total_below}
-use Rattle.min_cost_flow.specs.declared.arc.Cap.TheVariants.{Any}
-use Rattle.min_cost_flow.specs.declared.search_state.Visit.{Visit}
+use Rattle.min_cost_flow.specs.declared.network.Cap.TheVariants.{Any}
+use Rattle.min_cost_flow.specs.declared.dijkstra.Visit.{Visit}
 use Rattle.min_cost_flow.specs.Networks.{NetworkModel, node_count, arc_count, arc_at, supply_at}
 use Rattle.min_cost_flow.specs.ResidualArcs.{units_of}
 use Rattle.min_cost_flow.specs.Search.{far, label_at}

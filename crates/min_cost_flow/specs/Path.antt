@@ -1,7 +1,7 @@
 -- A path of unsaturated residual arcs of reduced cost 0, from a node with an excess to one with
 -- a deficit.
 use Rattle.std.specs.Prelude.{ℕ, zero, suc, ◌<◌, ◌≡◌, ℤ, pos, ◌+ℤ◌, ◌-ℤ◌, Bool, true, false, List}
-use Rattle.min_cost_flow.specs.declared.residual.ResidualArc.{ResidualArc}
+use Rattle.min_cost_flow.specs.declared.residual_network.ResidualArc.{ResidualArc}
 use Rattle.min_cost_flow.specs.ResidualArcs.{start_at, end_at, cost_at, capacity_at, StartsAt}
 use Rattle.min_cost_flow.specs.Search.{HasResidualCapacity}
 

@@ -2,10 +2,10 @@
 -- that start at a node.
 use Rattle.std.specs.Prelude.{ℕ, ◌+◌, ◌-◌, ◌<◌, ◌≤◌, ◌*◌, ◌%◌, ◌^◌, ◌==◌, ◌≡◌, ◌≢◌, ℤ, pos, ◌+ℤ◌, Bool, true, false, if◌then◌else◌, List, length, slice_index, slice_index_or}
 use Rattle.common.specs.Sums.{sum_below}
-use Rattle.min_cost_flow.specs.declared.residual.TheConstants.{NONE, SATURATED}
-use Rattle.min_cost_flow.specs.declared.arc.Cap.{Cap}
-use Rattle.min_cost_flow.specs.declared.arc.Cap.TheVariants.{AtMost, Any}
-use Rattle.min_cost_flow.specs.declared.residual.ResidualArc.{ResidualArc}
+use Rattle.min_cost_flow.specs.declared.residual_network.TheConstants.{NONE, SATURATED}
+use Rattle.min_cost_flow.specs.declared.network.Cap.{Cap}
+use Rattle.min_cost_flow.specs.declared.network.Cap.TheVariants.{AtMost, Any}
+use Rattle.min_cost_flow.specs.declared.residual_network.ResidualArc.{ResidualArc}
 use Rattle.min_cost_flow.specs.Networks.{NetworkModel, arc_count, arc_at}
 use Rattle.min_cost_flow.specs.Flow.{end_of, unit_cost}
 

@@ -1,6 +1,6 @@
 -- The residual arcs of a network under a flow, as the struct `Residual` keeps them.
 use Rattle.std.specs.Prelude.{ℕ, ℤ, ◌+◌, ◌<◌, ◌≡◌, ◌≢◌, ◌^◌, length}
-use Rattle.min_cost_flow.specs.declared.residual.Residual.{Residual}
+use Rattle.min_cost_flow.specs.declared.residual_network.Residual.{Residual}
 use Rattle.min_cost_flow.specs.Networks.{NetworkModel, node_count, arc_count, arc_at}
 use Rattle.min_cost_flow.specs.ResidualArcs.{end_at, cost_at, next_at, capacity_at, IsLinked, IsCosted, AreResidualArcs, carried, units_of}
 

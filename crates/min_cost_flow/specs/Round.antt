@@ -3,7 +3,7 @@ use Rattle.std.specs.Prelude.{ℕ, ◌+◌, ◌*◌, ◌<◌, ◌≤◌, ◌≡�
 use borrow.Author.Differences.{up}
 use Rattle.common.specs.Sums.{sum_below}
 use Rattle.min_cost_flow.specs.Networks.{NetworkModel, node_count, arc_count, supply_at, IsInSupplyRange}
-use Rattle.min_cost_flow.specs.declared.resume.TheConstants.{MAX_CARRIED}
+use Rattle.min_cost_flow.specs.declared.warm_start.TheConstants.{MAX_CARRIED}
 use Rattle.min_cost_flow.specs.Flow.{Flow, HasPotentials}
 use Rattle.min_cost_flow.specs.Excess.{IsWithinCaps, HasExcess}
 

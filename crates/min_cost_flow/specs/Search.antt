@@ -2,14 +2,14 @@
 -- distance, and what holds of them.
 use Rattle.std.specs.Prelude.{ℕ, ◌+◌, ◌*◌, ◌<◌, ◌≤◌, ◌≡◌, ◌≢◌, ℤ, pos, negsuc, ◌+ℤ◌, ◌-ℤ◌, ◌≤ℤ◌, ◌<ℤ◌, ◌⊎◌, List, length, slice_index_or}
 use Rattle.min_cost_flow.specs.declared.network.TheConstants.{MAX_NODES}
-use Rattle.min_cost_flow.specs.declared.residual.TheConstants.{MAX_RESIDUAL_ARCS, SATURATED}
-use Rattle.min_cost_flow.specs.declared.search_state.TheConstants.{FAR}
+use Rattle.min_cost_flow.specs.declared.residual_network.TheConstants.{MAX_RESIDUAL_ARCS, SATURATED}
+use Rattle.min_cost_flow.specs.declared.dijkstra.TheConstants.{FAR}
 use Rattle.common.specs.Sums.{sum_below}
-use Rattle.min_cost_flow.specs.declared.residual.ResidualArc.{ResidualArc}
-use Rattle.min_cost_flow.specs.declared.search_state.SearchInput.{SearchInput}
-use Rattle.min_cost_flow.specs.declared.search_state.Search.{Search}
-use Rattle.min_cost_flow.specs.declared.search_state.Candidate.{Candidate}
-use Rattle.min_cost_flow.specs.declared.search_state.Visit.{Visit}
+use Rattle.min_cost_flow.specs.declared.residual_network.ResidualArc.{ResidualArc}
+use Rattle.min_cost_flow.specs.declared.dijkstra.SearchInput.{SearchInput}
+use Rattle.min_cost_flow.specs.declared.dijkstra.Search.{Search}
+use Rattle.min_cost_flow.specs.declared.dijkstra.Candidate.{Candidate}
+use Rattle.min_cost_flow.specs.declared.dijkstra.Visit.{Visit}
 use Rattle.min_cost_flow.specs.Flow.{at_nodes}
 use Rattle.min_cost_flow.specs.ResidualArcs.{start_at, end_at, cost_at, out_degree, StartsAt, IsLinked}
 

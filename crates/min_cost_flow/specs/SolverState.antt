@@ -1,15 +1,15 @@
 -- What holds of the solver from one step to the next, and of a flow that stands while supplies move.
 use Rattle.std.specs.Prelude.{ℕ, ◌+◌, ◌^◌, ◌<◌, ◌≤◌, ◌≡◌, ◌≢◌, ℤ, pos, negsuc, ◌+ℤ◌, ◌≤ℤ◌, ◌<ℤ◌, Bool, true, false, List, length}
 use Rattle.min_cost_flow.specs.declared.network.TheConstants.{MAX_NODES}
-use Rattle.min_cost_flow.specs.declared.residual.Residual.{Residual}
+use Rattle.min_cost_flow.specs.declared.residual_network.Residual.{Residual}
 use Rattle.min_cost_flow.specs.Networks.{NetworkModel, node_count, IsNetwork}
 use Rattle.min_cost_flow.specs.Flow.{Flow, HasPotentials, IsLeastCost, HasNoFlow, at_nodes, cost_of}
 use Rattle.min_cost_flow.specs.ResidualArcs.{start_at, end_at, next_at, reverse_of, capacity_at, IsCosted}
 use Rattle.min_cost_flow.specs.Residuals.{HasSizes, IsResidualNetwork, flow_of}
-use Rattle.min_cost_flow.specs.declared.search_state.Search.{Search}
-use Rattle.min_cost_flow.specs.declared.search_state.Visit.{Visit}
+use Rattle.min_cost_flow.specs.declared.dijkstra.Search.{Search}
+use Rattle.min_cost_flow.specs.declared.dijkstra.Visit.{Visit}
 use Rattle.min_cost_flow.specs.Search.{far, label_at, predecessor_at, place_at, labels, predecessors, orders, places, IsWithinFar}
-use Rattle.min_cost_flow.specs.declared.state.Solver.{Solver}
+use Rattle.min_cost_flow.specs.declared.solver.Solver.{Solver}
 use Rattle.min_cost_flow.specs.Path.{HasTightPath, IsOnPath, previous_of, capacity_into}
 use Rattle.min_cost_flow.specs.Round.{IsRound, IsLess, IsWork, carrying}
 

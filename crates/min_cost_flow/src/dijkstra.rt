@@ -1,15 +1,211 @@
-//! The search for the nearest node with a deficit: Dijkstra's algorithm (1959) by reduced costs, which are
-//! at least 0 (Ahuja, Magnanti and Orlin, Network Flows, 1993, section 9.7), from one root, by growing distance.
-//!
-//! Networks have at most 2,402 nodes and 19,200 residual arcs of cost -1 to 1, so distances are small integers.
-//! Each residual arc is looked at once at most. Beside that the nodes that wait are gone over for each radius.
-ghost use Rattle.std.specs.Prelude.{◌≡◌, ◌⊎◌, ◌<◌, ◌≤◌, ◌+◌, ◌^◌, ℕ, length, pos, ◌≤ℤ◌, ◌<ℤ◌, ◌+ℤ◌, ◌-ℤ◌, true, false};
+//! The search for the nearest node with a deficit: Dijkstra's algorithm (1959) by reduced costs, which are at least 0
+//! (Ahuja, Magnanti and Orlin, Network Flows, 1993, section 9.7), from one root, by growing distance. In the place of
+//! its queue is a list of nodes in order of their distance. Networks have at most 2,402 nodes and 19,200 residual arcs
+//! of cost -1 to 1, so distances are small integers, within `FAR` of 0. Each residual arc is looked at once at most;
+//! beside that the nodes that wait are gone over for each radius.
+ghost use Rattle.std.specs.Prelude.{◌≡◌, ◌⊎◌, ◌<◌, ◌+◌, length, pos, ◌≤ℤ◌, ◌<ℤ◌, ◌-ℤ◌, ◌≤◌, ◌^◌, ℕ, ◌+ℤ◌, true, false};
+ghost use Rattle.min_cost_flow.specs.Search.{far, potential_of, excess_of, labels, predecessors, orders, places, HasEnd, CanAdvance, CanPut, HasCandidate, IsRelaxed, IsLabelled, SameBesideBound, SameBesideOrder, SameOrder, SameProgress, IsPut, IsSwapped, IsWithinFar, nodes_of, arcs_of, looked, IsSearchInput, IsSearch, IsUnlabelled, HasLowered, HasFeasibleLabels, HasRemaining, IsFeasibleAt, IsNextRadius, IsReordered, IsWaiting, IsScanning, IsArcCost, HasSameList};
 ghost use Rattle.min_cost_flow.specs.ResidualArcs.{end_at, cost_at, next_at, out_degree, StartsAt};
-ghost use Rattle.min_cost_flow.specs.Search.{far, nodes_of, arcs_of, potential_of, excess_of, labels, orders, looked, IsSearchInput, IsSearch, IsUnlabelled, HasLowered, HasFeasibleLabels, HasRemaining, IsFeasibleAt, IsNextRadius, IsReordered, IsWaiting, IsScanning, IsRelaxed, IsWithinFar, IsArcCost, HasSameList};
 
-use crate::reach::distance;
-use crate::residual::{NONE, ResidualArc};
-use crate::search_state::{Candidate, FAR, Search, SearchInput, Visit};
+use crate::network::MAX_NODES;
+use crate::residual_network::{NONE, ResidualArc};
+
+/// The label of a node that was not reached. It exceeds each label and each distance: labels are at most 3 * MAX_NODES,
+/// potentials at least -2 * MAX_NODES, and costs at most 1.
+pub const FAR: i16 = 5 * MAX_NODES as i16 + 2;
+
+/// The input of a search: residual arcs, the state of each node, and the node where the search begins.
+#[derive(Clone, Copy)]
+pub struct SearchInput<'a> {
+    /// The first residual arc that starts at each node, or `NONE`.
+    pub first: &'a [u32],
+    pub arcs: &'a [ResidualArc],
+    /// Under these no unsaturated residual arc has a reduced cost below 0, and at a deficit they are 0.
+    pub potential: &'a [i32],
+    /// How many units a node still has to send; below 0, its deficit.
+    pub excess: &'a [i32],
+    /// Of nodes that are found at the same distance the one with the least score is taken.
+    pub score: &'a [i32],
+    pub root: usize,
+}
+
+/// An entry of the table of a search: entry i has the state of node i, and the i-th node in the order of reached nodes.
+///
+/// That order begins with those that were scanned, then come those at the radius, then those further off.
+#[derive(Clone, Copy)]
+pub struct Visit {
+    /// The root's potential and the costs of the residual arcs on the way to the node, or `FAR`.
+    pub label: i16,
+    /// The residual arc by which the node was reached.
+    pub predecessor: u16,
+    /// The place of the node in the order.
+    pub place: u16,
+    /// The node at this place of the order.
+    pub at_place: u16,
+}
+
+/// The results of a search so far.
+#[derive(Drop)]
+pub struct Search<'a> {
+    /// One for each node.
+    pub visits: &'a mut [Visit],
+    /// How many nodes were scanned: the first ones of the order.
+    pub scanned: usize,
+    /// The number of nodes at the beginning of the order that are sorted by their distance, with the scanned ones.
+    pub ordered: usize,
+    /// The number of nodes that were reached: all in the order.
+    pub reached: usize,
+    /// The distance of the nodes that are scanned now.
+    pub radius: i32,
+    /// The distance of the nearest node found with a deficit, or `FAR` if none was found.
+    pub bound: i32,
+    /// The residual arc that leads to that node.
+    pub found: usize,
+}
+
+/// A residual arc that was looked at, and the label that it offers to its end.
+#[derive(Clone, Copy, Debug, PartialEq, Eq)]
+pub(crate) struct Candidate {
+    pub number: usize,
+    pub end: usize,
+    pub label: i16,
+}
+
+impl Search<'_> {
+    /// Takes up the candidate of a residual arc for its end: where that has a deficit, it may be the nearest such
+    /// node now, and else it gets the label if that is nearer than the bound.
+    pub(crate) fn reach(&mut self, input: SearchInput<'_>, step: Candidate)
+        requires candidate { HasCandidate input self.old step }
+        ensures relaxed { IsRelaxed input.entry self.old self.new }
+        ensures served { (step.label -ℤ potential_of input.entry step.end) <ℤ self.new.bound → labels self.new step.end ≤ℤ step.label }
+    {
+        let away = distance(step.label, input.potential[step.end]);
+        if input.excess[step.end] < 0 {
+            self.candidate(input, step, away);
+        } else if away < self.bound {
+            self.label_node(input, step);
+        }
+    }
+
+    /// Gives a node without a deficit a label, and puts it after those that are ordered if it is at
+    /// the radius.
+    fn label_node(&mut self, input: SearchInput<'_>, step: Candidate)
+        requires candidate { HasCandidate input self.old step }
+        requires nonnegative { pos 0 ≤ℤ excess_of input step.end }
+        ensures relaxed { IsRelaxed input.entry self.old self.new }
+        ensures label { labels self.new step.end ≡ step.label }
+    {
+        self.set_label(step);
+        if distance(step.label, input.potential[step.end]) == self.radius {
+            self.advance(step.end);
+        }
+    }
+
+    /// Takes a node with a deficit for the nearest one, if it is, or if it is as near and has a
+    /// lesser score.
+    fn candidate(&mut self, input: SearchInput<'_>, step: Candidate, distance: i32)
+        ensures same { SameBesideBound self.old self.new }
+        ensures bound { self.new.bound ≤ℤ self.old.bound }
+        ensures least { self.new.bound ≤ℤ distance }
+        ensures either { ((self.new.bound ≡ self.old.bound) × (self.new.found ≡ self.old.found)) ⊎ ((self.new.bound ≡ distance) × (self.new.found ≡ step.number)) }
+    {
+        if distance < self.bound {
+            self.bound = distance;
+            self.found = step.number;
+        } else if distance == self.bound && score_of(input, step.end) < self.found_score(input) {
+            self.found = step.number;
+        }
+    }
+
+    /// The score of the nearest node found.
+    fn found_score(&self, input: SearchInput<'_>) -> i32 {
+        match input.arcs.get(self.found) {
+            Some(arc) => score_of(input, arc.end as usize),
+            None => 0,
+        }
+    }
+
+    /// Gives a node a label, and a place after all that were reached if it has none.
+    fn set_label(&mut self, step: Candidate)
+        requires end { HasEnd self.old step }
+        requires room { far ≤ℤ labels self.old step.end → self.old.reached < length self.old.visits.now }
+        ensures has_label { IsLabelled self.old self.new step }
+    {
+        if self.visits[step.end].label < FAR {
+            self.relabel(step);
+        } else {
+            self.enlist(step);
+        }
+    }
+
+    /// Gives a node that was not reached before a label, and a place after all others.
+    fn enlist(&mut self, step: Candidate)
+        requires end { HasEnd self.old step }
+        requires room { self.old.reached < length self.old.visits.now }
+        ensures label { IsPut (labels self.old) (labels self.new) step.end step.label }
+        ensures predecessor { IsPut (predecessors self.old) (predecessors self.new) step.end step.number }
+        ensures order { IsPut (orders self.old) (orders self.new) self.old.reached step.end }
+        ensures place { IsPut (places self.old) (places self.new) step.end self.old.reached }
+        ensures same { SameProgress self.old self.new }
+        ensures reached { self.new.reached ≡ self.old.reached + 1 }
+    {
+        self.put(self.reached, step.end);
+        self.reached += 1;
+        self.relabel(step);
+    }
+
+    /// Writes the label of a node, and the residual arc by which it was reached.
+    pub(crate) fn relabel(&mut self, step: Candidate)
+        requires { HasEnd self.old step }
+        ensures label { IsPut (labels self.old) (labels self.new) step.end step.label }
+        ensures predecessor { IsPut (predecessors self.old) (predecessors self.new) step.end step.number }
+        ensures order { SameOrder self.old self.new }
+    {
+        let visit = &mut self.visits[step.end];
+        visit.label = step.label;
+        visit.predecessor = step.number as u16;
+    }
+
+    /// Puts a node after those that are ordered, in exchange for the node that is there.
+    pub(crate) fn advance(&mut self, node: usize)
+        requires { CanAdvance self.old node }
+        ensures swapped { IsSwapped (orders self.old) (places self.old) (orders self.new) (places self.new) node (places self.old node) self.old.ordered }
+        ensures same { SameBesideOrder self.old self.new }
+        ensures ordered { self.new.ordered ≡ self.old.ordered + 1 }
+    {
+        let from = self.visits[node].place as usize;
+        let other = self.visits[self.ordered].at_place as usize;
+        self.put(from, other);
+        self.put(self.ordered, node);
+        self.ordered += 1;
+    }
+
+    /// Puts a node at a place of the order.
+    pub(crate) fn put(&mut self, place: usize, node: usize)
+        requires { CanPut self.old place node }
+        ensures order { IsPut (orders self.old) (orders self.new) place node }
+        ensures place { IsPut (places self.old) (places self.new) node place }
+        ensures same { SameBesideOrder self.old self.new }
+        ensures ordered { self.new.ordered ≡ self.old.ordered }
+    {
+        self.visits[place].at_place = node as u16;
+        self.visits[node].place = place as u16;
+    }
+}
+
+/// The score of a node.
+fn score_of(input: SearchInput<'_>, node: usize) -> i32 {
+    input.score.get(node).copied().unwrap_or(0)
+}
+
+/// How far a node is from the root by reduced costs.
+pub(crate) fn distance(label: i16, potential: i32) -> i32
+    requires label { IsWithinFar label }
+    requires potential { IsWithinFar potential }
+    ensures { result ≡ label -ℤ potential }
+{
+    i32::from(label) - potential
+}
 
 impl<'a> Search<'a> {
     /// Searches from the root for the nearest node with a deficit, and labels the nodes that it reaches.

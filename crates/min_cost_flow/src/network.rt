@@ -1,15 +1,92 @@
-//! Flow networks (Ahuja, Magnanti and Orlin, Network Flows, 1993, section 1.2): nodes with supplies, and arcs with
-//! capacities and costs.
-ghost use Rattle.std.specs.Prelude.{◌≡◌, ◌<◌, ◌≤◌, IfOk, IfErr};
-ghost use Rattle.min_cost_flow.specs.declared.fault.TheConstants.{MAX_SUPPLY};
-ghost use Rattle.min_cost_flow.specs.Networks.{NetworkModel, net_of, node_count, arc_count, arc_at, supply_at, shifted, HasSuppliesInRange, IsNetwork};
+//! Flow networks (Ahuja, Magnanti and Orlin, Network Flows, 1993, section 1.2): nodes with supplies, which are moved
+//! from one node to another, and arcs with capacities and costs. Also why supplies and arcs make no flow network.
+ghost use Rattle.std.specs.Prelude.{◌≡◌, ◌<◌, ◌≤◌, ℕ, pos, ◌-ℤ◌, ◌≤ℤ◌, length, slice_index_or, [], true, false, IfOk, IfErr};
+ghost use Rattle.min_cost_flow.specs.declared.network.TheConstants.{MAX_SUPPLY};
+ghost use Rattle.min_cost_flow.specs.Networks.{moved, net_of, HasEnds, HasSuppliesInRange, HasUnitCosts, NetworkModel, node_count, arc_count, arc_at, supply_at, shifted, IsNetwork};
+ghost use Rattle.min_cost_flow.specs.Fault.{HasFault};
 
-use crate::arc::Arc;
-use crate::fault::{NetFault, has_bad_cost, has_bad_end, has_bad_supply};
-use crate::units::move_units;
 use common::MAX_VERTICES;
 use std::alloc::{AllocError, Global};
 use std::marker::Model;
+use thiserror::Error;
+
+/// The capacity of an arc.
+#[derive(Clone, Copy, Debug, PartialEq, Eq)]
+pub enum Cap {
+    /// At most this many units.
+    AtMost(u32),
+    /// Any number of units.
+    Any,
+}
+
+/// An arc from one node to another, by their numbers. Each unit that it carries costs `cost`.
+#[derive(Clone, Copy, Debug, PartialEq, Eq)]
+pub struct Arc {
+    pub from: u32,
+    pub to: u32,
+    pub cap: Cap,
+    pub cost: u32,
+}
+
+/// Adds `amount` units to the entry of node `from`, and subtracts them from that of node `to`. It allocates nothing.
+pub fn move_units(units: &mut [i32], from: u32, to: u32, amount: u32)
+    requires from { from < length units.old }
+    requires to { to < length units.old }
+    requires few { amount ≤ MAX_SUPPLY }
+    requires low { (v : ℕ) → v < length units.old → (pos 0 -ℤ pos MAX_SUPPLY) ≤ℤ slice_index_or units.old v (pos 0) }
+    requires high { (v : ℕ) → v < length units.old → slice_index_or units.old v (pos 0) ≤ℤ pos MAX_SUPPLY }
+    ensures { units.new ≡ moved units.old from to amount }
+{
+    units[from as usize] += amount as i32;
+    units[to as usize] -= amount as i32;
+}
+
+/// The maximum number of units that a node supplies or demands.
+pub const MAX_SUPPLY: u32 = 10 * MAX_VERTICES as u32 + 8;
+
+/// The reason why the given supplies and arcs are not a network.
+#[derive(Clone, Copy, Debug, PartialEq, Eq, Error)]
+pub enum NetFault {
+    /// There are more than 2,402 supplies or 9,600 arcs.
+    #[error("more than 2402 nodes or 9600 arcs")]
+    TooLarge,
+    /// An endpoint of an arc is out of range: no node has its number.
+    #[error("arc endpoint out of range")]
+    BadEnd,
+    /// A supply is above 12,008 in absolute value.
+    #[error("a supply is above 12008 in absolute value")]
+    BadSupply,
+    /// An arc costs neither 0 nor 1.
+    #[error("the cost of an arc is neither 0 nor 1")]
+    BadCost,
+}
+
+/// Whether an endpoint of an arc is out of range, where each supply is that of a node.
+pub(crate) fn has_bad_end(supplies: &[i32], arcs: &[Arc]) -> bool
+    ensures some { result ≡ true → HasFault (net_of supplies.now arcs.now) NetFault.BadEnd }
+    ensures none { result ≡ false → HasEnds (net_of supplies.now arcs.now) }
+{
+    let nodes = supplies.len();
+    arcs.iter().any(|arc| arc.from as usize >= nodes || arc.to as usize >= nodes)
+}
+
+/// Whether a supply is too large in absolute value.
+pub(crate) fn has_bad_supply(supplies: &[i32]) -> bool
+    ensures some { result ≡ true → HasFault (net_of supplies.now []) NetFault.BadSupply }
+    ensures none { result ≡ false → HasSuppliesInRange (net_of supplies.now []) }
+{
+    supplies
+        .iter()
+        .any(|units| units.unsigned_abs() > MAX_SUPPLY)
+}
+
+/// Whether an arc costs neither 0 nor 1.
+pub(crate) fn has_bad_cost(arcs: &[Arc]) -> bool
+    ensures some { result ≡ true → HasFault (net_of [] arcs.now) NetFault.BadCost }
+    ensures none { result ≡ false → HasUnitCosts (net_of [] arcs.now) }
+{
+    arcs.iter().any(|arc| arc.cost > 1)
+}
 
 /// The maximum number of nodes of a network.
 pub const MAX_NODES: usize = 2 * MAX_VERTICES + 2;

@@ -1,13 +1,10 @@
-//! Successive shortest paths (Ahuja, Magnanti and Orlin, Network Flows, 1993, section 9.7): initialise, and then, as
-//! long as a node has an excess, search for a shortest path by reduced costs, update the potentials, and augment along
-//! the path.
-//!
-//! Networks have at most 2,402 nodes and 9,600 arcs of cost 0 or 1, and nodes supply or want at most 12,008 units. Each
-//! search looks at each residual arc once at most and sends at least one unit, so the number of searches is at most the
-//! number of units supplied. A search also goes over the nodes that wait, for each distance. It sends as many units as
-//! fit along the path, but no more than the excess where it starts or the deficit where it ends. Potentials stay then:
-//! along the path reduced costs are 0, so the residual arcs back, which get capacity, have reduced costs of 0 too.
-ghost use Rattle.std.specs.Prelude.{◌≡◌, ◌≢◌, ◌<◌, ◌≤◌, ◌+◌, ◌*◌, ◌^◌, ℕ, length, pos, ◌≤ℤ◌, ◌<ℤ◌, ◌+ℤ◌, ◌-ℤ◌, IfOk, IfErr, true, false, IfSome, IfNone};
+//! Successive shortest paths (Ahuja, Magnanti and Orlin, Network Flows, 1993, section 9.7). Networks have at most 2,402
+//! nodes and 9,600 arcs of cost 0 or 1, and nodes supply or want at most 12,008 units. Each search looks at each
+//! residual arc once at most and sends as many units as fit along its path, one at least, but no more than the excess
+//! where it starts or the deficit where it ends. Potentials stay then: along the path reduced costs are 0, so the
+//! residual arcs back, which get capacity, have reduced costs of 0 too.
+ghost use Rattle.std.specs.Prelude.{OnOk, ◌≡◌, ◌≢◌, ◌<◌, ◌≤◌, ◌+◌, ◌*◌, ◌^◌, ℕ, length, pos, ◌≤ℤ◌, ◌<ℤ◌, ◌+ℤ◌, ◌-ℤ◌, IfOk, IfErr, true, false, IfSome, IfNone};
+ghost use Rattle.min_cost_flow.specs.SolverState.{IsSized, excess_at, potential_at, flow_in, IsReady, IsBetweenSearches, IsVerdict, HasSentFrom, IsAugmented, CanUpdate, HasReachedOrder, IsCleared, IsReadyIn, CanAugmentIn, CanAugment, IsSentAlong, IsBottleneck, IsPaired, IsPushedAlong};
 ghost use Rattle.min_cost_flow.specs.declared.network.TheConstants.{MAX_NODES};
 ghost use Rattle.min_cost_flow.specs.declared.solver.SolveFault.TheVariants.{Memory};
 ghost use Rattle.min_cost_flow.specs.Networks.{NetworkModel, arc_count, node_count, IsNetwork};
@@ -17,15 +14,83 @@ ghost use Rattle.min_cost_flow.specs.Search.{far, labels, orders, label_at, IsPu
 ghost use Rattle.min_cost_flow.specs.Existence.{SuppliesSumToZero};
 ghost use Rattle.min_cost_flow.specs.Overfull.{IsOverfull, HasStopped, was_reached};
 ghost use Rattle.min_cost_flow.specs.Round.{carrying, supply_sum, IsRoundDone, HasSupply, AreInBounds};
-ghost use Rattle.min_cost_flow.specs.SolverState.{excess_at, potential_at, flow_in, IsSized, IsReady, IsBetweenSearches, IsVerdict, HasSentFrom, IsAugmented, CanUpdate, HasReachedOrder, IsCleared, IsReadyIn, CanAugmentIn, CanAugment, IsSentAlong, IsBottleneck, IsPaired, IsPushedAlong};
 
-use crate::scratch::Scratch;
-use crate::solved::Solved;
-use crate::state::{Nodes, Solver};
-use crate::{FAR, Network, Residual, Search, SearchInput, Visit, move_units, reverse};
+use crate::solution::{Scratch, Solved};
+use crate::{FAR, Network, Residual, ResidualArc, Search, SearchInput, Visit, move_units, reverse};
 use std::alloc::{AllocError, Global};
 use std::mem;
 use thiserror::Error;
+
+/// The state of each node of a network.
+#[derive(Drop)]
+pub struct Nodes {
+    /// Under these no unsaturated residual arc has a reduced cost below 0, and at a deficit they are 0.
+    pub potential: Vec<i32>,
+    /// How many units a node still has to send; below 0, its deficit.
+    pub excess: Vec<i32>,
+    /// Of nodes at the same distance the one with the least score is taken.
+    pub score: Vec<i32>,
+}
+
+/// The state of a solver: the residual network, the state of each node, and the results of the last search.
+///
+/// The latter include the residual arc that the search found. It also counts the work done since the solver began:
+/// searches, and looks at residual arcs in them. If it goes on after a move, no searches are counted, and only the
+/// looks of the last one.
+#[derive(Drop)]
+pub struct Solver {
+    pub residual: Residual,
+    pub nodes: Nodes,
+    pub visits: Vec<Visit>,
+    pub found: usize,
+    pub searches: u32,
+    pub looks: u64,
+}
+
+impl Solver {
+    /// A state with empty lists. It allocates nothing.
+    pub(crate) fn empty(alloc: Global) -> Solver {
+        Solver {
+            residual: Residual {
+                first: Vec::new(alloc),
+                arcs: Vec::new(alloc),
+                capacities: Vec::new(alloc),
+            },
+            nodes: Nodes {
+                potential: Vec::new(alloc),
+                excess: Vec::new(alloc),
+                score: Vec::new(alloc),
+            },
+            visits: Vec::new(alloc),
+            found: 0,
+            searches: 0,
+            looks: 0,
+        }
+    }
+
+    /// Gives each list the length that a network needs, and removes the labels of all nodes. If an allocation is
+    /// refused, some lists do not have it. What else they contain does not matter: a solve overwrites it.
+    pub(crate) fn prepare(&mut self, network: &Network) -> Result<(), AllocError>
+        ensures { OnOk result (IsSized network.now self.new) }
+    {
+        let nodes = network.node_count();
+        let arcs = network.arc_count();
+        let unvisited = Visit {
+            label: FAR,
+            predecessor: 0,
+            place: 0,
+            at_place: 0,
+        };
+        self.residual.first.resize(nodes, 0)?;
+        self.residual.arcs.resize(2 * arcs, ResidualArc::default())?;
+        self.residual.capacities.resize(2 * arcs, 0)?;
+        self.nodes.potential.resize(nodes, 0)?;
+        self.nodes.excess.resize(nodes, 0)?;
+        self.nodes.score.resize(nodes, 0)?;
+        self.visits.clear();
+        self.visits.resize(nodes, unvisited)
+    }
+}
 
 impl Solver {
     /// Sends all units from nothing; whether that can be done.

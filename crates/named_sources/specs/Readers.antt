@@ -2,7 +2,7 @@
 use Rattle.std.specs.Prelude.{◌≡◌, ℕ, Bool, true, false, List, Option, None, Some, ⊤}
 use Rattle.either.specs.declared.Either.{Either}
 use Rattle.either.specs.declared.Either.TheVariants.{Left, Right}
-use Rattle.named_sources.specs.declared.read_tap.ReadTap.{ReadTap}
+use Rattle.named_sources.specs.declared.reason.ReadTap.{ReadTap}
 
 abbrev pub reader_of : {R : Type 0} → ReadTap R → R
 reader_of tap = tap.reader

@@ -1,7 +1,7 @@
 -- Files that are not opened, without the system's reason.
 use Rattle.std.specs.Prelude.{Result, Ok, Err}
-use Rattle.lanes.specs.declared.opener.OpenFault.{OpenFault}
-use Rattle.named_sources.specs.declared.named_files.Refused.{Refused}
+use Rattle.lanes.specs.declared.run.OpenFault.{OpenFault}
+use Rattle.named_sources.specs.declared.source.Refused.{Refused}
 
 -- the outcome of an open, of whose refusal only the fault is kept
 abbrev pub by_fault : {S : Type 0} → Result S Refused → Result S OpenFault

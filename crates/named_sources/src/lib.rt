@@ -3,22 +3,12 @@
 #![tactic(auto)]
 
 mod file_notes;
-mod file_opener;
-mod hints;
-mod named_files;
-mod output;
-mod read_tap;
 mod reason;
-mod short_line;
 mod source;
-mod standard_input;
 
 pub use file_notes::{FileNote, FileNotes};
-pub use file_opener::FileOpener;
-pub use named_files::{NamedFiles, Refused, SystemFiles};
-pub use output::OutputSink;
-pub use read_tap::ReadTap;
-pub use reason::{KeepsReason, Reason};
-pub use short_line::ShortLine;
-pub use source::{NotedSource, open_source};
-pub use standard_input::{INPUT, if_open, is_input, place_holder};
+pub use reason::{KeepsReason, ReadTap, Reason, ShortLine};
+pub use source::{
+    FileOpener, INPUT, NamedFiles, NotedSource, OutputSink, Refused, SystemFiles, if_open,
+    is_input, open_source, place_holder,
+};

@@ -1,14 +1,125 @@
-//! Files as sources of a run.
-ghost use Rattle.std.specs.Prelude.{◌≡◌, ◌↔◌, Some, [], true, IfOk};
+//! Files as sources of a run, by their names and by their places in a list of names; standard input by its name, and
+//! standard streams that are closed; and sinks over writers that keep the reason of a failed write.
+ghost use Rattle.std.specs.Prelude.{◌≡◌, ℕ, List, IfOk, ◌↔◌, Some, [], true, slice_get, false};
+ghost use Rattle.named_sources.specs.Naming.{is_input, meanings_in};
+ghost use Rattle.lanes.specs.Opening.{Meaning, Opens, Silent};
+ghost use Rattle.named_sources.specs.Refused.{by_fault};
 ghost use Rattle.named_sources.specs.Sources.{noted_to_come, noted_fails, IsKnownAs};
 
-use crate::file_notes::FileNote;
-use crate::named_files::{NamedFiles, Refused};
-use crate::reason::{KeepsReason, Reason};
-use lanes::OpenFault;
+use crate::file_notes::{FileNote, FileNotes};
+use crate::reason::{KeepsReason, ReadTap, Reason};
+use either::{Either, Left, Right};
+use lanes::{OpenFault, Opener};
 use std::alloc::{AllocError, Global};
-use std::io::ErrorKind;
-use streams::{Tap, TapFault};
+use std::fs;
+use std::io::{ErrorKind, Read, Write};
+use std::os::fd::AsFd;
+use std::rt::Files;
+use std::sync::atomic::{AtomicU64, Ordering};
+use streams::{Mark, Sink, SinkFault, Tap, TapFault};
+
+/// The file name that means standard input.
+pub const INPUT: &str = "-";
+
+/// Whether a file name means standard input.
+pub fn is_input(name: &str) -> bool
+    ensures { result ≡ is_input name.now }
+{
+    name == INPUT
+}
+
+/// Whether a standard stream is open.
+fn is_open<F: AsFd>(stream: &F) -> bool {
+    stream.as_fd().try_clone_to_owned().is_ok()
+}
+
+/// This standard stream, or `None` if it is closed now; to be called before any file is opened.
+pub fn if_open<F: AsFd + Copy>(stream: F) -> Option<F> {
+    is_open(&stream).then_some(stream)
+}
+
+/// A folder in place of this standard stream if it is closed, and otherwise nothing.
+///
+/// It has the stream's file descriptor, if the standard streams with lower ones are open or have a folder too; no file
+/// can then get it by chance, as long as the folder is held. Every read and write of a folder fails.
+pub fn place_holder<R: Files, F: AsFd + Copy>(rt: &R, stream: F) -> Option<R::File> {
+    if is_open(&stream) {
+        return None;
+    }
+    fs::open(rt, "/").ok()
+}
+
+/// The reason why a file was not opened: the fault of the run, and the system's reason.
+#[derive(Clone, Copy, Debug, PartialEq, Eq)]
+pub struct Refused {
+    pub fault: OpenFault,
+    pub reason: Reason,
+}
+
+/// Opens files by their names, from any thread.
+///
+/// In proofs it may be known of each name whether a file of this name opens, and then which bytes it gives and whether
+/// it fails after the last of them. Of the files of a system nothing is known.
+pub trait NamedFiles: Sync {
+    /// An open file, which keeps the reason of a failed read.
+    type Source: Tap + KeepsReason + Send;
+
+    ghost meaning: { Self → List ℕ → Meaning };
+
+    /// Opens the file with this name.
+    ///
+    /// # Errors
+    ///
+    /// The fault is `Io` if the file could not be opened, `Memory` if memory ran out. The reason is the system's.
+    fn open(&self, alloc: Global, name: &str) -> Result<Self::Source, Refused>
+        ensures { Opens Self.Source.to_come Self.Source.fails (meaning self.now name.now) (by_fault result) };
+}
+
+/// The files of the system, and under the name `-` standard input. Nothing is known of their bytes.
+#[derive(Drop)]
+pub struct SystemFiles<'r, R, I> {
+    pub rt: &'r R,
+    /// Standard input, if it was open when the program began.
+    pub input: Option<I>,
+}
+
+impl<R: Files + Sync, I: Read + Copy + Send + Sync> NamedFiles for SystemFiles<'_, R, I>
+where
+    R::File: Send,
+    R::Dir: Send,
+{
+    ghost use Rattle.named_sources.specs.Readers.{reader_of, IsReaderOf};
+
+    type Source = ReadTap<Either<R::File, I>>;
+
+    ghost meaning = { λ _ _. Silent };
+
+    // The contract of all named files, and that standard input is read exactly for its name.
+    fn open(&self, _alloc: Global, name: &str) -> Result<ReadTap<Either<R::File, I>>, Refused>
+        ensures reader { IfOk result (λ source. IsReaderOf (is_input name.now) self.now.input (reader_of source)) }
+    {
+        if is_input(name) {
+            return match self.input {
+                Some(input) => Ok(ReadTap::new(Right(input))),
+                None => Err(Refused {
+                    fault: OpenFault::Io,
+                    reason: CLOSED,
+                }),
+            };
+        }
+        match fs::open(self.rt, name) {
+            Ok(file) => Ok(ReadTap::new(Left(file))),
+            Err(error) => Err(Refused {
+                fault: open_fault(error.kind()),
+                reason: Reason::of(error),
+            }),
+        }
+    }
+}
+
+/// The reason why standard input is not opened: it was closed when the program began, so its file descriptor is bad
+/// (`EBADF`).
+const CLOSED: Reason = Reason { code: Some(9) };
 
 /// A source whose first bytes and whose failure are noted. If the file could not be opened, every read fails.
 #[derive(Drop)]
@@ -114,5 +225,106 @@ pub(crate) fn open_fault(kind: ErrorKind) -> OpenFault
     match kind {
         ErrorKind::OutOfMemory => OpenFault::Memory,
         _ => OpenFault::Io,
+    }
+}
+
+/// An opener of the files in a list of file names; a file's number is the index of its name.
+///
+/// A name may be listed more than once. A number past the list is not opened. Each call of `open` for a name is counted
+/// in `opened`, even if it is refused. How each file begins and ends, and why it fails, is written to `notes`.
+///
+/// In contracts what is known of a file is what `files` says of its name.
+#[derive(Drop)]
+pub struct FileOpener<'r, 'n, N> {
+    pub files: &'r N,
+    pub names: &'n [&'n str],
+    pub opened: &'r AtomicU64,
+    pub notes: &'r FileNotes,
+}
+
+impl<'n, N> FileOpener<'_, 'n, N> {
+    /// The name of a file.
+    fn name(&self, file: u32) -> Option<&'n str>
+        ensures { result ≡ slice_get self.now.names.now file }
+    {
+        self.names.get(file as usize).copied()
+    }
+}
+
+impl<'r, N: NamedFiles> Opener for FileOpener<'r, '_, N> {
+    type Source = NotedSource<'r, N::Source>;
+
+    ghost meaning = { λ o. meanings_in (N.meaning o.files.now) o.names.now };
+
+    fn open(&self, alloc: Global, file: u32) -> Result<NotedSource<'r, N::Source>, OpenFault> {
+        let Some(name) = self.name(file) else {
+            return Err(OpenFault::Io);
+        };
+        self.opened.fetch_add(1, Ordering::SeqCst);
+        let note = self.notes.note(file);
+        match self.files.open(alloc, name) {
+            Ok(source) => Ok(NotedSource::new(source, note)),
+            Err(refused) => {
+                if let Some(note) = note {
+                    note.fail(refused.reason);
+                }
+                Err(refused.fault)
+            }
+        }
+    }
+
+    fn ended(&self, file: u32, mark: Mark) {
+        self.notes.end(file, mark);
+    }
+}
+
+/// A sink over a writer of std that keeps the reason of a failed write, and otherwise behaves as `IoSink`.
+///
+/// It fails if a write fails or takes nothing of a nonempty piece.
+#[derive(Drop)]
+pub struct OutputSink<W> {
+    writer: W,
+    failed: bool,
+    reason: Reason,
+}
+
+impl<W: Write> OutputSink<W> {
+    /// A sink over this writer. The bytes taken are those that the writer already contains, and it has not failed.
+    pub fn new(writer: W) -> OutputSink<W>
+        ensures taken { ⟦<OutputSink<W> as Sink>⟧.taken result ≡ W.contents writer }
+        ensures intact { ⟦<OutputSink<W> as Sink>⟧.failed result ≡ false }
+    {
+        OutputSink {
+            writer,
+            failed: false,
+            reason: Reason::UNKNOWN,
+        }
+    }
+}
+
+impl<W: Write> Sink for OutputSink<W> {
+    ghost taken = { λ s. W.contents s.writer };
+
+    ghost failed = { λ s. s.failed };
+
+    fn put(&mut self, piece: &[u8]) -> Result<usize, SinkFault> {
+        match self.writer.write(piece) {
+            Ok(count) if count > 0 || piece.is_empty() => Ok(count),
+            Ok(_) => {
+                self.failed = true;
+                Err(SinkFault)
+            }
+            Err(error) => {
+                self.failed = true;
+                self.reason = Reason::of(error);
+                Err(SinkFault)
+            }
+        }
+    }
+}
+
+impl<W: Write> KeepsReason for OutputSink<W> {
+    fn reason(&self) -> Reason {
+        self.reason
     }
 }

@@ -6,7 +6,7 @@ use Rattle.std.proofs.lemmas.Int.{ints}
 use Rattle.std.proofs.Math.Nat.{mul-add, mul-le-mul_left}
 use Rattle.common.specs.Sums.{sum_below}
 use Rattle.common.proofs.Sums.{sum_below-same, sum_below-add, sum_below-le, sum_below-times, exchanged}
-use Rattle.ortho_rep.specs.declared.turn.Turn.{Turn}
+use Rattle.ortho_rep.specs.declared.turn_strings.Turn.{Turn}
 use Rattle.faces.specs.Planes.{PlaneModel, HasEnds, darts, vertices, head, reverse_dart, face_at}
 use Rattle.ortho_rep.specs.Turns.{lefts, rights}
 use Rattle.ortho_rep.specs.Representation.{Rep, bends_of, whole_turn}

@@ -7,9 +7,9 @@ use Rattle.std.proofs.lemmas.Int.{ints, by_lt_z}
 use lib.Signed.{lt_z}
 use Rattle.common.specs.Sums.{sum_below}
 use Rattle.common.proofs.Sums.{sum_below-same, sum_below-add, sum_below-le, sum_below-constant, sum_below-member, exchanged}
-use Rattle.common.specs.declared.limits.TheConstants.{MAX_VERTICES}
-use Rattle.ortho_rep.specs.declared.turn.Turn.{Turn}
-use Rattle.ortho_rep.specs.declared.turn.TheConstants.{MAX_REPEATS}
+use Rattle.common.specs.declared.parameters.TheConstants.{MAX_VERTICES}
+use Rattle.ortho_rep.specs.declared.turn_strings.Turn.{Turn}
+use Rattle.ortho_rep.specs.declared.turn_strings.TheConstants.{MAX_REPEATS}
 use Rattle.faces.specs.Planes.{PlaneModel, HasEnds, darts, vertices, head, reverse_dart, face_at}
 use Rattle.flow_network.specs.Given.{GivenModel, CanBeGiven, nothing_given, turns_given, turns_in_all}
 use Rattle.flow_network.proofs.GivenParts.{left_part, right_part, left_back, both_parts, all_parts}

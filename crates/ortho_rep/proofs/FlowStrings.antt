@@ -1,8 +1,8 @@
 -- Strings of left turns and then right turns.
 use Rattle.std.proofs.Common.{◌≡◌, ℕ, zero, suc, ◌+◌, List, [], ◌∷◌, ◌++◌, replicate, map, reverse, add-one, refl, ap, ◌∙◌, arith}
 use Rattle.std.proofs.lemmas.List.{map-append, reverse-append, replicate-append-replicate}
-use Rattle.ortho_rep.specs.declared.turn.Turn.{Turn}
-use Rattle.ortho_rep.specs.declared.turn.Turn.TheVariants.{Left, Right}
+use Rattle.ortho_rep.specs.declared.turn_strings.Turn.{Turn}
+use Rattle.ortho_rep.specs.declared.turn_strings.Turn.TheVariants.{Left, Right}
 use Rattle.ortho_rep.specs.Turns.{opposite, mirrored, lefts, rights}
 use Rattle.ortho_rep.specs.OfFlow.{lefts_then_rights}
 use Rattle.ortho_rep.proofs.TurnCounts.{lefts-cons, rights-cons}

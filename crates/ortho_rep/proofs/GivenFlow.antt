@@ -6,8 +6,8 @@ use Rattle.std.proofs.lemmas.Bool.{cases_lt}
 use Rattle.std.proofs.lemmas.Int.{ints}
 use Rattle.std.proofs.lemmas.List.{get_or_past, length-replicate}
 use Rattle.min_cost_flow.specs.Flow.{IsWithinCap}
-use Rattle.ortho_rep.specs.declared.turn.Turn.{Turn}
-use Rattle.ortho_rep.specs.declared.turn.Turn.TheVariants.{Left, Right}
+use Rattle.ortho_rep.specs.declared.turn_strings.Turn.{Turn}
+use Rattle.ortho_rep.specs.declared.turn_strings.Turn.TheVariants.{Left, Right}
 use Rattle.faces.specs.Planes.{PlaneModel, darts}
 use Rattle.flow_network.specs.Given.{GivenModel, CanBeGiven, IsAngle, nothing_given, angle_given, walked_back, beyond_first}
 use Rattle.flow_network.specs.FaceNet.{corner_cap, crossing_cap}

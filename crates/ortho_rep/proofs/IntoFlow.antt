@@ -6,13 +6,13 @@ use Rattle.std.proofs.lemmas.Bool.{cases_lt, lt-ltb, le-ltb, cond-true, cond-fal
 use Rattle.std.proofs.lemmas.Int.{ints}
 use Rattle.common.proofs.Sums.{sum_below-same, total_below-same}
 use Rattle.faces.specs.Planes.{PlaneModel, HasEnds, darts, vertices, head, reverse_dart, face_at, degree}
-use Rattle.min_cost_flow.specs.declared.arc.Arc.{Arc}
+use Rattle.min_cost_flow.specs.declared.network.Arc.{Arc}
 use Rattle.min_cost_flow.specs.Networks.{NetworkModel, node_count, arc_at, supply_at}
 use Rattle.min_cost_flow.specs.Flow.{Flow, HasNoFlow, IsWithinCap, net_outflow}
 use Rattle.flow_network.specs.Given.{GivenModel, IsAngle, angle_given, turns_given, walked_back}
 use Rattle.flow_network.specs.FaceNet.{IsKeepingNet, vertex_degree, beyond_at_vertex, beyond_in_face, lefts_in_face, corner_cap, crossing_cap}
 use Rattle.flow_network.proofs.GivenParts.{turns_back}
-use Rattle.ortho_rep.specs.declared.turn.Turn.{Turn}
+use Rattle.ortho_rep.specs.declared.turn_strings.Turn.{Turn}
 use Rattle.ortho_rep.specs.Turns.{lefts, rights}
 use Rattle.ortho_rep.specs.Representation.{Rep, angles_around, turning_of, turning_around, whole_turn}
 use Rattle.ortho_rep.specs.Keeping.{one_way, Keeps, HasNoneKeeping}

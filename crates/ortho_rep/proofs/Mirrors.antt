@@ -1,8 +1,8 @@
 -- A string and its mirror image, place by place.
 use Rattle.std.proofs.Common.{◌≡◌, ◌<◌, ℕ, ◌-◌, List, length, get_or, reverse, sym, ap, ◌∙◌, arith}
 use Rattle.std.proofs.lemmas.List.{ext_get_or, get_or-map, get_or-reverse, length-map, length-reverse}
-use Rattle.ortho_rep.specs.declared.turn.Turn.{Turn}
-use Rattle.ortho_rep.specs.declared.turn.Turn.TheVariants.{Left}
+use Rattle.ortho_rep.specs.declared.turn_strings.Turn.{Turn}
+use Rattle.ortho_rep.specs.declared.turn_strings.Turn.TheVariants.{Left}
 use Rattle.ortho_rep.specs.Turns.{opposite, mirrored}
 
 pub length-mirrored : (ts : List Turn) → length (mirrored ts) ≡ length ts

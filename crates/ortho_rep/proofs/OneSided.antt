@@ -5,10 +5,10 @@ use Rattle.std.proofs.Math.ListN.{get_or-append}
 use Rattle.std.proofs.lemmas.List.{map-append, length-map, get_or_push, length-append}
 use Rattle.std.proofs.lemmas.List.Elements.{All-append}
 use borrow.Author.Count.{below_more}
-use Rattle.ortho_rep.specs.declared.turn.Turn.{Turn}
-use Rattle.ortho_rep.specs.declared.turn.Turn.TheVariants.{Left}
-use Rattle.ortho_rep.specs.declared.turn.TheConstants.{MAX_REPEATS}
-use Rattle.ortho_rep.specs.declared.repeats.DartShape.{DartShape}
+use Rattle.ortho_rep.specs.declared.turn_strings.Turn.{Turn}
+use Rattle.ortho_rep.specs.declared.turn_strings.Turn.TheVariants.{Left}
+use Rattle.ortho_rep.specs.declared.turn_strings.TheConstants.{MAX_REPEATS}
+use Rattle.ortho_rep.specs.declared.turn_strings.DartShape.{DartShape}
 use Rattle.ortho_rep.specs.Repeats.{turns_in, HaveShapes}
 
 -- what stands for a dart past the end of a list

@@ -1,7 +1,7 @@
 -- One dart's prices: what they say whether its angle and its turns are given or not.
 use Rattle.std.proofs.Common.{◌≡◌, ◌<◌, ◌≤◌, ℕ, List, ap, refl, sym, subst, ◌∙◌, arith}
 use Rattle.std.specs.Prelude.{ℤ, pos, ◌+ℤ◌, ◌-ℤ◌, ◌≤ℤ◌, Option, Some, None}
-use Rattle.ortho_rep.specs.declared.turn.Turn.{Turn}
+use Rattle.ortho_rep.specs.declared.turn_strings.Turn.{Turn}
 use Rattle.ortho_rep.specs.Turns.{lefts}
 use Rattle.ortho_rep.specs.Keeping.{one_way}
 use Rattle.ortho_rep.specs.Prices.{IsAnglePriced, AreTurnsPriced, IsAngleKept, AreTurnsKept, IsPricedAt}

@@ -4,7 +4,7 @@ use Rattle.std.specs.Prelude.{ℤ, pos}
 use Rattle.common.proofs.Sums.{sum_below-same, total_below-same}
 use Rattle.faces.specs.Planes.{PlaneModel, HasEnds, darts, vertices, head, reverse_dart, face_at}
 use Rattle.flow_network.specs.Given.{GivenModel, nothing_given, angle_given, turns_given}
-use Rattle.ortho_rep.specs.declared.turn.Turn.{Turn}
+use Rattle.ortho_rep.specs.declared.turn_strings.Turn.{Turn}
 use Rattle.ortho_rep.specs.Turns.{mirrored}
 use Rattle.ortho_rep.specs.Representation.{Rep, turning_of}
 use Rattle.ortho_rep.specs.Prices.{ProveKeeping, Prove}

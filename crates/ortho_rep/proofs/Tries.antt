@@ -8,7 +8,7 @@ use Rattle.std.proofs.lemmas.Int.{ints}
 use Rattle.common.specs.Sums.{sum_below}
 use Rattle.common.proofs.Sums.{sum_below-same, sum_below-none, sum_below-split}
 use Rattle.faces.specs.Planes.{PlaneModel, IsPlane, HasEnds, darts, vertices, with_outer}
-use Rattle.min_cost_flow.specs.declared.arc.Arc.{Arc}
+use Rattle.min_cost_flow.specs.declared.network.Arc.{Arc}
 use Rattle.min_cost_flow.specs.Networks.{NetworkModel, arc_at}
 use Rattle.min_cost_flow.specs.Flow.{Flow, at_nodes, cost_of}
 use Rattle.min_cost_flow.specs.SolverState.{IsShown}

@@ -2,8 +2,8 @@
 use Rattle.std.proofs.Common.{◌≡◌, ℕ, zero, suc, ◌+◌, cond, List, [], ◌∷◌, replicate, length, map, reverse, not, ◌∙◌, refl, ap, arith}
 use Rattle.std.proofs.lemmas.List.Sums.{sum_by-cons}
 use Rattle.std.proofs.lemmas.List.Sorted.{sum_by-IsPermutation, IsPermutation-reverse}
-use Rattle.ortho_rep.specs.declared.turn.Turn.{Turn}
-use Rattle.ortho_rep.specs.declared.turn.Turn.TheVariants.{Left, Right}
+use Rattle.ortho_rep.specs.declared.turn_strings.Turn.{Turn}
+use Rattle.ortho_rep.specs.declared.turn_strings.Turn.TheVariants.{Left, Right}
 use Rattle.ortho_rep.specs.Turns.{opposite, is_left, mirrored, lefts, rights}
 
 -- what a turn adds to each count

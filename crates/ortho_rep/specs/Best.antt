@@ -1,9 +1,9 @@
 -- The face with which the fewest bends are needed, and the outer face of a choice.
 use Rattle.std.specs.Prelude.{◌≡◌, ℕ, ◌<◌, ◌≤◌, List}
-use Rattle.common.specs.declared.choice.Choice.{Choice}
-use Rattle.common.specs.declared.choice.Choice.TheVariants.{First, Best}
+use Rattle.common.specs.declared.parameters.Choice.{Choice}
+use Rattle.common.specs.declared.parameters.Choice.TheVariants.{First, Best}
 use Rattle.faces.specs.Planes.{PlaneModel, HasGreatestOuter, darts, with_outer}
-use Rattle.ortho_rep.specs.declared.turn.Turn.{Turn}
+use Rattle.ortho_rep.specs.declared.turn_strings.Turn.{Turn}
 use Rattle.ortho_rep.specs.Representation.{Rep, bends_of}
 
 -- some representation of p with its outer face has this number of bends

@@ -3,7 +3,7 @@ use Rattle.std.specs.Prelude.{◌≡◌, ℕ, ◌<◌, ◌≤◌, Bool, false, L
 use Rattle.faces.specs.Planes.{PlaneModel, darts, with_outer}
 use Rattle.flow_network.specs.Marks.{is_marked}
 use Rattle.flow_network.specs.Given.{GivenModel}
-use Rattle.ortho_rep.specs.declared.turn.Turn.{Turn}
+use Rattle.ortho_rep.specs.declared.turn_strings.Turn.{Turn}
 use Rattle.ortho_rep.specs.declared.best.Incumbent.{Incumbent}
 use Rattle.ortho_rep.specs.Representation.{Rep, bends_of}
 use Rattle.ortho_rep.specs.Keeping.{Keeps, HasNoneKeeping}

@@ -1,7 +1,7 @@
 -- Points of vertices, corners of all edges and the places of each edge's corners, in one list.
 use Rattle.std.specs.Prelude.{ℕ, ◌+◌, ◌-◌, ◌≤◌, List, map, length, take, drop, slice_index, slice_range, All}
 use Rattle.std.specs.List.{range_with_len}
-use Rattle.ortho_rep.specs.declared.points.Point.{Point}
+use Rattle.ortho_rep.specs.declared.grid_points.Point.{Point}
 use Rattle.ortho_rep.specs.Points.{PointsModel}
 
 -- where the corners of an edge stand among all: from place x to the one before place y

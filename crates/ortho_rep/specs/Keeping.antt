@@ -2,8 +2,8 @@
 use Rattle.std.specs.Prelude.{◌≡◌, ℕ, ◌+◌, ◌<◌, ◌≤◌, ℤ, pos, negsuc, List, replicate, Some}
 use Rattle.faces.specs.Planes.{PlaneModel, darts}
 use Rattle.flow_network.specs.Given.{GivenModel, angle_given, turns_given}
-use Rattle.ortho_rep.specs.declared.turn.Turn.{Turn}
-use Rattle.ortho_rep.specs.declared.turn.Turn.TheVariants.{Left, Right}
+use Rattle.ortho_rep.specs.declared.turn_strings.Turn.{Turn}
+use Rattle.ortho_rep.specs.declared.turn_strings.Turn.TheVariants.{Left, Right}
 use Rattle.ortho_rep.specs.Shapes.{ShapeModel, angle_at, turns_at}
 use Rattle.ortho_rep.specs.Representation.{Rep, bends_of}
 

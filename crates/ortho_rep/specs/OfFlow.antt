@@ -3,8 +3,8 @@
 use Rattle.std.specs.Prelude.{ℕ, ◌+◌, ℤ, List, ◌++◌, replicate, Option, Some, None}
 use Rattle.faces.specs.Planes.{PlaneModel, darts, reverse_dart}
 use Rattle.flow_network.specs.Given.{GivenModel, angle_given, turns_given}
-use Rattle.ortho_rep.specs.declared.turn.Turn.{Turn}
-use Rattle.ortho_rep.specs.declared.turn.Turn.TheVariants.{Left, Right}
+use Rattle.ortho_rep.specs.declared.turn_strings.Turn.{Turn}
+use Rattle.ortho_rep.specs.declared.turn_strings.Turn.TheVariants.{Left, Right}
 use Rattle.ortho_rep.specs.Keeping.{one_way}
 
 -- l left turns and then r right turns

@@ -1,6 +1,6 @@
 -- What stored points stand for.
-use Rattle.ortho_rep.specs.declared.points.PointStore.{PointStore}
-use Rattle.ortho_rep.specs.declared.points.PointStore.TheVariants.{InTwoLists, Concatenated}
+use Rattle.ortho_rep.specs.declared.grid_points.PointStore.{PointStore}
+use Rattle.ortho_rep.specs.declared.grid_points.PointStore.TheVariants.{InTwoLists, Concatenated}
 use Rattle.ortho_rep.specs.Points.{PointsModel}
 use Rattle.ortho_rep.specs.Storage.{lists_in}
 

@@ -1,6 +1,6 @@
 -- What callers see of `Points`: a point for each vertex, and for each edge its corners along its lesser dart.
 use Rattle.std.specs.Prelude.{ℕ, ◌-◌, ◌<◌, List, [], slice_index_or, All}
-use Rattle.ortho_rep.specs.declared.points.Point.{Point}
+use Rattle.ortho_rep.specs.declared.grid_points.Point.{Point}
 
 -- place v - 1 of the first list belongs to vertex v, place e of the second to edge e
 pub record PointsModel : Type 0 where

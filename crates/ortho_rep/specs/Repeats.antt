@@ -1,9 +1,9 @@
 -- Darts that turn to one side only: what is kept of each, and what shape they have.
 use Rattle.std.specs.Prelude.{◌≡◌, ℕ, ◌<◌, ◌≤◌, List, map, length, replicate, All}
 use Rattle.embedding.specs.declared.graphs.TheConstants.{MAX_DARTS}
-use Rattle.ortho_rep.specs.declared.turn.Turn.{Turn}
-use Rattle.ortho_rep.specs.declared.turn.TheConstants.{MAX_REPEATS}
-use Rattle.ortho_rep.specs.declared.repeats.DartShape.{DartShape}
+use Rattle.ortho_rep.specs.declared.turn_strings.Turn.{Turn}
+use Rattle.ortho_rep.specs.declared.turn_strings.TheConstants.{MAX_REPEATS}
+use Rattle.ortho_rep.specs.declared.turn_strings.DartShape.{DartShape}
 use Rattle.ortho_rep.specs.Shapes.{ShapeModel, angle_at, turns_at}
 
 -- the turns of a dart

@@ -3,7 +3,7 @@
 use Rattle.std.specs.Prelude.{◌≡◌, ℕ, ◌<◌, ◌≤◌, ◌/◌, ◌==◌, if◌then◌else◌, ℤ, pos, negsuc, ◌+ℤ◌, ◌-ℤ◌, List, length}
 use Rattle.common.specs.Sums.{sum_below, total_below}
 use Rattle.faces.specs.Planes.{PlaneModel, darts, vertices, head, reverse_dart, face_at}
-use Rattle.ortho_rep.specs.declared.turn.Turn.{Turn}
+use Rattle.ortho_rep.specs.declared.turn_strings.Turn.{Turn}
 use Rattle.ortho_rep.specs.Turns.{mirrored, lefts, rights}
 use Rattle.ortho_rep.specs.Shapes.{ShapeModel, angle_at, turns_at}
 

@@ -1,6 +1,6 @@
 -- What callers see of a `Shape`: the angle and the string of turns of each dart.
 use Rattle.std.specs.Prelude.{ℕ, List, [], slice_index, slice_index_or}
-use Rattle.ortho_rep.specs.declared.turn.Turn.{Turn}
+use Rattle.ortho_rep.specs.declared.turn_strings.Turn.{Turn}
 
 -- angle d and string d belong to dart d; an angle is counted in right angles
 pub record ShapeModel : Type 0 where

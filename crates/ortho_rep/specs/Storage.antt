@@ -2,8 +2,8 @@
 use Rattle.std.specs.Prelude.{◌≤◌, List, map, length, All, Vec, vec_len}
 use Rattle.std.specs.declared.alloc.Global.{Global}
 use Rattle.embedding.specs.declared.graphs.TheConstants.{MAX_DARTS}
-use Rattle.ortho_rep.specs.declared.strings.TheConstants.{MAX_TURNS}
-use Rattle.ortho_rep.specs.declared.turn.Turn.{Turn}
+use Rattle.ortho_rep.specs.declared.turn_strings.TheConstants.{MAX_TURNS}
+use Rattle.ortho_rep.specs.declared.turn_strings.Turn.{Turn}
 
 -- the lists of a list of vectors
 abbrev pub lists_in : {A : Type 0} → List (Vec A Global) → List (List A)

@@ -1,7 +1,7 @@
 -- Strings of quarter turns, met in walking along a dart.
 use Rattle.std.specs.Prelude.{ℕ, Bool, true, false, not, List, map, reverse, count_by}
-use Rattle.ortho_rep.specs.declared.turn.Turn.{Turn}
-use Rattle.ortho_rep.specs.declared.turn.Turn.TheVariants.{Left, Right}
+use Rattle.ortho_rep.specs.declared.turn_strings.Turn.{Turn}
+use Rattle.ortho_rep.specs.declared.turn_strings.Turn.TheVariants.{Left, Right}
 
 -- a turn, met in walking the other way
 abbrev pub opposite : Turn → Turn

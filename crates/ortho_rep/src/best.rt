@@ -9,11 +9,10 @@ ghost use Rattle.ortho_rep.specs.Prices.{IsProof};
 ghost use Rattle.ortho_rep.specs.Best.{HasRep, NeedsBends, IsBest};
 ghost use Rattle.ortho_rep.specs.Tries.{IsMoving, IsIncumbent, IsNoWorse, IsNoBetter, AreBounds, HasRoom};
 
+use crate::certificate::Prices;
 use crate::distances::raise_bounds;
 use crate::least::shape_in;
-use crate::prices::Prices;
-use crate::scratch::ShapeLists;
-use crate::shape::Shape;
+use crate::shape::{Shape, ShapeLists};
 use common::filled;
 use faces::Plane;
 use flow_network::{FaceNet, Given};

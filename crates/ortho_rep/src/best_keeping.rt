@@ -8,10 +8,9 @@ ghost use Rattle.ortho_rep.specs.Prices.{IsProofKeeping};
 ghost use Rattle.ortho_rep.specs.BestKeeping.{IsBestKeeping, HasNoFace, IsTriedBefore, IsCounted, better_of};
 
 use crate::best::Incumbent;
+use crate::certificate::Prices;
 use crate::least::least_shape_keeping_in;
-use crate::prices::Prices;
-use crate::scratch::Scratch;
-use crate::shape::Shape;
+use crate::shape::{Scratch, Shape};
 use faces::Plane;
 use flow_network::{Given, has_mark};
 use min_cost_flow::SolveFault;

@@ -1,19 +1,84 @@
-//! Complementary slackness (Ahuja, Magnanti and Orlin, Network Flows, 1993, section 9.3): whether prices prove a shape
-//! least.
-
-ghost use Rattle.std.specs.Prelude.{◌≡◌, ◌<◌, ◌↔◌, pos, ◌+ℤ◌, ◌-ℤ◌, IsTrue};
+//! Prices of vertices and faces, and whether they prove a shape least: complementary slackness (Ahuja, Magnanti and
+//! Orlin, Network Flows, 1993, section 9.3).
+ghost use Rattle.std.specs.Prelude.{◌≡◌, ◌<◌, ◌≤◌, length, ◌↔◌, pos, ◌+ℤ◌, ◌-ℤ◌, IsTrue};
+ghost use Rattle.ortho_rep.specs.Prices.{vertex_price, face_price, IsAnglePriced, AreTurnsPriced, IsAngleKept, AreTurnsKept, IsPricedAt, ProveKeeping, HasPrices, IsProof, IsProofKeeping};
 ghost use Rattle.faces.specs.Planes.{darts};
 ghost use Rattle.ortho_rep.specs.Shapes.{angle_at, turns_at};
 ghost use Rattle.ortho_rep.specs.Representation.{Rep, HasDarts, IsShape, IsLeast};
 ghost use Rattle.ortho_rep.specs.Keeping.{one_way, IsLeastKeeping};
-ghost use Rattle.ortho_rep.specs.Prices.{IsAnglePriced, AreTurnsPriced, IsAngleKept, AreTurnsKept, IsPricedAt, ProveKeeping, HasPrices, IsProof, IsProofKeeping, vertex_price, face_price};
 
-use crate::prices::Prices;
 use crate::representation::has_darts;
-use crate::shape::Shape;
-use crate::turn::{Turn, count_lefts};
+use crate::shape::{Scratch, Shape};
+use crate::turn_strings::{Turn, count_lefts};
 use faces::Plane;
 use flow_network::Given;
+use std::marker::Model;
+
+/// The dual prices: an integer for each vertex and each face of a plane. In contracts it is the two lists.
+///
+/// If they agree with a representation, they prove it least: `certify` is the test. No accessor allocates, and each
+/// takes constant time.
+#[derive(Debug, Drop)]
+pub struct Prices {
+    vertices: Vec<i32>,
+    faces: Vec<i32>,
+}
+
+impl Model for Prices {
+    ghost use Rattle.ortho_rep.specs.Prices.{PricesModel};
+
+    ghost Value = { PricesModel };
+
+    ghost view = { λ a. record { vertices = a.vertices.items; faces = a.faces.items } };
+}
+
+impl Prices {
+    /// The prices with these lists: `vertices[v - 1]` is that of vertex v, `faces[f]` that of face f.
+    ///
+    /// It allocates nothing.
+    pub fn new(vertices: Vec<i32>, faces: Vec<i32>) -> Prices
+        ensures { result ≡ record { vertices = vertices.items; faces = faces.items } }
+    {
+        Prices { vertices, faces }
+    }
+
+    /// Returns the lists of these prices to the scratch, to be reused. It allocates nothing.
+    pub fn give_back(self, scratch: &mut Scratch) {
+        scratch.lists.vertex_prices = self.vertices;
+        scratch.lists.face_prices = self.faces;
+    }
+
+    /// The number of vertices that have a price.
+    pub fn vertex_count(&self) -> usize
+        ensures { result ≡ length self.now.vertices }
+    {
+        self.vertices.len()
+    }
+
+    /// The number of faces that have a price.
+    pub fn face_count(&self) -> usize
+        ensures { result ≡ length self.now.faces }
+    {
+        self.faces.len()
+    }
+
+    /// The price of a vertex, numbered from 1.
+    pub fn vertex(&self, vertex: u16) -> i32
+        requires some { 0 < vertex }
+        requires within { vertex ≤ length self.now.vertices }
+        ensures { result ≡ vertex_price self.now vertex }
+    {
+        self.vertices[usize::from(vertex) - 1]
+    }
+
+    /// The price of a face, numbered from 0.
+    pub fn face(&self, face: u16) -> i32
+        requires { face < length self.now.faces }
+        ensures { result ≡ face_price self.now face }
+    {
+        self.faces[usize::from(face)]
+    }
+}
 
 /// Whether the prices prove that the shape has the fewest bends (complementary slackness).
 ///

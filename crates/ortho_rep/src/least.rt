@@ -5,20 +5,18 @@ ghost use Rattle.std.specs.Prelude.{◌≡◌, ◌+◌, ◌<◌, ◌≤◌, ◌+
 ghost use Rattle.faces.specs.Planes.{darts, vertices, reverse_dart};
 ghost use Rattle.min_cost_flow.specs.Flow.{Solves, amounts, at_nodes};
 ghost use Rattle.flow_network.specs.Given.{CanBeGiven, nothing_given, turns_given};
-ghost use Rattle.flow_network.specs.declared.given.TheConstants.{MAX_GIVEN_TURNS};
+ghost use Rattle.flow_network.specs.declared.given_shape.TheConstants.{MAX_GIVEN_TURNS};
 ghost use Rattle.flow_network.specs.FaceNet.{IsKeepingNetOf};
-ghost use Rattle.ortho_rep.specs.declared.turn.TheConstants.{MAX_REPEATS};
+ghost use Rattle.ortho_rep.specs.declared.turn_strings.TheConstants.{MAX_REPEATS};
 ghost use Rattle.ortho_rep.specs.OfFlow.{lefts_then_rights, angles_of, strings_of};
 ghost use Rattle.ortho_rep.specs.Repeats.{turns_in, AreRepeats, HaveShapes};
 ghost use Rattle.ortho_rep.specs.Representation.{IsShape, IsLeast};
 ghost use Rattle.ortho_rep.specs.Keeping.{one_way, IsLeastKeeping, HasNoneKeeping};
 ghost use Rattle.ortho_rep.specs.Prices.{IsProof, IsProofKeeping};
 
-use crate::prices::Prices;
-use crate::repeats::DartShape;
-use crate::scratch::{Scratch, ShapeLists};
-use crate::shape::Shape;
-use crate::turn::Turn;
+use crate::certificate::Prices;
+use crate::shape::{Scratch, Shape, ShapeLists};
+use crate::turn_strings::{DartShape, Turn};
 use common::emptied;
 use faces::Plane;
 use flow_network::{FaceNet, Given};

@@ -7,7 +7,7 @@ ghost use Rattle.ortho_rep.specs.Turns.{mirrored};
 ghost use Rattle.ortho_rep.specs.Representation.{HasDarts, IsShape, angles_around, turning_around, whole_turn};
 
 use crate::shape::Shape;
-use crate::turn::{count_lefts, mirrors};
+use crate::turn_strings::{count_lefts, mirrors};
 use faces::{MAX_FACES, Plane};
 
 // A sum for each vertex and one more, or for each face. All of them are set before, so small planes get few.

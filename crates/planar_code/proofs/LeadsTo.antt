@@ -5,8 +5,8 @@ use Rattle.std.proofs.lemmas.List.{take_more, take-append-drop, append_cancel_le
 use Rattle.std.proofs.lemmas.List.Elements.{All-push, All-nil, All-cons}
 use Rattle.std.proofs.Math.Seq.{drop-cons}
 use Rattle.planar_code.specs.declared.TheConstants.{HEADER, MAX_RECORDS}
-use Rattle.planar_code.specs.declared.fault.FeedFault.{FeedFault}
-use Rattle.planar_code.specs.declared.fault.FeedFault.TheVariants as fault
+use Rattle.planar_code.specs.declared.partial_record.FeedFault.{FeedFault}
+use Rattle.planar_code.specs.declared.partial_record.FeedFault.TheVariants as fault
 use Rattle.planar_code.specs.Stream.{IsEntry, IsList, IsRecord, IsUnfinished, NoRecordFirst}
 use Rattle.planar_code.specs.Split.{BeginsWithZero, EndsAs, IsSplit, ending_of}
 use Rattle.planar_code.specs.Started.{IsOversize}

@@ -4,7 +4,7 @@ use Rattle.std.specs.List.{flat_map, concat}
 use Rattle.std.proofs.lemmas.Bool.{cases_eq}
 use Rattle.std.proofs.lemmas.List.Elements.{All-head, All-tail, All-push}
 use Rattle.planar_code.specs.declared.TheConstants.{HEADER}
-use Rattle.planar_code.specs.declared.ending.Ending.TheVariants as ending
+use Rattle.planar_code.specs.declared.partial_record.Ending.TheVariants as ending
 use Rattle.planar_code.specs.Stream.{IsEntry, IsRecord, IsUnfinished, NoRecordFirst, HasLongList, ended}
 use Rattle.planar_code.specs.Split.{IsSplit}
 use Rattle.planar_code.specs.Started.{IsStarted}

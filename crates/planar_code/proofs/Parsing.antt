@@ -1,8 +1,8 @@
 -- At most one of the faults of bytes fits.
 use Rattle.std.proofs.Common.{◌≡◌, ℕ, ◌<◌, List, [], ◌++◌, length, take, drop, refl, sym, ap, subst, arith, append-nil}
 use Rattle.std.proofs.lemmas.List.{take-append-drop, length-drop}
-use Rattle.planar_code.specs.declared.parse.ParseFault.{ParseFault}
-use Rattle.planar_code.specs.declared.parse.ParseFault.TheVariants as fault
+use Rattle.planar_code.specs.declared.record.ParseFault.{ParseFault}
+use Rattle.planar_code.specs.declared.record.ParseFault.TheVariants as fault
 use Rattle.planar_code.specs.Stream.{IsRecord, IsUnfinished, NoRecordFirst}
 use Rattle.planar_code.specs.Split.{BeginsWithZero}
 use Rattle.planar_code.specs.Started.{IsOversize}

@@ -1,8 +1,8 @@
 -- How a framer's steps make up a piece.
 use Rattle.std.proofs.Common.{◌≡◌, ℕ, List, [], ◌∷◌, ◌++◌, inl, inr, length, take, drop, refl, sym, ap, subst, ◌∙◌, arith, append_assoc, append-nil, Option, Some, option_to_list, Ok, Err}
 use Rattle.std.proofs.lemmas.List.{take-append-drop}
-use Rattle.planar_code.specs.declared.fault.FeedFault.{FeedFault}
-use Rattle.planar_code.specs.declared.fault.FeedFault.TheVariants as fault
+use Rattle.planar_code.specs.declared.partial_record.FeedFault.{FeedFault}
+use Rattle.planar_code.specs.declared.partial_record.FeedFault.TheVariants as fault
 use Rattle.planar_code.specs.FramerState.{FramerState, Failed, Goes, HasNotFailed, LosesRecord, Feeds}
 use Rattle.planar_code.specs.Step.{FramerSteps, HasRead}
 use Rattle.planar_code.proofs.LeadsTo.{goes_on, goes_nowhere, goes_failed}

@@ -1,8 +1,8 @@
 -- A stream splits in one way.
 use Rattle.std.proofs.Common.{◌≡◌, ℕ, List, ◌++◌, inl, inr, length, refl, sym, ap, subst, ◌∙◌, arith}
 use Rattle.planar_code.specs.declared.TheConstants.{HEADER}
-use Rattle.planar_code.specs.declared.ending.Ending.{Ending}
-use Rattle.planar_code.specs.declared.ending.Ending.TheVariants as ending
+use Rattle.planar_code.specs.declared.partial_record.Ending.{Ending}
+use Rattle.planar_code.specs.declared.partial_record.Ending.TheVariants as ending
 use Rattle.planar_code.specs.Stream.{IsUnfinished}
 use Rattle.planar_code.specs.Split.{IsDivided, BeginsWithZero, EndsAs, IsSplit}
 use Rattle.planar_code.proofs.Divisions.{divided_same}

@@ -1,7 +1,7 @@
 -- Why bytes are not one record.
 use Rattle.std.specs.Prelude.{◌≡◌, ◌≢◌, ℕ, List, [], ◌++◌}
-use Rattle.planar_code.specs.declared.parse.ParseFault.{ParseFault}
-use Rattle.planar_code.specs.declared.parse.ParseFault.TheVariants as fault
+use Rattle.planar_code.specs.declared.record.ParseFault.{ParseFault}
+use Rattle.planar_code.specs.declared.record.ParseFault.TheVariants as fault
 use Rattle.planar_code.specs.Stream.{IsRecord, IsUnfinished}
 use Rattle.planar_code.specs.Split.{BeginsWithZero}
 use Rattle.planar_code.specs.Started.{IsOversize}

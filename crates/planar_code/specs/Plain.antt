@@ -2,9 +2,9 @@
 use Rattle.std.specs.Prelude.{◌≡◌, ℕ, ◌-◌, ◌<◌, ◌≤◌, List, ◌++◌, length, take, All}
 use Rattle.std.specs.List.{concat}
 use Rattle.planar_code.specs.declared.TheConstants.{MAX_RECORDS}
-use Rattle.planar_code.specs.declared.ending.Ending.{Ending}
-use Rattle.planar_code.specs.declared.plain.End.{End}
-use Rattle.planar_code.specs.declared.plain.End.TheVariants as end
+use Rattle.planar_code.specs.declared.partial_record.Ending.{Ending}
+use Rattle.planar_code.specs.declared.record.End.{End}
+use Rattle.planar_code.specs.declared.record.End.TheVariants as end
 use Rattle.planar_code.specs.Stream.{IsRecord, IsUnfinished}
 use Rattle.planar_code.specs.Split.{IsDivided, EndsAs}
 use Rattle.planar_code.specs.Started.{IsStarted, IsOversize}

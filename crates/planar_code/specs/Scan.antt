@@ -1,9 +1,9 @@
 -- The results of reading further in a record.
 use Rattle.std.specs.Prelude.{◌≡◌, ℕ, ◌<◌, ◌≤◌, List, [], ◌++◌, length, take, Option, Some, None, Result, Ok, Err}
-use Rattle.planar_code.specs.declared.scan.Scan.{Scan}
-use Rattle.planar_code.specs.declared.scan.Scan.TheVariants as scan
-use Rattle.planar_code.specs.declared.fault.FeedFault.{FeedFault}
-use Rattle.planar_code.specs.declared.fault.FeedFault.TheVariants as fault
+use Rattle.planar_code.specs.declared.partial_record.Scan.{Scan}
+use Rattle.planar_code.specs.declared.partial_record.Scan.TheVariants as scan
+use Rattle.planar_code.specs.declared.partial_record.FeedFault.{FeedFault}
+use Rattle.planar_code.specs.declared.partial_record.FeedFault.TheVariants as fault
 use Rattle.planar_code.specs.Stream.{IsRecord, IsUnfinished}
 use Rattle.planar_code.specs.Split.{BeginsWithZero}
 use Rattle.planar_code.specs.Started.{IsStarted, IsOversize}

@@ -2,10 +2,10 @@
 use Rattle.std.specs.Prelude.{◌≡◌, ◌≢◌, ◌⊎◌, ℕ, ◌≤◌, List, [], ◌∷◌, ◌++◌, length, All}
 use Rattle.std.specs.List.{concat}
 use Rattle.planar_code.specs.declared.TheConstants.{HEADER, MAX_RECORDS}
-use Rattle.planar_code.specs.declared.ending.Ending.{Ending}
-use Rattle.planar_code.specs.declared.ending.Ending.TheVariants as ending
-use Rattle.planar_code.specs.declared.fault.FeedFault.{FeedFault}
-use Rattle.planar_code.specs.declared.fault.FeedFault.TheVariants as fault
+use Rattle.planar_code.specs.declared.partial_record.Ending.{Ending}
+use Rattle.planar_code.specs.declared.partial_record.Ending.TheVariants as ending
+use Rattle.planar_code.specs.declared.partial_record.FeedFault.{FeedFault}
+use Rattle.planar_code.specs.declared.partial_record.FeedFault.TheVariants as fault
 use Rattle.planar_code.specs.Stream.{IsRecord, IsUnfinished}
 
 -- the bytes after the header are divided into the longest list of whole records, at most 1,000,000 of

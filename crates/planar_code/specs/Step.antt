@@ -1,7 +1,7 @@
 -- What one step of a framer does, and what several do.
 use Rattle.std.specs.Prelude.{◌≡◌, ℕ, ◌<◌, ◌≤◌, List, [], ◌++◌, length, take, Option, option_to_list, Result, Ok, Err}
-use Rattle.planar_code.specs.declared.fault.FeedFault.{FeedFault}
-use Rattle.planar_code.specs.declared.fault.FeedFault.TheVariants as fault
+use Rattle.planar_code.specs.declared.partial_record.FeedFault.{FeedFault}
+use Rattle.planar_code.specs.declared.partial_record.FeedFault.TheVariants as fault
 use Rattle.planar_code.specs.FramerState.{FramerState, Failed, Goes, HasNotFailed, LosesRecord}
 
 -- a step takes some bytes of a text and returns a record or none; if it fails, the state that the whole text leads to

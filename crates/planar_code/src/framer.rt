@@ -5,11 +5,9 @@ ghost use Rattle.planar_code.specs.declared.TheConstants.{MAX_RECORDS};
 ghost use Rattle.planar_code.specs.Split.{IsSplit, MayGoOn, ending_of};
 ghost use Rattle.planar_code.specs.FramerState.{FramerState, Early, After, Failed, StandsAt, HasNotFailed, Feeds, HasMore, beyond};
 ghost use Rattle.planar_code.specs.Step.{FramerSteps};
-ghost use Rattle.planar_code.specs.declared.fault.FeedFault.{FeedFault};
+ghost use Rattle.planar_code.specs.declared.partial_record.FeedFault.{FeedFault};
 
-use crate::ending::Ending;
-use crate::fault::FeedFault;
-use crate::partial_record::PartialRecord;
+use crate::partial_record::{Ending, FeedFault, PartialRecord};
 use crate::record::Record;
 use crate::{HEADER, MAX_RECORDS};
 use std::alloc::{AllocError, Global};

@@ -1,8 +1,8 @@
 //! Theorems about records and how a stream splits into them, each as the contract of an empty function.
 ghost use Rattle.std.specs.Prelude.{codes, ◌≡◌, ℕ, ◌<◌, ◌≤◌, List, [], ◌++◌, length, All};
 ghost use Rattle.planar_code.specs.declared.TheConstants.{MAX_RECORDS};
-ghost use Rattle.planar_code.specs.declared.ending.Ending.{Ending};
-ghost use Rattle.planar_code.specs.declared.parse.ParseFault.{ParseFault};
+ghost use Rattle.planar_code.specs.declared.partial_record.Ending.{Ending};
+ghost use Rattle.planar_code.specs.declared.record.ParseFault.{ParseFault};
 ghost use Rattle.planar_code.specs.Stream.{IsRecord, HasLongList, lists_of};
 ghost use Rattle.planar_code.specs.Split.{IsSplit, MayGoOn};
 ghost use Rattle.planar_code.specs.FramerState.{FramerState, StandsAt, HasNotFailed};

@@ -6,22 +6,14 @@
 //! one.)
 #![tactic(auto)]
 
-mod ending;
-mod fault;
 mod framer;
 pub mod laws;
-mod parse;
 mod partial_record;
-mod plain;
 mod record;
-mod scan;
 
-pub use ending::Ending;
-pub use fault::FeedFault;
 pub use framer::Framer;
-pub use parse::ParseFault;
-pub use plain::{End, record_end};
-pub use record::Record;
+pub use partial_record::{Ending, FeedFault};
+pub use record::{End, ParseFault, Record, record_end};
 
 /// The 15 bytes with which every stream begins.
 pub const HEADER: [u8; 15] = *b">>planar_code<<";

@@ -1,13 +1,112 @@
-//! The record that a stream has begun but not ended.
-ghost use Rattle.std.specs.Prelude.{◌≡◌, ℕ, ◌<◌, List, [], ◌++◌, length, IsTrue, ◌↔◌, IfOk, OnOk, OnErr};
+//! The record that a stream of planar_code has begun but not ended (plantri, Brinkmann and McKay). It is read further
+//! list by list. Here are also the ways in which a stream ends, and the faults at which a framer stops reading.
+ghost use Rattle.std.specs.Prelude.{◌≡◌, ℕ, ◌<◌, ◌≤◌, List, ◌++◌, length, take, [], IsTrue, ◌↔◌, IfOk, OnOk, OnErr};
+ghost use Rattle.planar_code.specs.declared.TheConstants.{MAX_LIST};
 ghost use Rattle.planar_code.specs.Started.{IsStarted};
 ghost use Rattle.planar_code.specs.Scan.{Scans, TakesFrom};
 
-use crate::fault::FeedFault;
+use crate::MAX_LIST;
 use crate::record::Record;
-use crate::scan::{Scan, scan_lists};
 use std::alloc::{AllocError, Global};
 use std::marker::Model;
+use thiserror::Error;
+
+/// The way in which a stream ends. It is `Many` if any bytes follow the millionth record.
+#[derive(Clone, Copy, Debug, PartialEq, Eq, Hash)]
+pub enum Ending {
+    /// The bytes are the header followed by whole records and nothing else.
+    Complete,
+    /// The bytes end within a record.
+    Truncated,
+    /// The bytes do not begin with the whole header.
+    Header,
+    /// A record begins with byte 0, which announces the two-byte form for large graphs.
+    Large,
+    /// A neighbour list has more than 254 entries.
+    Oversize,
+    /// Memory ran out for a record; this can happen with any bytes.
+    Memory,
+    /// More bytes follow the millionth record.
+    Many,
+}
+
+/// The reason why a framer stops reading.
+#[derive(Clone, Copy, Debug, PartialEq, Eq, Hash, Error)]
+pub enum FeedFault {
+    /// A byte differs from the header.
+    #[error("the input does not begin with >>planar_code<<")]
+    Header,
+    /// A record begins with byte 0.
+    #[error("a record begins with byte 0; the two-byte form is not supported")]
+    Large,
+    /// A neighbour list has a 255th entry.
+    #[error("a neighbour list has more than 254 entries")]
+    Oversize,
+    /// Memory ran out for a record.
+    #[error("out of memory")]
+    Memory,
+    /// A byte follows the last of 1,000,000 records.
+    #[error("more than 1000000 records")]
+    Many,
+}
+
+impl From<FeedFault> for Ending {
+    ghost use Rattle.std.specs.Prelude.{◌≡◌};
+    ghost use Rattle.planar_code.specs.Split.{ending_of};
+
+    ghost from_gives = { λ f e. e ≡ ending_of f };
+
+    fn from(fault: FeedFault) -> Ending {
+        match fault {
+            FeedFault::Header => Ending::Header,
+            FeedFault::Large => Ending::Large,
+            FeedFault::Oversize => Ending::Oversize,
+            FeedFault::Memory => Ending::Memory,
+            FeedFault::Many => Ending::Many,
+        }
+    }
+}
+
+/// The result of reading further bytes of a record: where it ends, or that it is still partial.
+pub enum Scan {
+    /// The record ends after this many bytes.
+    Whole(usize),
+    /// The record is still partial: `remaining` lists are not yet ended, and the partial one has `entries` entries.
+    Open { remaining: u8, entries: u8 },
+}
+
+/// Reads `text` from index `from` on as the rest of a record; returns where the record ends, or that it is partial.
+///
+/// `remaining` lists are not yet ended, including the partial one, which has `entries` entries so far.
+pub fn scan_lists(
+    text: &[u8],
+    from: usize,
+    mut remaining: u8,
+    mut entries: u8,
+) -> Result<Scan, FeedFault>
+    requires within { from ≤ length text.now }
+    requires some { 0 < remaining }
+    requires short { entries ≤ MAX_LIST }
+    ensures { (before : List ℕ)
+        → IsStarted (before ++ take from text.now) remaining entries
+        → Scans before text.now result }
+{
+    for i in from..text.len() {
+        if text[i] != 0 {
+            if usize::from(entries) == MAX_LIST {
+                return Err(FeedFault::Oversize);
+            }
+            entries += 1;
+            continue;
+        }
+        remaining -= 1;
+        if remaining == 0 {
+            return Ok(Scan::Whole(i + 1));
+        }
+        entries = 0;
+    }
+    Ok(Scan::Open { remaining, entries })
+}
 
 /// The maximum number of bytes of a record: its first byte, and 255 lists of 254 entries and a 0.
 pub(crate) const MAX_BYTES: usize = 65_026;

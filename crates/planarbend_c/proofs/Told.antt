@@ -1,10 +1,10 @@
 -- From what is told of a finding to what comes of a call.
 use Rattle.std.proofs.Common.{◌≡◌, ◌∙◌, ℕ, List, Bool, false, Option, Some, None, ap, inr, is_some, sym}
-use Rattle.common.specs.declared.choice.Choice.{Choice}
-use Rattle.common.specs.declared.drawing_kind.DrawingKind.{DrawingKind}
-use Rattle.planarbend_c.specs.declared.counts.Counts.{Counts}
-use Rattle.planarbend_c.specs.declared.outcome.Outcome.{Outcome}
-use Rattle.planarbend_c.specs.declared.outcome.Outcome.TheVariants.{Laid, Refused, NotARecord, Memory, Room, Argument, NoShape, NoEdge, NoOuter, Wide, Large, Conflict}
+use Rattle.common.specs.declared.parameters.Choice.{Choice}
+use Rattle.common.specs.declared.parameters.DrawingKind.{DrawingKind}
+use Rattle.planarbend_c.specs.declared.lists.Counts.{Counts}
+use Rattle.planarbend_c.specs.declared.request.Outcome.{Outcome}
+use Rattle.planarbend_c.specs.declared.request.Outcome.TheVariants.{Laid, Refused, NotARecord, Memory, Room, Argument, NoShape, NoEdge, NoOuter, Wide, Large, Conflict}
 use Rattle.planarbend_c.specs.declared.request.Request.{Request}
 use Rattle.planarbend_c.specs.Cuts.{CutModel}
 use Rattle.planarbend_c.specs.Sources.{Input, IsOneRecord, input_lists, input_of}

@@ -3,7 +3,7 @@ use Rattle.std.proofs.Common.{◌≡◌, ◌∙◌, ◌+◌, ◌*◌, ◌-◌, �
 use Rattle.std.specs.Bool.{◌==◌}
 use Rattle.std.proofs.lemmas.Bool.{eqb-false}
 use Rattle.std.proofs.lemmas.List.{drop-drop, take_all, take_more, take_more_set}
-use Rattle.planarbend_c.specs.declared.counts.Counts.{Counts}
+use Rattle.planarbend_c.specs.declared.lists.Counts.{Counts}
 use Rattle.planarbend_c.specs.Held.{IsSameAfter, ListsModel}
 use Rattle.planarbend_c.specs.Left.{AreSameAfter}
 

@@ -1,8 +1,8 @@
 -- The numbers by which C knows what comes of a call.
 use Rattle.std.specs.Prelude.{ℕ}
 use Rattle.embedding.specs.Rules.{rule_number}
-use Rattle.planarbend_c.specs.declared.outcome.Outcome.{Outcome}
-use Rattle.planarbend_c.specs.declared.outcome.Outcome.TheVariants.{Laid, Refused, NotARecord, Memory, Room, Argument, NoShape, NoEdge, NoOuter, Wide, Large, Conflict}
+use Rattle.planarbend_c.specs.declared.request.Outcome.{Outcome}
+use Rattle.planarbend_c.specs.declared.request.Outcome.TheVariants.{Laid, Refused, NotARecord, Memory, Room, Argument, NoShape, NoEdge, NoOuter, Wide, Large, Conflict}
 
 abbrev pub code_of : Outcome → ℕ
 code_of Laid = 0

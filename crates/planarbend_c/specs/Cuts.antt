@@ -1,8 +1,8 @@
 -- What C is told of why no shape keeps the angles and turns.
 use Rattle.std.specs.Prelude.{◌≡◌, ℕ, ◌<◌, Bool, List, length, slice_index, if◌then◌else◌}
 use Rattle.flow_network.specs.Marks.{is_marked}
-use Rattle.conditions.specs.declared.fault.Unkept.{Unkept}
-use Rattle.planarbend_c.specs.declared.cut.CutLists.{CutLists}
+use Rattle.conditions.specs.declared.cuts.Unkept.{Unkept}
+use Rattle.planarbend_c.specs.declared.layout.CutLists.{CutLists}
 
 -- what stands in the lists of a cut
 pub record CutModel : Type 0 where

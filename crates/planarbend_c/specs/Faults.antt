@@ -1,21 +1,21 @@
 -- Why a graph, given by its neighbour lists, is not laid out, and why what a caller gives is not.
 use Rattle.std.specs.Prelude.{◌≡◌, ◌⊎◌, ℕ, List, ⊤}
 use Rattle.embedding.specs.Rules.{FirstBroken}
-use Rattle.common.specs.declared.choice.Choice.{Choice}
+use Rattle.common.specs.declared.parameters.Choice.{Choice}
 use Rattle.faces.specs.Planes.{PlaneModel, IsPlane}
 use Rattle.ortho_rep.specs.Shapes.{ShapeModel}
 use Rattle.ortho_rep.specs.Prices.{PricesModel}
-use Rattle.reports.specs.declared.cause.Cause.TheVariants as cause
+use Rattle.reports.specs.declared.answer.Cause.TheVariants as cause
 use Rattle.reports.specs.Drawn.{IsCause}
 use Rattle.conditions.specs.declared.conditions.Conditions.{Conditions}
-use Rattle.conditions.specs.declared.fault.KeepFault.TheVariants as keep
-use Rattle.conditions.specs.declared.fault.Unkept.{Unkept}
+use Rattle.conditions.specs.declared.cuts.KeepFault.TheVariants as keep
+use Rattle.conditions.specs.declared.cuts.Unkept.{Unkept}
 use Rattle.conditions.specs.Chosen.{IsKept}
 use Rattle.answers.specs.Kept.{IsUnkept}
 use Rattle.planarbend_c.specs.Cuts.{CutModel, HoldsCut}
 use Rattle.planarbend_c.specs.Sources.{Input, IsOneRecord, IsTooLarge, input_lists}
-use Rattle.planarbend_c.specs.declared.outcome.Outcome.{Outcome}
-use Rattle.planarbend_c.specs.declared.outcome.Outcome.TheVariants.{Refused, NotARecord, Memory, Argument, NoShape, NoEdge, NoOuter, Wide, Large, Conflict}
+use Rattle.planarbend_c.specs.declared.request.Outcome.{Outcome}
+use Rattle.planarbend_c.specs.declared.request.Outcome.TheVariants.{Refused, NotARecord, Memory, Argument, NoShape, NoEdge, NoOuter, Wide, Large, Conflict}
 
 -- what an outcome shows of neighbour lists that are not laid out
 abbrev pub IsFault : List (List ℕ) → Outcome → Type 0

@@ -1,12 +1,12 @@
 -- What a call finds of a graph, given by its neighbour lists, and how it is told to C.
 use Rattle.std.specs.Prelude.{◌≡◌, ℕ, ◌+◌, ◌*◌, ◌<◌, ◌≤◌, List, length, map, take, slice_index, Bool, true, Option, Some, None, is_some, ⊤}
 use Rattle.std.specs.List.{flat_map}
-use Rattle.common.specs.declared.choice.Choice.{Choice}
-use Rattle.common.specs.declared.drawing_kind.DrawingKind.{DrawingKind}
-use Rattle.common.specs.declared.drawing_kind.DrawingKind.TheVariants.{Quick}
+use Rattle.common.specs.declared.parameters.Choice.{Choice}
+use Rattle.common.specs.declared.parameters.DrawingKind.{DrawingKind}
+use Rattle.common.specs.declared.parameters.DrawingKind.TheVariants.{Quick}
 use Rattle.faces.specs.Planes.{PlaneModel, IsPlane, darts, vertices}
-use Rattle.ortho_rep.specs.declared.turn.Turn.{Turn}
-use Rattle.ortho_rep.specs.declared.points.Point.{Point}
+use Rattle.ortho_rep.specs.declared.turn_strings.Turn.{Turn}
+use Rattle.ortho_rep.specs.declared.grid_points.Point.{Point}
 use Rattle.ortho_rep.specs.Turns.{lefts, rights}
 use Rattle.ortho_rep.specs.Shapes.{ShapeModel, turns_at}
 use Rattle.ortho_rep.specs.Points.{PointsModel}
@@ -18,8 +18,8 @@ use Rattle.conditions.specs.Chosen.{IsKept}
 use Rattle.reports.specs.Lengths.{IsQuick}
 use Rattle.answers.specs.Drawings.{IsDrawing}
 use Rattle.answers.specs.Kept.{AreDrawnStraight, KeepsAsked}
-use Rattle.planarbend_c.specs.declared.counts.Counts.{Counts}
-use Rattle.planarbend_c.specs.declared.laid.Layout.{Layout}
+use Rattle.planarbend_c.specs.declared.lists.Counts.{Counts}
+use Rattle.planarbend_c.specs.declared.request.Layout.{Layout}
 use Rattle.planarbend_c.specs.declared.lists.DartTurns.{DartTurns}
 use Rattle.planarbend_c.specs.declared.lists.GridPoint.{GridPoint}
 use Rattle.planarbend_c.specs.Requests.{shape_kind}

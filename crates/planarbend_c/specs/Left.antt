@@ -1,6 +1,6 @@
 -- What a call leaves as it was.
 use Rattle.std.specs.Prelude.{◌≡◌, ◌+◌, ◌*◌, length}
-use Rattle.planarbend_c.specs.declared.counts.Counts.{Counts}
+use Rattle.planarbend_c.specs.declared.lists.Counts.{Counts}
 use Rattle.planarbend_c.specs.Held.{ListsModel, IsSameAfter}
 use Rattle.planarbend_c.specs.Cuts.{CutModel}
 

@@ -1,15 +1,15 @@
 -- What comes of a call, by its number, and what it shows.
 use Rattle.std.specs.Prelude.{◌≡◌, ◌⊎◌, ℕ, List, Option, Some, None, is_some, ⊤}
 use Rattle.embedding.specs.Rules.{FirstBroken}
-use Rattle.common.specs.declared.choice.Choice.{Choice}
-use Rattle.common.specs.declared.drawing_kind.DrawingKind.{DrawingKind}
+use Rattle.common.specs.declared.parameters.Choice.{Choice}
+use Rattle.common.specs.declared.parameters.DrawingKind.{DrawingKind}
 use Rattle.planarbend_c.specs.declared.request.Request.{Request}
 use Rattle.planarbend_c.specs.Cuts.{CutModel}
 use Rattle.planarbend_c.specs.Sources.{Input, IsOneRecord, IsTooLarge, input_lists, input_of}
 use Rattle.planarbend_c.specs.Faults.{IsKeepingFault}
-use Rattle.planarbend_c.specs.declared.counts.Counts.{Counts}
-use Rattle.planarbend_c.specs.declared.outcome.Outcome.{Outcome}
-use Rattle.planarbend_c.specs.declared.outcome.Outcome.TheVariants.{Laid, Refused, NotARecord, Memory, Room, Argument, NoShape, NoEdge, NoOuter, Wide, Large, Conflict}
+use Rattle.planarbend_c.specs.declared.lists.Counts.{Counts}
+use Rattle.planarbend_c.specs.declared.request.Outcome.{Outcome}
+use Rattle.planarbend_c.specs.declared.request.Outcome.TheVariants.{Laid, Refused, NotARecord, Memory, Room, Argument, NoShape, NoEdge, NoOuter, Wide, Large, Conflict}
 use Rattle.planarbend_c.specs.Requests.{AsksNothing, choice_in, drawing_in}
 use Rattle.planarbend_c.specs.Held.{ListsModel}
 use Rattle.planarbend_c.specs.Found.{Finding, IsAsAsked, IsFound, IsFoundKeeping, AreCounts, HoldFinding, HaveRoom}

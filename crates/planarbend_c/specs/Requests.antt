@@ -1,9 +1,9 @@
 -- What C asks for: an outer face and a drawing, by numbers, and conditions.
 use Rattle.std.specs.Prelude.{◌≡◌, ℕ, zero, suc, [], Option, Some, None}
-use Rattle.common.specs.declared.choice.Choice.{Choice}
-use Rattle.common.specs.declared.choice.Choice.TheVariants.{First, Best}
-use Rattle.common.specs.declared.drawing_kind.DrawingKind.{DrawingKind}
-use Rattle.common.specs.declared.drawing_kind.DrawingKind.TheVariants.{Quick, Short}
+use Rattle.common.specs.declared.parameters.Choice.{Choice}
+use Rattle.common.specs.declared.parameters.Choice.TheVariants.{First, Best}
+use Rattle.common.specs.declared.parameters.DrawingKind.{DrawingKind}
+use Rattle.common.specs.declared.parameters.DrawingKind.TheVariants.{Quick, Short}
 use Rattle.conditions.specs.declared.conditions.Conditions.{Conditions}
 
 -- the choice of an outer face with this number

@@ -2,9 +2,9 @@
 use Rattle.std.specs.Prelude.{ℕ, Bool, true, false, List, ⊤}
 use Rattle.planar_code.specs.Stream.{IsRecord, lists_of}
 use Rattle.embedding.specs.Wide.{IsWideRecord, BeginsAboveLimit}
-use Rattle.planarbend_c.specs.declared.parsed.Parsed.{Parsed}
-use Rattle.planarbend_c.specs.declared.parsed.Parsed.TheVariants as parsed
-use Rattle.planarbend_c.specs.declared.source.Source.{Source}
+use Rattle.planarbend_c.specs.declared.request.Parsed.{Parsed}
+use Rattle.planarbend_c.specs.declared.request.Parsed.TheVariants as parsed
+use Rattle.planarbend_c.specs.declared.request.Source.{Source}
 
 -- entries of 8 bits, or of 16
 pub data Input : Type 0 where

@@ -1,7 +1,7 @@
 //! The call that C makes.
 
 ghost use Rattle.std.specs.Prelude.{◌≡◌, false, Some, None, is_some};
-ghost use Rattle.planarbend_c.specs.declared.outcome.Outcome.{Outcome};
+ghost use Rattle.planarbend_c.specs.declared.request.Outcome.{Outcome};
 ghost use Rattle.planarbend_c.specs.Codes.{code_of};
 ghost use Rattle.planarbend_c.specs.Held.{contents};
 ghost use Rattle.planarbend_c.specs.Cuts.{cut_contents};
@@ -10,16 +10,12 @@ ghost use Rattle.planarbend_c.specs.Requests.{drawing_in};
 ghost use Rattle.planarbend_c.specs.Left.{AreAsLong, AreSameAfter, HaveSamePoints};
 ghost use Rattle.planarbend_c.specs.Outcomes.{IsOutcome, IsTold};
 
-use crate::counts::{Counts, counts_of};
-use crate::cut::CutLists;
-use crate::keeping::lay_out_keeping;
-use crate::laid::Layout;
-use crate::layout::lay_out;
-use crate::lists::Lists;
-use crate::outcome::Outcome;
-use crate::points::{put_corner_starts, put_corners, put_points};
-use crate::request::{Request, asks_nothing, choice_of, drawing_of};
-use crate::shapes::{put_angles, put_face_prices, put_turns, put_vertex_prices};
+use crate::layout::{CutLists, lay_out, lay_out_keeping};
+use crate::lists::{
+    Counts, Lists, counts_of, put_angles, put_corner_starts, put_corners, put_face_prices,
+    put_points, put_turns, put_vertex_prices,
+};
+use crate::request::{Layout, Outcome, Request, asks_nothing, choice_of, drawing_of};
 use std::alloc::Global;
 
 /// Lays out the record of a request, under its conditions if it has any, and returns the code of the outcome.

@@ -1,20 +1,24 @@
-//! What is found of a record.
-
-ghost use Rattle.std.specs.Prelude.{◌≡◌, IfOk, IfErr, is_some};
+//! What is found of a record, also of one whose layout keeps conditions, and why no shape keeps the angles and turns,
+//! in lists for C.
+ghost use Rattle.std.specs.Prelude.{◌≡◌, IfOk, IfErr, is_some, length, ℕ, List, OnOk};
 ghost use Rattle.ortho_rep.specs.Representation.{IsLeast};
 ghost use Rattle.answers.specs.Steps.{IsLeastPlane};
 ghost use Rattle.planarbend_c.specs.Requests.{shape_kind};
 ghost use Rattle.planarbend_c.specs.Sources.{IsOneRecord, input_lists, input_of, parsed_lists};
-ghost use Rattle.planarbend_c.specs.Found.{IsAsAsked, IsDrawnIfAsked, IsFound, IsQuickIfAsked, finding_of};
-ghost use Rattle.planarbend_c.specs.Faults.{IsFault, IsFaultOf};
+ghost use Rattle.planarbend_c.specs.Found.{IsAsAsked, IsDrawnIfAsked, IsFound, IsQuickIfAsked, finding_of, IsFoundKeeping};
+ghost use Rattle.planarbend_c.specs.Faults.{IsFault, IsFaultOf, IsKeepingFault, IsKeepingFaultOf};
+ghost use Rattle.planarbend_c.specs.Cuts.{HoldsCut, HoldsMarks, cut_contents};
+ghost use Rattle.planarbend_c.specs.Left.{AreAsLong};
+ghost use Rattle.common.specs.declared.parameters.Choice.{Choice};
+ghost use Rattle.conditions.specs.declared.conditions.Conditions.{Conditions};
+ghost use Rattle.answers.specs.Kept.{IsUnkept};
+ghost use Rattle.planarbend_c.specs.declared.request.Outcome.{Outcome};
 
-use crate::laid::Layout;
-use crate::outcome::Outcome;
-use crate::parsed::{Parsed, parse};
-use crate::request::shape_kind;
-use crate::source::Source;
+use crate::request::{Layout, Outcome, Parsed, Source, parse, shape_kind};
 use answers::{RecordScratch, ShapedPlane};
 use common::{Choice, DrawingKind};
+use compact::CompactFault;
+use conditions::{Conditions, KeepFault, Unkept};
 use embedding::ReadFault;
 use ortho_rep::Points;
 use std::alloc::{AllocError, Global};
@@ -92,5 +96,122 @@ fn drawn(
     match scratch.points(alloc, shaped_plane) {
         Ok(points) => Ok(Some(points)),
         Err(AllocError) => Err(Outcome::Memory),
+    }
+}
+
+/// The output lists of a call in which no shape keeps the angles and turns: marks of a cut that proves it.
+///
+/// The cut is a set of vertices and faces that turn more than can leave it.
+///
+/// An entry is 1 for each vertex or face of the set, and otherwise 0.
+#[repr(C)]
+pub struct CutLists<'a> {
+    pub vertices: &'a mut [u8],
+    pub faces: &'a mut [u8],
+    /// The number of the outer face for which the cut proves it.
+    pub outer: u32,
+}
+
+/// Puts the vertices and faces, and the outer face.
+pub(crate) fn put_cut(out: &mut CutLists<'_>, why: &Unkept)
+    ensures held { HoldsCut why.now (cut_contents out.new) }
+    ensures long { AreAsLong (cut_contents out.old) (cut_contents out.new) }
+{
+    put_marks(out.vertices, &why.cut.vertices);
+    put_marks(out.faces, &why.cut.faces);
+    out.outer = u32::from(why.outer);
+}
+
+/// Puts 1 for each mark, and 0 everywhere else.
+fn put_marks(out: &mut [u8], marks: &[bool])
+    ensures held { HoldsMarks out.new marks.now }
+    ensures long { length out.new ≡ length out.old }
+{
+    for place in 0..out.len() {
+        out[place] = u8::from(place < marks.len() && marks[place]);
+    }
+}
+
+/// The layout that keeps conditions of the record that the source is, with this drawing or none.
+///
+/// If no shape keeps the angles and turns, the cut is written.
+pub(crate) fn lay_out_keeping(
+    alloc: Global,
+    source: &Source<'_>,
+    choice: Choice,
+    kind: Option<DrawingKind>,
+    conditions: &Conditions<'_>,
+    cut: &mut CutLists<'_>,
+) -> Result<Layout, Outcome>
+    ensures found { IfOk result (λ layout. IsFoundKeeping conditions.now choice (input_lists (input_of source.now)) (finding_of layout)) }
+    ensures asked { IfOk result (λ layout. IsAsAsked kind (finding_of layout)) }
+    ensures is_record { IfOk result (λ _. IsOneRecord (input_of source.now)) }
+    ensures fault { IfErr result (IsKeepingFaultOf conditions.now choice (input_of source.now) (cut_contents cut.new)) }
+    ensures laid { OnOk result (cut_contents cut.new ≡ cut_contents cut.old) }
+    ensures uncut { IfErr result (λ fault. ¬ (fault ≡ Outcome.NoShape) → cut_contents cut.new ≡ cut_contents cut.old) }
+    ensures long { AreAsLong (cut_contents cut.old) (cut_contents cut.new) }
+{
+    match parse(alloc, source) {
+        Ok(rec) => laid_keeping(alloc, &rec, choice, kind, conditions, cut),
+        Err(outcome) => Err(outcome),
+    }
+}
+
+/// The layout that keeps conditions of a record, with this drawing or none.
+fn laid_keeping(
+    alloc: Global,
+    rec: &Parsed,
+    choice: Choice,
+    kind: Option<DrawingKind>,
+    conditions: &Conditions<'_>,
+    cut: &mut CutLists<'_>,
+) -> Result<Layout, Outcome>
+    ensures found { IfOk result (λ layout. IsFoundKeeping conditions.now choice (parsed_lists rec.now) (finding_of layout)) }
+    ensures asked { IfOk result (λ layout. IsAsAsked kind (finding_of layout)) }
+    ensures fault { IfErr result (IsKeepingFault conditions.now choice (parsed_lists rec.now) (cut_contents cut.new)) }
+    ensures laid { OnOk result (cut_contents cut.new ≡ cut_contents cut.old) }
+    ensures uncut { IfErr result (λ fault. ¬ (fault ≡ Outcome.NoShape) → cut_contents cut.new ≡ cut_contents cut.old) }
+    ensures long { AreAsLong (cut_contents cut.old) (cut_contents cut.new) }
+{
+    let mut scratch = RecordScratch::empty(alloc);
+    let laid = match rec.shape_keeping(alloc, &mut scratch, conditions, choice, shape_kind(kind)) {
+        Ok(Ok(laid)) => laid,
+        Ok(Err(fault)) => return Err(unkept(fault, cut)),
+        Err(ReadFault::Rule(rule)) => return Err(Outcome::Refused(rule)),
+        Err(ReadFault::Memory) => return Err(Outcome::Memory),
+    };
+    if kind.is_none() {
+        let drawing = None;
+        return Ok(Layout { laid, drawing });
+    }
+    match scratch.draw_keeping(alloc, &laid) {
+        Ok(drawn) => {
+            let drawing = Some(drawn.into_points());
+            Ok(Layout { laid, drawing })
+        }
+        Err(CompactFault::Wide) => Err(Outcome::Wide),
+        Err(CompactFault::Memory) => Err(Outcome::Memory),
+    }
+}
+
+/// The outcome of a call if the plane of a record has no shape that keeps the conditions for this reason. If none keeps
+/// the angles and turns, the cut is written.
+fn unkept(fault: KeepFault, cut: &mut CutLists<'_>) -> Outcome
+    ensures told { (conditions : Conditions) (choice : Choice) (g : List (List ℕ))
+        → IsUnkept conditions choice g fault → IsKeepingFault conditions choice g (cut_contents cut.new) result }
+    ensures uncut { ¬ (result ≡ Outcome.NoShape) → cut_contents cut.new ≡ cut_contents cut.old }
+    ensures long { AreAsLong (cut_contents cut.old) (cut_contents cut.new) }
+{
+    match fault {
+        KeepFault::NoShape(why) => {
+            put_cut(cut, &why);
+            Outcome::NoShape
+        }
+        KeepFault::NoAngle => Outcome::Argument,
+        KeepFault::NoEdge => Outcome::NoEdge,
+        KeepFault::Conflict => Outcome::Conflict,
+        KeepFault::TooManyTurns => Outcome::Argument,
+        KeepFault::NoOuter => Outcome::NoOuter,
+        KeepFault::Memory => Outcome::Memory,
     }
 }

@@ -4,7 +4,7 @@ use Rattle.std.specs.List.{range_with_len}
 use Rattle.std.proofs.lemmas.Bool.{both_ways, cases_eq, cond-true}
 use Rattle.std.proofs.lemmas.List.{get_or-map, get_or_append_left, get_or_push}
 use Rattle.faces.specs.Planes.{PlaneModel, darts}
-use Rattle.ortho_rep.specs.declared.points.Point.{Point}
+use Rattle.ortho_rep.specs.declared.grid_points.Point.{Point}
 use Rattle.ortho_rep.specs.Points.{PointsModel}
 use Rattle.ortho_rep.specs.Edges.{is_lesser, lesser_darts, edge_number}
 use Rattle.ortho_rep.proofs.EdgeNumbers.{edge_number-below, lesser-more, length-lesser}

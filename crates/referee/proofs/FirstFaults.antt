@@ -6,15 +6,15 @@ use Rattle.geometry.specs.declared.direction.Direction.{Direction}
 use Rattle.geometry.specs.declared.direction.Direction.TheVariants.{East, North, West, South}
 use Rattle.geometry.specs.Directions.{opposite_of}
 use Rattle.faces.specs.Planes.{PlaneModel, darts}
-use Rattle.ortho_rep.specs.declared.turn.Turn.{Turn}
-use Rattle.ortho_rep.specs.declared.turn.Turn.TheVariants.{Left, Right}
-use Rattle.ortho_rep.specs.declared.points.Point.{Point}
+use Rattle.ortho_rep.specs.declared.turn_strings.Turn.{Turn}
+use Rattle.ortho_rep.specs.declared.turn_strings.Turn.TheVariants.{Left, Right}
+use Rattle.ortho_rep.specs.declared.grid_points.Point.{Point}
 use Rattle.ortho_rep.specs.Points.{PointsModel, origin, corners_at}
 use Rattle.ortho_rep.specs.Edges.{is_lesser, edge_number}
 use Rattle.drawing_check.specs.Paths.{path_along}
 use Rattle.drawing_check.specs.Draws.{IsInGrid, AreInGrid, IsOnAxes, IsTurning, turned, direction_of}
-use Rattle.referee.specs.declared.fault.Fault.{Fault}
-use Rattle.referee.specs.declared.fault.Fault.TheVariants.{Vertices, Edges, Long, VertexOutOfGrid, CornerOutOfGrid, NotAxis, NoTurn, Embedding, Outer, Meet, Memory}
+use Rattle.referee.specs.declared.judge.Fault.{Fault}
+use Rattle.referee.specs.declared.judge.Fault.TheVariants.{Vertices, Edges, Long, VertexOutOfGrid, CornerOutOfGrid, NotAxis, NoTurn, Embedding, Outer, Meet, Memory}
 use Rattle.referee.specs.Drawings.{HasBoundedPoints}
 use Rattle.referee.specs.Faults.{IsFirst, IsFirstOnEdges, IsOutside, IsCornerOutside, IsSlanted, IsStraight, path_of_edge, AreOnGridLines, IsFirstFailure, IsCornerFault, IsAxisFault, IsTurnFault}
 use Rattle.referee.proofs.EdgePaths.{HasDart, dart_of_edge, path_of_lesser}

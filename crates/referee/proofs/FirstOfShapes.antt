@@ -6,13 +6,13 @@ use Rattle.faces.specs.Planes.{PlaneModel, with_outer}
 use Rattle.ortho_rep.specs.Shapes.{ShapeModel, angle_at, turns_at}
 use Rattle.ortho_rep.specs.Points.{PointsModel}
 use Rattle.ortho_rep.specs.Representation.{IsShape, HasDarts, turning_around}
-use Rattle.drawing_check.specs.declared.fault.CheckFault.{CheckFault}
-use Rattle.drawing_check.specs.declared.fault.CheckFault.TheVariants as check
+use Rattle.drawing_check.specs.declared.drawing.CheckFault.{CheckFault}
+use Rattle.drawing_check.specs.declared.drawing.CheckFault.TheVariants as check
 use Rattle.drawing_check.specs.Paths.{paths}
 use Rattle.drawing_check.specs.Draws.{AreInGrid, AreOnAxes, MeetNowhere}
 use Rattle.drawing_check.specs.Faults.{IsFirstFault}
-use Rattle.referee.specs.declared.fault.Fault.{Fault}
-use Rattle.referee.specs.declared.fault.Fault.TheVariants.{Vertices, Edges, Long, VertexOutOfGrid, CornerOutOfGrid, NotAxis, NoTurn, Embedding, Outer, Meet, Memory}
+use Rattle.referee.specs.declared.judge.Fault.{Fault}
+use Rattle.referee.specs.declared.judge.Fault.TheVariants.{Vertices, Edges, Long, VertexOutOfGrid, CornerOutOfGrid, NotAxis, NoTurn, Embedding, Outer, Meet, Memory}
 use Rattle.referee.specs.Drawings.{HasBoundedPoints}
 use Rattle.referee.specs.Taken.{IsTaken}
 use Rattle.referee.specs.Faults.{AreOnGridLines, AreOrdered, TurnsAround, HasNoOuter, MeetSomewhere, IsFirstFailure, IsDisorderFault}

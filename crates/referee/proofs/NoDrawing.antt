@@ -7,14 +7,14 @@ use Rattle.ortho_rep.specs.Shapes.{ShapeModel, angle_at, turns_at}
 use Rattle.ortho_rep.specs.Points.{PointsModel}
 use Rattle.ortho_rep.specs.Representation.{Rep, IsShape, HasDarts, angles_around, turning_around, whole_turn}
 use Rattle.ortho_rep.proofs.Tries.{ends_turned}
-use Rattle.drawing_check.specs.declared.fault.CheckFault.{CheckFault}
-use Rattle.drawing_check.specs.declared.fault.CheckFault.TheVariants.{OutOfGrid, NotAxis, WrongTurn, Meet, Memory}
+use Rattle.drawing_check.specs.declared.drawing.CheckFault.{CheckFault}
+use Rattle.drawing_check.specs.declared.drawing.CheckFault.TheVariants.{OutOfGrid, NotAxis, WrongTurn, Meet, Memory}
 use Rattle.drawing_check.specs.Paths.{paths}
 use Rattle.drawing_check.specs.Draws.{AreInGrid, AreOnAxes, HasPoints, TurnAsSaid}
 use Rattle.drawing_check.specs.Faults.{IsFirstFault}
-use Rattle.referee.specs.declared.fault.Fault.{Fault}
-use Rattle.referee.specs.declared.fault.Fault.TheVariants as fault
-use Rattle.referee.specs.declared.fault.Fault.TheVariants.{Vertices, Edges, Long, VertexOutOfGrid, CornerOutOfGrid, NoTurn, Embedding, Outer}
+use Rattle.referee.specs.declared.judge.Fault.{Fault}
+use Rattle.referee.specs.declared.judge.Fault.TheVariants as fault
+use Rattle.referee.specs.declared.judge.Fault.TheVariants.{Vertices, Edges, Long, VertexOutOfGrid, CornerOutOfGrid, NoTurn, Embedding, Outer}
 use Rattle.referee.specs.Drawings.{HasBoundedPoints, IsDrawn}
 use Rattle.referee.specs.Faults.{IsDisorderFault}
 use Rattle.referee.specs.Taken.{IsTaken}

@@ -7,9 +7,9 @@ use Rattle.geometry.specs.declared.direction.Direction.TheVariants.{East, North,
 use Rattle.geometry.specs.Directions.{quarters, left_quarters}
 use Rattle.geometry.proofs.Quarters.{quarters_of_lefts}
 use Rattle.faces.specs.Planes.{PlaneModel, HasEnds, darts, next, reverse_dart, with_outer}
-use Rattle.ortho_rep.specs.declared.turn.Turn.{Turn}
-use Rattle.ortho_rep.specs.declared.turn.Turn.TheVariants.{Left, Right}
-use Rattle.ortho_rep.specs.declared.points.Point.{Point}
+use Rattle.ortho_rep.specs.declared.turn_strings.Turn.{Turn}
+use Rattle.ortho_rep.specs.declared.turn_strings.Turn.TheVariants.{Left, Right}
+use Rattle.ortho_rep.specs.declared.grid_points.Point.{Point}
 use Rattle.ortho_rep.specs.Turns.{mirrored}
 use Rattle.ortho_rep.specs.Shapes.{ShapeModel, angle_at, turns_at}
 use Rattle.ortho_rep.specs.Points.{PointsModel}

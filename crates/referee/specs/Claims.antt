@@ -2,7 +2,7 @@
 use Rattle.std.specs.Prelude.{◌≡◌, ℕ, List, Option, IfSome, Vec, length}
 use Rattle.std.specs.declared.alloc.Global.{Global}
 use Rattle.faces.specs.Planes.{PlaneModel}
-use Rattle.ortho_rep.specs.declared.turn.Turn.{Turn}
+use Rattle.ortho_rep.specs.declared.turn_strings.Turn.{Turn}
 use Rattle.ortho_rep.specs.Storage.{lists_in}
 use Rattle.ortho_rep.specs.Shapes.{ShapeModel, turns_at}
 use Rattle.ortho_rep.specs.Prices.{IsProof}

@@ -1,7 +1,7 @@
 -- What it is that points draw an embedding.
 use Rattle.std.specs.Prelude.{ℕ, ◌<◌, ◌≤◌, length, All}
 use Rattle.faces.specs.Planes.{PlaneModel, with_outer}
-use Rattle.ortho_rep.specs.declared.strings.TheConstants.{MAX_TURNS}
+use Rattle.ortho_rep.specs.declared.turn_strings.TheConstants.{MAX_TURNS}
 use Rattle.ortho_rep.specs.Shapes.{ShapeModel}
 use Rattle.ortho_rep.specs.Points.{PointsModel}
 use Rattle.ortho_rep.specs.Representation.{IsShape}

@@ -4,15 +4,15 @@
 use Rattle.std.specs.Prelude.{◌≡◌, ◌≢◌, ℕ, ◌+◌, ◌*◌, ◌<◌, ◌≤◌, ◌⊎◌, List, [], length, slice_index_or, All, ⊤}
 use Rattle.geometry.specs.Directions.{opposite_of}
 use Rattle.faces.specs.Planes.{PlaneModel, vertices, darts, with_outer}
-use Rattle.ortho_rep.specs.declared.points.Point.{Point}
-use Rattle.ortho_rep.specs.declared.strings.TheConstants.{MAX_TURNS}
+use Rattle.ortho_rep.specs.declared.grid_points.Point.{Point}
+use Rattle.ortho_rep.specs.declared.turn_strings.TheConstants.{MAX_TURNS}
 use Rattle.ortho_rep.specs.Points.{PointsModel, origin, vertex_point, corners_at}
 use Rattle.ortho_rep.specs.Shapes.{ShapeModel, angle_at, turns_at}
 use Rattle.ortho_rep.specs.Representation.{IsShape, angles_around, turning_around, whole_turn}
 use Rattle.drawing_check.specs.Paths.{paths, point_of}
 use Rattle.drawing_check.specs.Draws.{HasPoints, IsInGrid, AreInGrid, IsAxis, AreOnAxes, direction_of, MeetNowhere}
-use Rattle.referee.specs.declared.fault.Fault.{Fault}
-use Rattle.referee.specs.declared.fault.Fault.TheVariants.{Vertices, Edges, Long, VertexOutOfGrid, CornerOutOfGrid, NotAxis, NoTurn, Embedding, Outer, Meet, Memory}
+use Rattle.referee.specs.declared.judge.Fault.{Fault}
+use Rattle.referee.specs.declared.judge.Fault.TheVariants.{Vertices, Edges, Long, VertexOutOfGrid, CornerOutOfGrid, NotAxis, NoTurn, Embedding, Outer, Meet, Memory}
 use Rattle.referee.specs.Drawings.{HasBoundedPoints}
 use Rattle.referee.specs.Taken.{IsTaken}
 

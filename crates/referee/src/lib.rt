@@ -2,22 +2,10 @@
 //! whatever outer face, and what is wrong first where they do not.
 #![tactic(auto)]
 
-mod axes;
 mod claims;
-mod counts;
-mod directions;
-mod embedding_kept;
-mod fault;
-mod fewest;
-mod grid;
+mod conditions;
 mod judge;
-mod outer_face;
-mod scratch;
-mod shape_of;
-mod turns;
+mod shape;
 
 pub use claims::{Claims, FalseClaim, false_claim};
-pub use fault::Fault;
-pub use fewest::fewest_in;
-pub use judge::{Judged, judge_in};
-pub use scratch::Scratch;
+pub use judge::{Fault, Judged, Scratch, fewest_in, judge_in};

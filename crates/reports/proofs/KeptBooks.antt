@@ -2,12 +2,12 @@
 use Rattle.std.proofs.Common.{◌≡◌, ℕ, ◌+◌, List, [], ◌∷◌, ◌++◌, map, length, All, get_or, arith, refl, sym, ap, subst, ◌∙◌}
 use Rattle.planar_code.specs.Stream.{lists_of}
 use Rattle.streams.specs.declared.frames.Mark.{Mark}
-use Rattle.common.specs.declared.choice.Choice.{Choice}
+use Rattle.common.specs.declared.parameters.Choice.{Choice}
 use Rattle.lanes.specs.Notes.{About, numbered, Item}
 use Rattle.lanes.specs.Opening.{Meaning}
 use Rattle.lanes.specs.Keeping.{KeepsFile}
 use Rattle.lanes.specs.Drafts.{abouts, IsWhole}
-use Rattle.reports.specs.declared.entry.Entry.{Entry}
+use Rattle.reports.specs.declared.answer.Entry.{Entry}
 use Rattle.reports.specs.Answers.{Answers}
 use Rattle.reports.specs.Abouts.{about_of}
 use Rattle.reports.specs.Books.{BookModel, IsBook, AreBooks}

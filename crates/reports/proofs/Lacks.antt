@@ -1,7 +1,7 @@
 -- Calls in a row that need memory and keep a text on its way to a sink.
 use Rattle.std.proofs.Common.{◌≡◌, ℕ, Bool, false, List, ◌++◌, Option, Result, Ok, Err, subst, sym, ◌∙◌, ap, append_assoc}
-use Rattle.streams.specs.declared.faults.WriteFault.{WriteFault}
-use Rattle.streams.specs.declared.faults.WriteFault.TheVariants.{Write, Memory}
+use Rattle.streams.specs.declared.output.WriteFault.{WriteFault}
+use Rattle.streams.specs.declared.output.WriteFault.TheVariants.{Write, Memory}
 use Rattle.streams.specs.Sink.{Writes, AppendsPrefix, IsInTransit, StaysInTransit}
 use Rattle.streams.proofs.Sinks.{flushed_whole}
 use Rattle.reports.specs.Writing.{WritesOrLacks, StaysOrLacks}

@@ -1,11 +1,11 @@
 -- Books of drafts that are ready.
 use Rattle.std.proofs.Common.{◌≡◌, ℕ, Some, IsSome, refl, sym, subst}
 use Rattle.streams.specs.declared.frames.Mark.{Mark}
-use Rattle.common.specs.declared.choice.Choice.{Choice}
-use Rattle.lanes.specs.declared.drafts.Draft.{Draft}
+use Rattle.common.specs.declared.parameters.Choice.{Choice}
+use Rattle.lanes.specs.declared.gathering.Draft.{Draft}
 use Rattle.lanes.specs.Opening.{Meaning}
 use Rattle.lanes.specs.Files.{IsWholeDraft}
-use Rattle.reports.specs.declared.entry.Entry.{Entry}
+use Rattle.reports.specs.declared.answer.Entry.{Entry}
 use Rattle.reports.specs.Abouts.{about_of}
 use Rattle.reports.specs.Books.{BookModel, IsBook}
 use Rattle.reports.proofs.KeptBooks.{all_answered}

@@ -6,17 +6,17 @@ use Rattle.json.specs.Print.{escape, escape_byte}
 use Rattle.serde_json.specs.Data.{Data}
 use Rattle.serde_json.specs.View.{items_of}
 use Rattle.serde_json.specs.Written.{comma_if, compact_text, items_text}
-use Rattle.ortho_rep.specs.declared.turn.Turn.{Turn}
-use Rattle.ortho_rep.specs.declared.turn.Turn.TheVariants.{Left, Right}
-use Rattle.planar_code.specs.declared.ending.Ending.TheVariants as ending
+use Rattle.ortho_rep.specs.declared.turn_strings.Turn.{Turn}
+use Rattle.ortho_rep.specs.declared.turn_strings.Turn.TheVariants.{Left, Right}
+use Rattle.planar_code.specs.declared.partial_record.Ending.TheVariants as ending
 use Rattle.streams.specs.declared.frames.Mark.{Mark}
 use Rattle.streams.specs.declared.frames.Mark.TheVariants.{Ended, Io}
 use Rattle.streams.specs.Text as marks
-use Rattle.embedding.specs.declared.rules.Rule.{Rule}
-use Rattle.embedding.specs.declared.rules.Rule.TheVariants.{Range, Loop, Multi, Asymmetric, Edgeless, Degree, Disconnected, Genus}
+use Rattle.embedding.specs.declared.breaks.Rule.{Rule}
+use Rattle.embedding.specs.declared.breaks.Rule.TheVariants.{Range, Loop, Multi, Asymmetric, Edgeless, Degree, Disconnected, Genus}
 use Rattle.embedding.specs.Words as rules
-use Rattle.reports.specs.declared.cause.Cause.{Cause}
-use Rattle.reports.specs.declared.cause.Cause.TheVariants.{Wide, OutOfGrid, NotAxis, WrongTurn, Meet}
+use Rattle.reports.specs.declared.answer.Cause.{Cause}
+use Rattle.reports.specs.declared.answer.Cause.TheVariants.{Wide, OutOfGrid, NotAxis, WrongTurn, Meet}
 use Rattle.reports.specs.CauseWords.{word_of}
 use Rattle.reports.specs.LineData.{array_of, letter_of}
 

@@ -1,11 +1,11 @@
 -- Numbered texts in parts, and calls in a row that keep a text on its way to a sink.
 use Rattle.std.proofs.Common.{◌≡◌, ℕ, ◌+◌, ◌<◌, ◌≤◌, Bool, false, List, [], ◌∷◌, ◌++◌, Option, Result, Ok, Err, length, take, drop, get_or, subst, sym, ◌∙◌, ap, append_assoc, append-nil, arith}
 use Rattle.std.proofs.lemmas.List.{take-append-drop, take_more, length-take, take_all}
-use Rattle.streams.specs.declared.faults.WriteFault.{WriteFault}
-use Rattle.streams.specs.declared.faults.WriteFault.TheVariants.{Write, Memory}
+use Rattle.streams.specs.declared.output.WriteFault.{WriteFault}
+use Rattle.streams.specs.declared.output.WriteFault.TheVariants.{Write, Memory}
 use Rattle.streams.specs.Sink.{IsInTransit, AppendsPrefix, StaysInTransit}
 use Rattle.streams.specs.declared.frames.Mark.{Mark}
-use Rattle.reports.specs.declared.entry.Entry.{Entry}
+use Rattle.reports.specs.declared.answer.Entry.{Entry}
 use Rattle.reports.specs.Books.{BookModel}
 use Rattle.reports.specs.Report.{numbered_texts, file_line, entry_line, end_line, book_text}
 

@@ -1,6 +1,6 @@
 -- The answer of a run.
 use Rattle.std.specs.Prelude.{◌≡◌, ℕ, List, length}
-use Rattle.common.specs.declared.choice.Choice.{Choice}
+use Rattle.common.specs.declared.parameters.Choice.{Choice}
 use Rattle.lanes.specs.Opening.{Meaning}
 use Rattle.reports.specs.Books.{BookModel, AreBooks}
 

@@ -1,6 +1,6 @@
 -- What an answer guarantees without its graph.
 use Rattle.std.specs.Prelude.{ℕ, List}
-use Rattle.common.specs.declared.choice.Choice.{Choice}
+use Rattle.common.specs.declared.parameters.Choice.{Choice}
 use Rattle.reports.specs.Answers.{Answers}
 use Rattle.reports.specs.declared.answer.Answer.{Answer}
 

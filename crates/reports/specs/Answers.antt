@@ -1,14 +1,14 @@
 -- The condition that an answer is right for a graph, given by its neighbour lists.
 use Rattle.std.specs.Prelude.{◌≡◌, ℕ, List, Result, IfOk, ⊤}
 use Rattle.embedding.specs.Rules.{FirstBroken}
-use Rattle.common.specs.declared.choice.Choice.{Choice}
+use Rattle.common.specs.declared.parameters.Choice.{Choice}
 use Rattle.faces.specs.Planes.{PlaneModel, IsPlane}
 use Rattle.ortho_rep.specs.Shapes.{ShapeModel}
 use Rattle.ortho_rep.specs.Points.{PointsModel}
 use Rattle.ortho_rep.specs.Prices.{PricesModel, IsProof}
 use Rattle.ortho_rep.specs.Representation.{IsShape, IsLeast}
 use Rattle.ortho_rep.specs.Best.{IsChosen}
-use Rattle.reports.specs.declared.cause.Cause.{Cause}
+use Rattle.reports.specs.declared.answer.Cause.{Cause}
 use Rattle.reports.specs.declared.answer.Answer.{Answer}
 use Rattle.reports.specs.declared.answer.Answer.TheVariants.{Laid, Refused, NoMemory}
 use Rattle.reports.specs.Drawn.{IsDrawn}

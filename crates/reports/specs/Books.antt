@@ -2,10 +2,10 @@
 use Rattle.std.specs.Prelude.{ℕ, ◌+◌, List, [], ◌∷◌, All, ⊤}
 use Rattle.planar_code.specs.Stream.{lists_of}
 use Rattle.streams.specs.declared.frames.Mark.{Mark}
-use Rattle.common.specs.declared.choice.Choice.{Choice}
+use Rattle.common.specs.declared.parameters.Choice.{Choice}
 use Rattle.lanes.specs.Opening.{Meaning}
 use Rattle.lanes.specs.Drafts.{IsWhole}
-use Rattle.reports.specs.declared.entry.Entry.{Entry}
+use Rattle.reports.specs.declared.answer.Entry.{Entry}
 use Rattle.reports.specs.Abouts.{about_of}
 use Rattle.reports.specs.Answers.{Answers}
 

@@ -1,7 +1,7 @@
 -- The words that reports have for the causes.
 use Rattle.std.specs.Prelude.{ℕ, List, codes}
-use Rattle.reports.specs.declared.cause.Cause.{Cause}
-use Rattle.reports.specs.declared.cause.Cause.TheVariants.{Wide, OutOfGrid, NotAxis, WrongTurn, Meet}
+use Rattle.reports.specs.declared.answer.Cause.{Cause}
+use Rattle.reports.specs.declared.answer.Cause.TheVariants.{Wide, OutOfGrid, NotAxis, WrongTurn, Meet}
 
 abbrev pub word_of : Cause → List ℕ
 word_of Wide = codes "wide"

@@ -6,13 +6,13 @@ use Rattle.ortho_rep.specs.Points.{PointsModel}
 use Rattle.dissect.specs.Boxes.{BoxesModel}
 use Rattle.dissect.specs.Boxed.{IsBoxed}
 use Rattle.dissect.specs.Monotone.{AreLeastPoints, FitsNoGrid}
-use Rattle.drawing_check.specs.declared.fault.CheckFault.{CheckFault}
-use Rattle.drawing_check.specs.declared.fault.CheckFault.TheVariants as fault
+use Rattle.drawing_check.specs.declared.drawing.CheckFault.{CheckFault}
+use Rattle.drawing_check.specs.declared.drawing.CheckFault.TheVariants as fault
 use Rattle.drawing_check.specs.Draws.{HasPoints, Draws}
 use Rattle.drawing_check.specs.Regions.{HasRegions}
 use Rattle.drawing_check.specs.Faults.{IsFirstFault}
-use Rattle.reports.specs.declared.cause.Cause.{Cause}
-use Rattle.reports.specs.declared.cause.Cause.TheVariants.{Wide, OutOfGrid, NotAxis, WrongTurn, Meet}
+use Rattle.reports.specs.declared.answer.Cause.{Cause}
+use Rattle.reports.specs.declared.answer.Cause.TheVariants.{Wide, OutOfGrid, NotAxis, WrongTurn, Meet}
 
 -- some points that are derived from numbers that grow along the darts of the boxes, within the grid, fail a condition
 -- of a drawing, and that one first

@@ -1,6 +1,6 @@
 -- The books that are flawless.
 use Rattle.std.specs.Prelude.{◌≡◌, ◌≢◌, All}
-use Rattle.planar_code.specs.declared.ending.Ending.{Ending}
+use Rattle.planar_code.specs.declared.partial_record.Ending.{Ending}
 use Rattle.streams.specs.declared.frames.Mark.{Mark}
 use Rattle.reports.specs.declared.answer.Answer.{Answer}
 use Rattle.reports.specs.Books.{BookModel}

@@ -2,7 +2,7 @@
 use Rattle.std.specs.Prelude.{ℕ, ◌+◌, ◌*◌, ◌<◌, ◌≤◌, List, [], ◌∷◌, All, IfOk, ⊤}
 use Rattle.std.specs.List.{sum_by}
 use Rattle.faces.specs.Planes.{PlaneModel, darts, vertices}
-use Rattle.ortho_rep.specs.declared.points.Point.{Point}
+use Rattle.ortho_rep.specs.declared.grid_points.Point.{Point}
 use Rattle.ortho_rep.specs.Shapes.{ShapeModel, turns_at}
 use Rattle.ortho_rep.specs.Points.{PointsModel, AreBelow}
 use Rattle.ortho_rep.specs.Representation.{bends_of}

@@ -1,8 +1,8 @@
 -- The text that a writing call that allocates leaves in a sink.
 use Rattle.std.specs.Prelude.{◌≡◌, ℕ, Bool, true, false, List, ◌++◌, Option, Result, Ok, Err}
 use Rattle.std.specs.Io.KnownBytes.{Appends}
-use Rattle.streams.specs.declared.faults.WriteFault.{WriteFault}
-use Rattle.streams.specs.declared.faults.WriteFault.TheVariants.{Write, Memory}
+use Rattle.streams.specs.declared.output.WriteFault.{WriteFault}
+use Rattle.streams.specs.declared.output.WriteFault.TheVariants.{Write, Memory}
 use Rattle.streams.specs.Sink.{AppendsPrefix, IsInTransit}
 
 -- Ok: the whole text was added, and the sink has not failed. `Write`: a prefix of it was added, and the sink has

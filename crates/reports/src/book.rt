@@ -1,11 +1,31 @@
-//! The result of a run: a book for each file.
-ghost use Rattle.std.specs.Prelude.{◌≡◌, ◌<◌, ◌≤◌, length, slice_index_or, vec_len};
-ghost use Rattle.reports.specs.declared.limits.TheConstants.{MAX_FILES};
-ghost use Rattle.reports.specs.Books.{BookModel};
+//! The result of a run: a book for each file; how books are made of complete drafts; and the exit status of a whole
+//! report. Also the style of the output and the limit of files.
+ghost use Rattle.std.specs.Prelude.{◌≡◌, ◌<◌, ◌≤◌, length, slice_index_or, vec_len, ℕ, IfOk, IsSome, Some, ◌≢◌, ◌↔◌, IsTrue};
+ghost use Rattle.reports.specs.declared.book.TheConstants.{MAX_FILES};
+ghost use Rattle.reports.specs.Books.{BookModel, AreBooks};
+ghost use Rattle.streams.specs.declared.frames.Mark.{Mark};
+ghost use Rattle.common.specs.declared.parameters.Choice.{Choice};
+ghost use Rattle.lanes.specs.Opening.{Meaning};
+ghost use Rattle.lanes.specs.Files.{AreReady};
+ghost use Rattle.reports.specs.Abouts.{about_of};
 
-use crate::entry::Entry;
+use crate::answer::Entry;
+use common::DrawingKind;
+use lanes::Draft;
+use planar_code::Ending;
+use std::alloc::{AllocError, Global};
 use std::marker::Model;
-use streams::Mark;
+use streams::{Form, Mark};
+
+/// The output format of a run, and the kind of its drawings. Only JSON lines show coordinates.
+#[derive(Clone, Copy, Debug, PartialEq, Eq)]
+pub struct Style {
+    pub form: Form,
+    pub drawing_kind: DrawingKind,
+}
+
+/// The maximum number of files of a run.
+pub const MAX_FILES: u32 = 256;
 
 /// The entries of one file, one for each record and in order, and its mark. No accessor allocates.
 #[derive(Drop)]
@@ -55,7 +75,7 @@ pub struct Batch {
 
 impl Model for Batch {
     ghost use Rattle.std.specs.Prelude.{◌≤◌, List, length};
-    ghost use Rattle.reports.specs.declared.limits.TheConstants.{MAX_FILES};
+    ghost use Rattle.reports.specs.declared.book.TheConstants.{MAX_FILES};
     ghost use Rattle.reports.specs.Books.{BookModel};
 
     ghost Value = { List BookModel };
@@ -89,4 +109,46 @@ impl Batch {
     {
         &self.books[file as usize]
     }
+}
+
+/// The batch with a book for each draft; each draft must hold all of its file.
+///
+/// # Errors
+///
+/// `AllocError` if there is no memory for the list of books.
+pub fn books_of(alloc: Global, drafts: Vec<Draft<Entry>>) -> Result<Batch, AllocError>
+    requires few { vec_len drafts ≤ MAX_FILES }
+    requires ready { (choice : Choice) × (meaning : ℕ → Meaning) × AreReady about_of choice meaning 0 drafts.items }
+    ensures count { IfOk result (λ books. length books ≡ vec_len drafts) }
+    ensures books { IfOk result (λ books. (choice : Choice) (meaning : ℕ → Meaning)
+        → AreReady about_of choice meaning 0 drafts.items → AreBooks choice meaning 0 books) }
+{
+    let mut books = Vec::with_capacity(alloc, drafts.len())?;
+    for draft in drafts {
+        books.push(book_of(draft))?;
+    }
+    Ok(Batch::new(books))
+}
+
+/// The book of a draft with a mark.
+fn book_of(draft: Draft<Entry>) -> Book
+    requires { IsSome draft.mark }
+    ensures { (mark : Mark) → draft.mark ≡ Some mark → result ≡ record { entries = draft.entries.items; mark = mark } }
+{
+    Book::new(draft.entries, draft.mark.unwrap())
+}
+
+/// The exit status of a report of records: 0 if the file ended complete, and otherwise 3.
+pub fn status_of(mark: Mark) -> u8
+    ensures complete { (result ≡ 0) ↔ (mark ≡ Mark.Ended Ending.Complete) }
+    ensures other { mark ≢ Mark.Ended Ending.Complete → result ≡ 3 }
+{
+    if is_complete(mark) { 0 } else { 3 }
+}
+
+/// Whether a file ended complete.
+fn is_complete(mark: Mark) -> bool
+    ensures { IsTrue result ↔ (mark ≡ Mark.Ended Ending.Complete) }
+{
+    matches!(mark, Mark::Ended(Ending::Complete))
 }

@@ -4,31 +4,15 @@
 
 mod answer;
 mod book;
-mod books;
-mod cause;
-mod entry;
-mod json_arrays;
-mod json_batch;
 mod json_lines;
 mod json_objects;
 mod json_text;
-mod limits;
-mod line;
-mod report;
-mod statuses;
-mod style;
-mod words;
+mod report_line;
 
-pub use answer::Answer;
-pub use book::{Batch, Book};
-pub use books::books_of;
-pub use cause::Cause;
-pub use entry::Entry;
-pub use json_batch::{push_line, write_json};
-pub use json_lines::{LaidGraph, answer_line, end_line, entry_line, lacking_line, laid_line};
-pub use limits::MAX_FILES;
-pub use line::ReportLine;
-pub use report::write_report;
-pub use statuses::status_of;
+pub use answer::{Answer, Cause, Entry};
+pub use book::{Batch, Book, MAX_FILES, Style, books_of, status_of};
+pub use json_lines::{
+    LaidGraph, answer_line, end_line, entry_line, lacking_line, laid_line, push_line, write_json,
+};
+pub use report_line::{ReportLine, write_report};
 pub use streams::Form;
-pub use style::Style;

@@ -9,7 +9,7 @@ use native.Mathlib.Decide.{dec_le, ℕ_discrete}
 use lib.ListN.{get_elem?}
 use Rattle.atomic_table.specs.Table.{State, Me, keeps, Allows, Splits, Joins}
 use Rattle.atomic_table.proofs.Lists.{at_set}
-use Rattle.ruled_lanes.specs.declared.ticket_protocol.Draws.{Draws}
+use Rattle.ruled_lanes.specs.declared.tickets.Draws.{Draws}
 use Rattle.ruled_lanes.specs.TicketProtocol.{draws, times, CountsOnceBelow, HasOnceBelow, DrawsNext, Stands, IsDealt}
 use Rattle.ruled_lanes.proofs.Counts.{sum_set, sum_le, alone}
 use Rattle.ruled_lanes.proofs.Views.{each_set, each_more}

@@ -9,7 +9,7 @@ use native.Mathlib.Decide.{dec_le}
 use lib.ListN.{get_elem?}
 use Rattle.crossbeam_channel.specs.Fifo.{Pushes, Pops, Forks, Merges, Learns}
 use Rattle.atomic_table.proofs.Lists.{at_set}
-use Rattle.ruled_lanes.specs.declared.fan_protocol.FanLog.{FanLog}
+use Rattle.ruled_lanes.specs.declared.fan_channel.FanLog.{FanLog}
 use Rattle.ruled_lanes.specs.FanProtocol.{fan_log, gatherer, giver, nobody, given_in, of_lane, KnowsLane, KnowsFan, Accounts, IsFanned}
 use Rattle.ruled_lanes.proofs.Views.{Each, each_set, each_more}
 

@@ -4,7 +4,7 @@ use mathlib.Core.Option.{some, some-ne-none}
 use lib.ListN.{get_elem?}
 use Rattle.crossbeam_channel.specs.Fifo.{Pushes, Pops, Forks, Merges, Learns}
 use Rattle.atomic_table.proofs.Lists.{at_set, at_snoc}
-use Rattle.ruled_lanes.specs.declared.link_protocol.Log.{Log}
+use Rattle.ruled_lanes.specs.declared.link_channel.Log.{Log}
 use Rattle.ruled_lanes.specs.LinkProtocol.{log, Knows, Lossless}
 use Rattle.ruled_lanes.proofs.Views.{at_end, Each, each_set}
 

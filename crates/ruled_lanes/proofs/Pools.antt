@@ -2,8 +2,8 @@
 use Rattle.std.proofs.Common.{◌≡◌, ◌+◌, ◌<◌, ◌≤◌, min, subst, ℕ, Bool, List, [], ◌∷◌, ◌++◌, length, cond, count_by, refl, All, ap, ◌∙◌, append_assoc, arith}
 use Rattle.std.proofs.lemmas.List.Elements.{All-head, All-tail}
 use Rattle.std.proofs.lemmas.List.Sums.{sum_by-cons}
-use Rattle.ruled_lanes.specs.declared.dealing.Seat.{Seat}
-use Rattle.ruled_lanes.specs.declared.ticket_protocol.Draws.{Draws}
+use Rattle.ruled_lanes.specs.declared.tickets.Seat.{Seat}
+use Rattle.ruled_lanes.specs.declared.tickets.Draws.{Draws}
 use mathlib.Core.Option.{some}
 use lib.ListN.{get_elem?}
 use Rattle.ruled_lanes.specs.TicketProtocol.{draws, HasOnceBelow, IsDealt}

@@ -2,9 +2,9 @@
 use Rattle.std.proofs.Common.{◌≡◌, ℕ, true, List, [], ◌∷◌, ◌++◌, map, length, All, refl, sym, ap, ◌∙◌, subst, append_assoc, append-nil}
 use Rattle.std.proofs.lemmas.List.Elements.{All-nil, All-cons, All-head, All-tail, All-weaker, All-same}
 use Rattle.crossbeam_channel.specs.Claims.{view}
-use Rattle.ruled_lanes.specs.declared.limits.TheConstants.{LANES}
-use Rattle.ruled_lanes.specs.declared.fan_ends.LaneGiver.{LaneGiver}
-use Rattle.ruled_lanes.specs.declared.fan_protocol.FanLog.{FanLog}
+use Rattle.ruled_lanes.specs.declared.channel.TheConstants.{LANES}
+use Rattle.ruled_lanes.specs.declared.fan_channel.LaneGiver.{LaneGiver}
+use Rattle.ruled_lanes.specs.declared.fan_channel.FanLog.{FanLog}
 use Rattle.ruled_lanes.specs.FanProtocol.{fan_log, of_lane, Accounts}
 use Rattle.ruled_lanes.specs.FanEnds.{lane_of, given_at, SettlesFan}
 use Rattle.ruled_lanes.proofs.Fans.{of_lane-append}

@@ -2,9 +2,9 @@
 use Rattle.std.specs.Prelude.{◌≡◌, ◌≤◌, ℕ, List, [], ◌++◌, Some, slice_get, All}
 use Rattle.crossbeam_channel.specs.Claims.{view}
 use Rattle.crossbeam_channel.specs.Ends.{sends_on, receives_on, ruled_capacity}
-use Rattle.ruled_lanes.specs.declared.limits.TheConstants.{LANES}
-use Rattle.ruled_lanes.specs.declared.fan_ends.LaneGiver.{LaneGiver}
-use Rattle.ruled_lanes.specs.declared.fan_ends.Gatherer.{Gatherer}
+use Rattle.ruled_lanes.specs.declared.channel.TheConstants.{LANES}
+use Rattle.ruled_lanes.specs.declared.fan_channel.LaneGiver.{LaneGiver}
+use Rattle.ruled_lanes.specs.declared.fan_channel.Gatherer.{Gatherer}
 use Rattle.ruled_lanes.specs.FanProtocol.{given_in, of_lane}
 
 module _ {T : Type 0} where

@@ -3,7 +3,7 @@
 use Rattle.std.specs.Prelude.{◌≡◌, ◌==◌, ℕ, ◌<◌, ◌≤◌, Bool, true, false, List, [], ◌∷◌, ◌++◌, map, filter, All}
 use mathlib.Core.Option.{some}
 use lib.ListN.{get_elem?}
-use Rattle.ruled_lanes.specs.declared.fan_protocol.FanLog.{FanLog}
+use Rattle.ruled_lanes.specs.declared.fan_channel.FanLog.{FanLog}
 
 module _ {T : Type 0} where
   abbrev pub fan_log : Bool → ℕ → List (ℕ × T) → List (ℕ × List T) → FanLog T

@@ -1,5 +1,5 @@
 -- The item that a refused call returns.
-use Rattle.ruled_lanes.specs.declared.errors.Closed.{Closed}
+use Rattle.ruled_lanes.specs.declared.channel.Closed.{Closed}
 
 -- the item in the error of a refused give
 abbrev pub handed_back : {T : Type 0} → Closed T → T

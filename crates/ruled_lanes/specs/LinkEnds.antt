@@ -2,8 +2,8 @@
 use Rattle.std.specs.Prelude.{◌≡◌, ℕ, List, ◌++◌}
 use Rattle.crossbeam_channel.specs.Claims.{view}
 use Rattle.crossbeam_channel.specs.Ends.{sends_on, receives_on, ruled_capacity}
-use Rattle.ruled_lanes.specs.declared.link_ends.Giver.{Giver}
-use Rattle.ruled_lanes.specs.declared.link_ends.Taker.{Taker}
+use Rattle.ruled_lanes.specs.declared.link_channel.Giver.{Giver}
+use Rattle.ruled_lanes.specs.declared.link_channel.Taker.{Taker}
 
 module _ {T : Type 0} where
   -- all items given by this end, first to last

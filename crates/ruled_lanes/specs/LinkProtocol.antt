@@ -3,7 +3,7 @@
 use Rattle.std.specs.Prelude.{◌≡◌, ℕ, Bool, true, List, ◌++◌}
 use mathlib.Core.Option.{some}
 use lib.ListN.{get_elem?}
-use Rattle.ruled_lanes.specs.declared.link_protocol.Log.{Log}
+use Rattle.ruled_lanes.specs.declared.link_channel.Log.{Log}
 
 module _ {T : Type 0} where
   abbrev pub log : Bool → Bool → List T → List T → Log T

@@ -3,7 +3,7 @@
 use Rattle.std.specs.Prelude.{◌≡◌, ◌==◌, ◌+◌, ◌<◌, ◌≤◌, ℕ, min, List, [], ◌∷◌, ◌++◌, length, count_by, sum_by}
 use mathlib.Core.Option.{some}
 use lib.ListN.{get_elem?}
-use Rattle.ruled_lanes.specs.declared.ticket_protocol.Draws.{Draws}
+use Rattle.ruled_lanes.specs.declared.tickets.Draws.{Draws}
 
 abbrev pub draws : ℕ → ℕ → ℕ → List ℕ → Draws
 draws limit shares ends drawn = record { limit = limit; shares = shares; ends = ends; drawn = drawn }

@@ -2,9 +2,9 @@
 use Rattle.std.specs.Prelude.{◌≡◌, ◌+◌, ℕ, Bool, false, List, [], ◌∷◌, length, count_by, sum_by}
 use Rattle.std.specs.List.{flat_map}
 use Rattle.atomic_table.specs.Seated.{TableId}
-use Rattle.ruled_lanes.specs.declared.dealing.Tickets.{Tickets}
-use Rattle.ruled_lanes.specs.declared.dealing.Seat.{Seat}
-use Rattle.ruled_lanes.specs.declared.ticket_protocol.Draws.{Draws}
+use Rattle.ruled_lanes.specs.declared.tickets.Tickets.{Tickets}
+use Rattle.ruled_lanes.specs.declared.tickets.Seat.{Seat}
+use Rattle.ruled_lanes.specs.declared.tickets.Draws.{Draws}
 use Rattle.ruled_lanes.specs.TicketProtocol.{IsDealt}
 
 -- the limit: the numbers below it are dealt

@@ -4,22 +4,12 @@
 //! several lanes, each number once.
 #![tactic(auto)]
 
-mod backoff;
-mod dealing;
-mod errors;
-mod fan_ends;
-mod fan_protocol;
-mod limits;
-mod link_ends;
-mod link_protocol;
-mod new_fan;
-mod new_link;
-mod ticket_protocol;
+mod channel;
+mod fan_channel;
+mod link_channel;
+mod tickets;
 
-pub use dealing::{Seat, Tickets};
-pub use errors::{Closed, Memory};
-pub use fan_ends::{Gatherer, LaneGiver};
-pub use limits::{LANES, MAX_CAPACITY, MAX_TICKETS};
-pub use link_ends::{Giver, Taker};
-pub use new_fan::fan_in;
-pub use new_link::link;
+pub use channel::{Closed, LANES, MAX_CAPACITY, MAX_TICKETS, Memory, fan_in, link};
+pub use fan_channel::{Gatherer, LaneGiver};
+pub use link_channel::{Giver, Taker};
+pub use tickets::{Seat, Tickets};

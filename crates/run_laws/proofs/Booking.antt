@@ -1,14 +1,14 @@
 -- The records and the mark of known bytes are one.
 use Rattle.std.proofs.Common.{◌≡◌, ◌≢◌, ℕ, Bool, List, [], Option, None, Some, unwrap_or, refl, sym, ap, subst, ◌∙◌}
-use Rattle.planar_code.specs.declared.ending.Ending.{Ending}
-use Rattle.planar_code.specs.declared.ending.Ending.TheVariants as ending
+use Rattle.planar_code.specs.declared.partial_record.Ending.{Ending}
+use Rattle.planar_code.specs.declared.partial_record.Ending.TheVariants as ending
 use Rattle.planar_code.specs.Split.{IsSplit}
 use Rattle.planar_code.proofs.Splits.{split_same}
 use Rattle.streams.specs.declared.frames.Mark.{Mark}
 use Rattle.streams.specs.declared.frames.Mark.TheVariants.{Ended, Io}
 use Rattle.streams.specs.Marks.{IsMarked, IsInterrupted}
 use Rattle.streams.specs.Reading.{IsKnownOf}
-use Rattle.common.specs.declared.choice.Choice.{Choice}
+use Rattle.common.specs.declared.parameters.Choice.{Choice}
 use Rattle.lanes.specs.Opening.{Meaning, known_of, fails_of}
 use Rattle.reports.specs.Books.{BookModel, IsBook}
 

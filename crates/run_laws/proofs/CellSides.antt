@@ -7,7 +7,7 @@ use Rattle.geometry.specs.declared.direction.Direction.TheVariants.{East, North,
 use Rattle.geometry.specs.Directions.{right_of}
 use Rattle.faces.specs.Planes.{PlaneModel, IsPlane, darts, vertices, tail, head, reverse_dart}
 use Rattle.faces.proofs.Ends.{plane_ends}
-use Rattle.ortho_rep.specs.declared.points.Point.{Point}
+use Rattle.ortho_rep.specs.declared.grid_points.Point.{Point}
 use Rattle.ortho_rep.specs.Points.{PointsModel, vertex_point, corners_at}
 use Rattle.ortho_rep.specs.Edges.{is_lesser, edge_number}
 use Rattle.drawing_check.specs.Walks.{step_from, distance}

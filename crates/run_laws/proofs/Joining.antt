@@ -7,7 +7,7 @@ use Rattle.geometry.specs.Directions.{left_of, right_of, opposite_of, quarters, 
 use Rattle.geometry.proofs.Quarters.{quarters_of_lefts}
 use Rattle.faces.specs.Planes.{PlaneModel, IsPlane, darts, vertices, tail, head, next, reverse_dart, face_at}
 use Rattle.faces.proofs.Ends.{plane_ends}
-use Rattle.ortho_rep.specs.declared.points.Point.{Point}
+use Rattle.ortho_rep.specs.declared.grid_points.Point.{Point}
 use Rattle.ortho_rep.specs.Points.{PointsModel, vertex_point, corners_at}
 use Rattle.ortho_rep.specs.Shapes.{ShapeModel, angle_at, turns_at}
 use Rattle.ortho_rep.specs.Representation.{Rep}

@@ -4,7 +4,7 @@ use Rattle.std.proofs.lemmas.Bool.{cases_lt}
 use Rattle.std.proofs.lemmas.List.{length-reverse, reverse-reverse}
 use Rattle.faces.specs.Planes.{PlaneModel, IsPlane, darts, tail, head, reverse_dart, face_at}
 use Rattle.faces.proofs.Ends.{plane_ends}
-use Rattle.ortho_rep.specs.declared.points.Point.{Point}
+use Rattle.ortho_rep.specs.declared.grid_points.Point.{Point}
 use Rattle.ortho_rep.specs.Points.{PointsModel, vertex_point, corners_at}
 use Rattle.ortho_rep.specs.Edges.{edge_number}
 use Rattle.drawing_check.specs.Paths.{path_along, paths, dart_path, point_of}

@@ -1,11 +1,11 @@
 -- The sizes in the line of a graph.
 use Rattle.std.proofs.Common.{◌≡◌, ℕ, ◌/◌, List, ◌++◌, codes, decimal, Result, sym, ap, subst, ◌∙◌}
-use Rattle.common.specs.declared.choice.Choice.{Choice}
+use Rattle.common.specs.declared.parameters.Choice.{Choice}
 use Rattle.faces.specs.Planes.{PlaneModel, vertices, darts}
 use Rattle.ortho_rep.specs.Shapes.{ShapeModel}
 use Rattle.ortho_rep.specs.Points.{PointsModel}
 use Rattle.ortho_rep.specs.Prices.{PricesModel}
-use Rattle.reports.specs.declared.cause.Cause.{Cause}
+use Rattle.reports.specs.declared.answer.Cause.{Cause}
 use Rattle.reports.specs.Answers.{IsLaid}
 use Rattle.reports.specs.Report.{sizes_text}
 use Rattle.run_laws.proofs.Planes.{same_plane, same_bends}

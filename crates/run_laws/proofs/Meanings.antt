@@ -2,22 +2,22 @@
 use Rattle.std.proofs.Common.{◌≡◌, ◌≢◌, ◌<◌, ℕ, ◌∙◌, List, slice_index, arith, subst, sym, ap, refl, inl, inr, eqb}
 use Rattle.std.specs.Prelude.{Result, Ok, Err, IfOk, IfErr, ℤ, pos, negsuc}
 use Rattle.std.proofs.lemmas.Bool.{cases_eq, eq-eqb, ne_eqb, cond-true, cond-false}
-use Rattle.embedding.specs.declared.rules.Rule.{Rule}
-use Rattle.embedding.specs.declared.rules.Rule.TheVariants.{Range, Loop, Multi, Asymmetric, Edgeless, Degree, Disconnected, Genus}
+use Rattle.embedding.specs.declared.breaks.Rule.{Rule}
+use Rattle.embedding.specs.declared.breaks.Rule.TheVariants.{Range, Loop, Multi, Asymmetric, Edgeless, Degree, Disconnected, Genus}
 use Rattle.embedding.specs.Darts.{dart_count, next_of}
 use Rattle.embedding.specs.Faces.{HasFaces}
 use Rattle.embedding.specs.Rules.{Breaks, KeepsBefore}
-use Rattle.common.specs.declared.choice.Choice.{Choice}
-use Rattle.common.specs.declared.choice.Choice.TheVariants.{First, Best}
+use Rattle.common.specs.declared.parameters.Choice.{Choice}
+use Rattle.common.specs.declared.parameters.Choice.TheVariants.{First, Best}
 use Rattle.faces.specs.Planes.{PlaneModel, IsPlane, darts, head, reverse_dart, face_at, with_outer}
-use Rattle.ortho_rep.specs.declared.turn.Turn.{Turn}
+use Rattle.ortho_rep.specs.declared.turn_strings.Turn.{Turn}
 use Rattle.ortho_rep.specs.Shapes.{ShapeModel, angle_at, turns_at}
 use Rattle.ortho_rep.specs.Points.{PointsModel}
 use Rattle.ortho_rep.specs.Prices.{PricesModel, IsAnglePriced, AreTurnsPriced, IsProof, vertex_price, face_price}
 use Rattle.ortho_rep.proofs.Priced.{plain_angle, plain_turns}
 use Rattle.ortho_rep.specs.Representation.{Rep, IsLeast, whole_turn}
 use Rattle.ortho_rep.specs.Best.{IsBest, IsChosen}
-use Rattle.reports.specs.declared.cause.Cause.{Cause}
+use Rattle.reports.specs.declared.answer.Cause.{Cause}
 use Rattle.reports.specs.Answers.{IsLaid}
 use Rattle.reports.specs.Drawn.{IsDrawingOf, IsDrawn}
 use Rattle.run_laws.specs.Laid.{Represents, IsFirstBest, HasOuter, ProveLeast, AreDrawn, IsCauseShown, IsLaidPlainly}

@@ -1,9 +1,9 @@
 -- Books and answers that do not say that memory ran out.
 use Rattle.std.proofs.Common.{◌≢◌, ℕ, List, All}
-use Rattle.planar_code.specs.declared.ending.Ending.TheVariants as ending
+use Rattle.planar_code.specs.declared.partial_record.Ending.TheVariants as ending
 use Rattle.streams.specs.declared.frames.Mark.TheVariants.{Ended}
 use Rattle.embedding.specs.Rules.{FirstBroken}
-use Rattle.common.specs.declared.choice.Choice.{Choice}
+use Rattle.common.specs.declared.parameters.Choice.{Choice}
 use Rattle.reports.specs.declared.answer.Answer.{Answer}
 use Rattle.reports.specs.declared.answer.Answer.TheVariants.{Laid, Refused, NoMemory}
 use Rattle.reports.specs.Answers.{IsLaid}

@@ -7,12 +7,12 @@ use Rattle.std.proofs.Props.{props}
 use Rattle.std.proofs.lemmas.Grind.{merely}
 use Rattle.planar_code.specs.Stream.{lists_of}
 use Rattle.streams.specs.Marks.{IsMarked}
-use Rattle.common.specs.declared.choice.Choice.{Choice}
+use Rattle.common.specs.declared.parameters.Choice.{Choice}
 use Rattle.lanes.specs.Notes.{numbered}
 use Rattle.lanes.specs.Opening.{Meaning, fails_of}
 use Rattle.collector.proofs.ToldEnds.{both}
-use Rattle.graph_facts.specs.declared.selecting.Selection.{Selection}
-use Rattle.graph_facts.specs.declared.facts.Facts.{Facts}
+use Rattle.graph_facts.specs.declared.selection.Selection.{Selection}
+use Rattle.graph_facts.specs.declared.selection.Facts.{Facts}
 use Rattle.collector.specs.FactBooks.{FactEntry, FactBook, IsFactBook, AreFactBooks, AreAllFactBooks, about_of}
 use Rattle.graph_facts.specs.Conditions.{chooses}
 use Rattle.graph_facts.specs.Facts.{AreFacts}

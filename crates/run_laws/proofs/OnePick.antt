@@ -7,15 +7,15 @@ use Rattle.planar_code.specs.declared.TheConstants.{HEADER}
 use Rattle.planar_code.specs.Stream.{lists_of}
 use Rattle.streams.specs.Marks.{IsMarked}
 use Rattle.streams.specs.declared.frames.Mark.{Mark}
-use Rattle.embedding.specs.declared.rules.Rule.{Rule}
+use Rattle.embedding.specs.declared.breaks.Rule.{Rule}
 use Rattle.embedding.specs.Rules.{KeepsBefore}
-use Rattle.common.specs.declared.choice.Choice.{Choice}
+use Rattle.common.specs.declared.parameters.Choice.{Choice}
 use Rattle.lanes.specs.Notes.{About, numbered}
 use Rattle.lanes.specs.Opening.{Meaning, known_of, fails_of}
 use Rattle.faces.specs.Planes.{PlaneModel, vertices, darts}
 use Rattle.ortho_rep.specs.Representation.{IsShape, IsLeast}
-use Rattle.graph_facts.specs.declared.selecting.Selection.{Selection}
-use Rattle.graph_facts.specs.declared.facts.Facts.{Facts}
+use Rattle.graph_facts.specs.declared.selection.Selection.{Selection}
+use Rattle.graph_facts.specs.declared.selection.Facts.{Facts}
 use Rattle.collector.specs.FactBooks.{FactEntry, FactBook, IsFactBook, AreFactBooks, AreAllFactBooks, about_of}
 use Rattle.graph_facts.specs.Conditions.{is_chosen}
 use Rattle.graph_facts.specs.Facts.{AreFacts, AreLaidFacts, AreRefusedFacts, laid_facts, refused_facts}

@@ -7,7 +7,7 @@ use Rattle.geometry.specs.declared.direction.Direction.TheVariants.{East, North,
 use Rattle.geometry.specs.Directions.{right_of, opposite_of, quarters}
 use Rattle.faces.specs.Planes.{PlaneModel, IsPlane, darts, vertices, tail, reverse_dart, face_at}
 use Rattle.faces.proofs.Ends.{plane_ends}
-use Rattle.ortho_rep.specs.declared.points.Point.{Point}
+use Rattle.ortho_rep.specs.declared.grid_points.Point.{Point}
 use Rattle.ortho_rep.specs.Points.{PointsModel, vertex_point}
 use Rattle.ortho_rep.specs.Shapes.{ShapeModel, angle_at, turns_at}
 use Rattle.ortho_rep.specs.Representation.{Rep}

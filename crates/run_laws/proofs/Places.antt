@@ -6,7 +6,7 @@ use Rattle.std.proofs.lemmas.List.{get_or_default}
 use Rattle.std.proofs.lemmas.List.FromFn.{length-map-range_with_len, get_or-map-range_with_len}
 use Rattle.std.proofs.lemmas.List.Elements.{Contains-append_left, Contains-append_right, Contains-get_or}
 use Rattle.faces.specs.Planes.{PlaneModel, darts, vertices}
-use Rattle.ortho_rep.specs.declared.points.Point.{Point}
+use Rattle.ortho_rep.specs.declared.grid_points.Point.{Point}
 use Rattle.ortho_rep.specs.Points.{PointsModel, origin, vertex_point}
 use Rattle.ortho_rep.specs.Edges.{is_lesser, lesser_darts}
 use Rattle.drawing_check.specs.Walks.{step_from, distance, walk, interior, AreDistinct}

@@ -2,11 +2,11 @@
 use Rattle.std.proofs.Common.{◌≡◌, ℕ, zero, suc, ◌<◌, ◌∙◌, List, length, refl, sym, ap, subst, arith, inl, inr}
 use Rattle.std.proofs.lemmas.Bool.{cases_lt}
 use Rattle.std.proofs.lemmas.List.{same_lists, get_or_default}
-use Rattle.embedding.specs.declared.rules.Rule.{Rule}
-use Rattle.embedding.specs.declared.rules.Rule.TheVariants.{Range, Loop, Multi, Asymmetric, Edgeless, Degree, Disconnected, Genus}
+use Rattle.embedding.specs.declared.breaks.Rule.{Rule}
+use Rattle.embedding.specs.declared.breaks.Rule.TheVariants.{Range, Loop, Multi, Asymmetric, Edgeless, Degree, Disconnected, Genus}
 use Rattle.embedding.specs.Rules.{FirstBroken, KeepsBefore, rule_number}
-use Rattle.common.specs.declared.choice.Choice.{Choice}
-use Rattle.common.specs.declared.choice.Choice.TheVariants.{First, Best}
+use Rattle.common.specs.declared.parameters.Choice.{Choice}
+use Rattle.common.specs.declared.parameters.Choice.TheVariants.{First, Best}
 use Rattle.faces.specs.Planes.{PlaneModel, IsPlane, model_of, darts, next, face_at}
 use Rattle.faces.proofs.Unique.{one_count, one_numbering}
 use Rattle.ortho_rep.specs.Shapes.{ShapeModel, angle_at, turns_at}

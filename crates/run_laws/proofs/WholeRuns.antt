@@ -4,14 +4,14 @@ use Rattle.std.proofs.Math.Logic.{∥∥₁_map}
 use Rattle.planar_code.proofs.Splits.{split_same}
 use Rattle.planar_code.specs.Stream.{lists_of}
 use Rattle.streams.specs.declared.frames.Mark.TheVariants.{Ended}
-use Rattle.common.specs.declared.choice.Choice.{Choice}
+use Rattle.common.specs.declared.parameters.Choice.{Choice}
 use Rattle.reports.specs.declared.answer.Answer.{Answer}
 use Rattle.reports.specs.declared.answer.Answer.TheVariants.{Laid, Refused, NoMemory}
-use Rattle.reports.specs.declared.entry.Entry.{Entry}
+use Rattle.reports.specs.declared.answer.Entry.{Entry}
 use Rattle.lanes.specs.Opening.{Meaning}
 use Rattle.reports.specs.Books.{BookModel}
 use Rattle.reports.specs.Report.{book_text, report_text}
-use Rattle.streams.specs.declared.form.Form.TheVariants.{Report}
+use Rattle.streams.specs.declared.frames.Form.TheVariants.{Report}
 use Rattle.collector.specs.Whole.{IsAllWritten}
 use Rattle.collector.specs.Headline.{IsDecided, AreOneForEach, IsWholeRun}
 use Rattle.run_laws.specs.Reports.{IsReport}

@@ -1,11 +1,11 @@
 -- If the word "memory" does not occur in a report, its books do not say that memory ran out.
 use Rattle.std.proofs.Common.{◌≡◌, ℕ, zero, suc, ◌+◌, ◌<◌, List, [], ◌∷◌, ◌++◌, length, All, get_or, codes, decimal, refl, sym, ap, subst, ◌∙◌, arith, append_assoc}
-use Rattle.planar_code.specs.declared.ending.Ending.TheVariants as ending
+use Rattle.planar_code.specs.declared.partial_record.Ending.TheVariants as ending
 use Rattle.streams.specs.declared.frames.Mark.{Mark}
 use Rattle.streams.specs.declared.frames.Mark.TheVariants.{Ended}
 use Rattle.reports.specs.declared.answer.Answer.{Answer}
 use Rattle.reports.specs.declared.answer.Answer.TheVariants.{NoMemory}
-use Rattle.reports.specs.declared.entry.Entry.{Entry}
+use Rattle.reports.specs.declared.answer.Entry.{Entry}
 use Rattle.reports.specs.Books.{BookModel}
 use Rattle.reports.specs.Report.{numbered_texts, answer_text, entry_line, end_line, file_line, book_text, report_text}
 use Rattle.run_laws.proofs.Memory.{HasMemory}

@@ -2,7 +2,7 @@
 -- corner.
 use Rattle.std.specs.Prelude.{◌≡◌, ℕ, ◌+◌, ◌<◌, ◌≤◌, ◌⊎◌, length, Bool}
 use Rattle.faces.specs.Planes.{PlaneModel, darts}
-use Rattle.ortho_rep.specs.declared.points.Point.{Point}
+use Rattle.ortho_rep.specs.declared.grid_points.Point.{Point}
 use Rattle.ortho_rep.specs.Points.{PointsModel}
 use Rattle.drawing_check.specs.Paths.{dart_path, point_of}
 use Rattle.drawing_check.specs.Regions.{PassesNorth, PassesEast}

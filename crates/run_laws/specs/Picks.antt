@@ -1,6 +1,6 @@
 -- Books of facts for which memory sufficed.
 use Rattle.std.specs.Prelude.{◌≢◌, None, All}
-use Rattle.planar_code.specs.declared.ending.Ending.{Ending}
+use Rattle.planar_code.specs.declared.partial_record.Ending.{Ending}
 use Rattle.streams.specs.declared.frames.Mark.{Mark}
 use Rattle.collector.specs.FactBooks.{FactBook}
 

@@ -1,6 +1,6 @@
 -- The texts that are reports of right books, and when two runs are about the same bytes.
 use Rattle.std.specs.Prelude.{◌≡◌, ◌≢◌, ℕ, ◌<◌, List, ◌++◌, Some, codes}
-use Rattle.common.specs.declared.choice.Choice.{Choice}
+use Rattle.common.specs.declared.parameters.Choice.{Choice}
 use Rattle.lanes.specs.Opening.{Meaning, known_of, fails_of}
 use Rattle.reports.specs.Books.{BookModel}
 use Rattle.reports.specs.AllBooks.{AreAllBooks}

@@ -4,32 +4,12 @@
 //! each a cycle of straight edges with four corners.
 #![tactic(auto)]
 
-mod bends;
-mod frames;
-mod laid;
-mod least_points;
-mod limits;
-mod outer;
-mod outside;
-mod parts;
-mod points;
-mod regions;
-mod runs;
-mod same_picks;
-mod same_reports;
-mod supplies;
+mod laws;
 
-pub use bends::{boxes_are_few, laid_bends};
-pub use frames::parts_have_no_cut;
-pub use laid::laid_means;
-pub use least_points::least_points_are_unique;
-pub use limits::{network_limits, plane_limits, record_limits};
-pub use outer::{one_best, one_greatest};
-pub use outside::outer_face_looks_out;
-pub use parts::{edges_meet_at_ends, edges_share_no_part};
-pub use points::points_have_no_cut;
-pub use regions::{least_corner_is_outer, regions_are_connected};
-pub use runs::{same_whole_runs, written_is_report};
-pub use same_picks::{one_counted_text, one_facts, one_picked_text};
-pub use same_reports::{one_book_text, one_report};
-pub use supplies::units_supplied;
+pub use laws::{
+    boxes_are_few, edges_meet_at_ends, edges_share_no_part, laid_bends, laid_means,
+    least_corner_is_outer, least_points_are_unique, network_limits, one_best, one_book_text,
+    one_counted_text, one_facts, one_greatest, one_picked_text, one_report, outer_face_looks_out,
+    parts_have_no_cut, plane_limits, points_have_no_cut, record_limits, regions_are_connected,
+    same_whole_runs, units_supplied, written_is_report,
+};

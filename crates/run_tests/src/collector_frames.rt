@@ -1,7 +1,7 @@
 //! Runs over sources in memory, sources that fail, and writers that take little. The bytes and the
 //! texts come from the description of the format and of the report.
 ghost use Rattle.std.specs.Prelude.{◌<◌, ◌≤◌};
-ghost use Rattle.ruled_lanes.specs.declared.limits.TheConstants.{MAX_CAPACITY};
+ghost use Rattle.ruled_lanes.specs.declared.channel.TheConstants.{MAX_CAPACITY};
 
 use collector::run_frames;
 use planar_code::Ending;

@@ -1,6 +1,6 @@
 //! Stages and a gathering thread whose other ends are gone: each ends, and says so.
 ghost use Rattle.std.specs.Prelude.{◌≡◌, ◌≤◌, [], IfOk};
-ghost use Rattle.ruled_lanes.specs.declared.limits.TheConstants.{LANES};
+ghost use Rattle.ruled_lanes.specs.declared.channel.TheConstants.{LANES};
 ghost use Rattle.ruled_lanes.specs.LinkEnds.{taken};
 ghost use Rattle.ruled_lanes.specs.FanEnds.{given_at, gathered};
 

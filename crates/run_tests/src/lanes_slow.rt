@@ -1,7 +1,7 @@
 //! A source that returns no more bytes until all records that it returned are drawn. The bytes and the texts come from
 //! the descriptions of the format and of the report.
 ghost use Rattle.std.specs.Prelude.{◌≡◌, ◌≤◌};
-ghost use Rattle.ruled_lanes.specs.declared.limits.TheConstants.{MAX_CAPACITY};
+ghost use Rattle.ruled_lanes.specs.declared.channel.TheConstants.{MAX_CAPACITY};
 ghost use Rattle.lanes.specs.Opening.{Silent};
 
 use crate::collector_pauses::tell_file;

@@ -1,7 +1,7 @@
 //! Runs that pick and count: their bytes and tables, over any number of lanes. The bytes come from the description of the
 //! format.
 ghost use Rattle.std.specs.Prelude.{false};
-ghost use Rattle.ruled_lanes.specs.declared.limits.TheConstants.{LANES};
+ghost use Rattle.ruled_lanes.specs.declared.channel.TheConstants.{LANES};
 ghost use Rattle.std.specs.Prelude.{◌<◌, ◌≤◌};
 
 use crate::picks_rows::{ALL, selection_of};

@@ -2,7 +2,6 @@
 //! nothing by the prices which prove it least, so the same prices prove what comes out.
 #![tactic(auto)]
 
-mod flow;
 mod search;
 mod straighten;
 

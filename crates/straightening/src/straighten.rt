@@ -8,8 +8,7 @@ ghost use Rattle.ortho_rep.specs.Representation.{HasDarts, IsShape, IsLeast, ben
 ghost use Rattle.ortho_rep.specs.Prices.{HasPrices, IsProof};
 ghost use Rattle.straightening.specs.Reflex.{reflex_angles};
 
-use crate::flow::{ShapeFlow, clockwise, is_tight_angle};
-use crate::search::{FaceSearch, PathEnds};
+use crate::search::{FaceSearch, PathEnds, ShapeFlow, clockwise, is_tight_angle};
 use faces::Plane;
 use ortho_rep::{Prices, Shape, certify, is_shape};
 use std::alloc::{AllocError, Global};

@@ -2,10 +2,10 @@
 use Rattle.std.proofs.Common.{◌≡◌, ◌≢◌, ℕ, ◌+◌, ◌<◌, Bool, true, false, List, [], ◌∷◌, ◌++◌, Option, None, Some, Result, Ok, Err, inl, inr, length, refl, sym, ap, subst, ◌∙◌, append_assoc, append-nil, length-append, arith}
 use Rattle.std.specs.Io.KnownBytes.{Consumes}
 use Rattle.planar_code.specs.declared.TheConstants.{HEADER}
-use Rattle.planar_code.specs.declared.ending.Ending.{Ending}
-use Rattle.planar_code.specs.declared.ending.Ending.TheVariants as ending
-use Rattle.planar_code.specs.declared.fault.FeedFault.{FeedFault}
-use Rattle.planar_code.specs.declared.fault.FeedFault.TheVariants as fault
+use Rattle.planar_code.specs.declared.partial_record.Ending.{Ending}
+use Rattle.planar_code.specs.declared.partial_record.Ending.TheVariants as ending
+use Rattle.planar_code.specs.declared.partial_record.FeedFault.{FeedFault}
+use Rattle.planar_code.specs.declared.partial_record.FeedFault.TheVariants as fault
 use Rattle.planar_code.specs.Split.{IsSplit, ending_of}
 use Rattle.planar_code.specs.FramerState.{FramerState, Early, Failed, StandsAt, Goes, LosesRecord, Feeds}
 use Rattle.planar_code.proofs.Splits.{split_same}

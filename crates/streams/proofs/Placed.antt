@@ -1,14 +1,14 @@
 -- Records that were read of a source stand at their places in its known bytes.
 use Rattle.std.proofs.Common.{◌≡◌, ℕ, ◌+◌, Bool, List, [], ◌∷◌, ◌++◌, Option, None, Some, Result, Ok, Err, length, refl, sym, ap, subst, ◌∙◌, append_assoc, append-nil, length-append, arith}
 use Rattle.std.specs.Prelude.{⊤}
-use Rattle.planar_code.specs.declared.ending.Ending.{Ending}
-use Rattle.planar_code.specs.declared.ending.Ending.TheVariants as ending
+use Rattle.planar_code.specs.declared.partial_record.Ending.{Ending}
+use Rattle.planar_code.specs.declared.partial_record.Ending.TheVariants as ending
 use Rattle.planar_code.specs.Split.{IsSplit}
 use Rattle.planar_code.specs.FramerState.{FramerState}
 use Rattle.planar_code.proofs.Splits.{split_same}
 use Rattle.streams.specs.declared.frames.Mark.{Mark}
 use Rattle.streams.specs.declared.frames.Mark.TheVariants.{Ended, Io}
-use Rattle.planar_code.specs.declared.fault.FeedFault.{FeedFault}
+use Rattle.planar_code.specs.declared.partial_record.FeedFault.{FeedFault}
 use Rattle.streams.specs.Marks.{IsMarked, IsBeginningOf}
 use Rattle.streams.specs.Reading.{IsFoundIn, IsBeingRead}
 use Rattle.streams.specs.Placing.{IsAt, IsPlaced, EachAt, ArePlaced}

@@ -1,6 +1,6 @@
 -- The places of the records of a source.
 use Rattle.std.specs.Prelude.{◌≡◌, ℕ, ◌+◌, List, [], ◌∷◌, ◌++◌, length, Option, None, Some, ⊤}
-use Rattle.planar_code.specs.declared.ending.Ending.{Ending}
+use Rattle.planar_code.specs.declared.partial_record.Ending.{Ending}
 use Rattle.planar_code.specs.Split.{IsSplit}
 
 -- the record has this place in the list, from 0

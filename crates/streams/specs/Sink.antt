@@ -1,8 +1,8 @@
 -- The bytes that a writing call leaves in a sink.
 use Rattle.std.specs.Prelude.{◌≡◌, ℕ, Bool, true, false, List, ◌++◌, Option, Result, Ok, Err}
 use Rattle.std.specs.Io.KnownBytes.{Appends}
-use Rattle.streams.specs.declared.faults.WriteFault.{WriteFault}
-use Rattle.streams.specs.declared.faults.WriteFault.TheVariants.{Write, Memory}
+use Rattle.streams.specs.declared.output.WriteFault.{WriteFault}
+use Rattle.streams.specs.declared.output.WriteFault.TheVariants.{Write, Memory}
 
 -- a prefix of the text was added
 abbrev pub AppendsPrefix : Option (List ℕ) → Option (List ℕ) → List ℕ → Type 0

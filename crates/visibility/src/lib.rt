@@ -8,14 +8,9 @@
 #![tactic(auto)]
 
 mod compaction;
-mod ends;
 mod listing;
-mod points;
-mod scratch;
 mod segments;
 mod shortening;
-mod straight;
 mod sweep;
 
-pub use compaction::compact_by_visibility_in;
-pub use scratch::Scratch;
+pub use compaction::{Scratch, compact_by_visibility_in};

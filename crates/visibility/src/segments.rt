@@ -4,7 +4,7 @@ ghost use Rattle.std.specs.Prelude.{◌≡◌, ◌<◌, ◌≤◌, ◌+◌, ◌^
 ghost use Rattle.visibility.specs.declared.segments.TheConstants.{MAX_COORDINATE, MAX_SEGMENTS};
 ghost use Rattle.visibility.specs.Axes.{segment_at, AreBelow, AreFew, AreListed, HaveEnds, KeepEnds};
 
-use crate::straight::StraightEdges;
+use crate::listing::StraightEdges;
 use common::MAX_VERTICES;
 use std::alloc::{AllocError, Global};
 use std::mem;

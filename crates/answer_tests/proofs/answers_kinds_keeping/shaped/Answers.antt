@@ -1,5 +1,5 @@
 use Rattle.std.proofs.Common.{subst}
-use Rattle.common.specs.declared.choice.Choice.TheVariants.{First}
+use Rattle.common.specs.declared.parameters.Choice.TheVariants.{First}
 use Rattle.planar_code.specs.Stream.{lists_of}
 use Rattle.answers.specs.Steps.{IsShaped}
 use Rattle.answer_tests.proofs.answers_kinds_keeping.shaped.Goals as goal

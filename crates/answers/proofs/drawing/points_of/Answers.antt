@@ -3,7 +3,7 @@ use Rattle.compact.specs.Monotone.{IsCompactFault}
 use Rattle.answers.proofs.DrawnAnswers.{none_shown}
 use Rattle.drawing_laws.proofs.Drawn.{least_points_draw}
 use Rattle.drawing_laws.proofs.DrawnRegions.{least_points_have_regions}
-use Rattle.reports.specs.declared.cause.Cause.TheVariants as cause
+use Rattle.reports.specs.declared.answer.Cause.TheVariants as cause
 use Rattle.reports.specs.Drawn.{IsCause, IsDrawn}
 use Rattle.reports.specs.Lengths.{IsNear, IsNoLonger, IsQuick}
 use Rattle.answers.specs.Drawings.{IsDrawing}

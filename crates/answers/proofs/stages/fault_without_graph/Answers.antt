@@ -1,6 +1,6 @@
 use Rattle.std.proofs.Common.{Option, subst}
 use Rattle.std.specs.Prelude.{MatchOption}
-use Rattle.embedding.specs.declared.rules.Rule.{Rule}
+use Rattle.embedding.specs.declared.breaks.Rule.{Rule}
 use Rattle.embedding.specs.Rules.{FirstBroken, KeepsBefore}
 use Rattle.answers.proofs.stages.fault_without_graph.Goals as goal
 

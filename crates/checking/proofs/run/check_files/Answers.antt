@@ -1,5 +1,5 @@
 use Rattle.std.proofs.Common.{◌≡◌, ◌↔◌, true, ◌∙◌, [], refl, sym, subst, arith}
-use Rattle.planar_code.specs.declared.ending.Ending.TheVariants as ending
+use Rattle.planar_code.specs.declared.partial_record.Ending.TheVariants as ending
 use Rattle.streams.specs.declared.frames.Mark.TheVariants.{Ended}
 use Rattle.streams.proofs.Pieces.{found_nothing}
 use Rattle.checking.specs.declared.run.CheckOptions.{CheckOptions}
@@ -8,8 +8,8 @@ use Rattle.checking.proofs.Settled.{nothing_judged}
 use Rattle.checking.proofs.Texts.{memory_fault}
 use Rattle.checking.proofs.Whole.{begun, found_first, finished, finished_short}
 use Rattle.std.proofs.lemmas.Result.{err_from_is_err_and}
-use Rattle.streams.specs.declared.faults.WriteFault.{WriteFault}
-use Rattle.streams.specs.declared.faults.WriteFault.TheVariants.{Write}
+use Rattle.streams.specs.declared.output.WriteFault.{WriteFault}
+use Rattle.streams.specs.declared.output.WriteFault.TheVariants.{Write}
 use Rattle.checking.proofs.run.check_files.Goals as goal
 
 pub returns-in_default-clause-begun : goal.returns-in_default-clause-begun

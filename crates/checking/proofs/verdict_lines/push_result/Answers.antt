@@ -1,8 +1,8 @@
 use Rattle.std.proofs.Common.{◌≡◌, ℕ, List, ◌++◌, codes, refl, append_assoc}
-use Rattle.streams.specs.declared.form.Form.{Form}
-use Rattle.streams.specs.declared.form.Form.TheVariants.{Report, Json}
-use Rattle.checking.specs.declared.verdict.Verdict.{Verdict}
-use Rattle.checking.specs.declared.verdict.Verdict.TheVariants as verdict
+use Rattle.streams.specs.declared.frames.Form.{Form}
+use Rattle.streams.specs.declared.frames.Form.TheVariants.{Report, Json}
+use Rattle.checking.specs.declared.judging.Verdict.{Verdict}
+use Rattle.checking.specs.declared.judging.Verdict.TheVariants as verdict
 use Rattle.checking.specs.Words.{word_of}
 use Rattle.checking.specs.Text.{result_text}
 use Rattle.checking.proofs.verdict_lines.push_result.Goals as goal

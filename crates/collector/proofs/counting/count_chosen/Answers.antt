@@ -1,6 +1,6 @@
 use Rattle.std.proofs.Common.{◌≡◌, ◌<◌, ◌-◌, ◌^◌, ◌++◌, Option, None, Some, length, rules, false, true, subst, sym}
 use Rattle.std.specs.Prelude.{filter, option_to_list}
-use Rattle.graph_facts.specs.declared.facts.Facts.{Facts}
+use Rattle.graph_facts.specs.declared.selection.Facts.{Facts}
 use Rattle.graph_facts.specs.Conditions.{chooses}
 use Rattle.graph_facts.specs.Tables.{IsTable}
 use Rattle.collector.proofs.CountedGraphs.{table_none, table_other, table_more}

@@ -2,7 +2,7 @@ use Rattle.std.proofs.Common.{◌≡◌, ◌∙◌, List, OnOk, IfErr, length, s
 use Rattle.lanes.specs.Notes.{Note}
 use Rattle.lanes.specs.Files.{AreToldWhole}
 use Rattle.lanes.specs.Faults.{IsOfLanes, HoldsOnFault}
-use Rattle.lanes.specs.declared.fault.RunFault.{RunFault}
+use Rattle.lanes.specs.declared.gathering.RunFault.{RunFault}
 use Rattle.streams.specs.declared.output.SinkFault.{SinkFault}
 use Rattle.collector.specs.CountsHeld.{CountsHold}
 use Rattle.collector.proofs.CountedGraphs.{accepts_known, all_counted, counts_none, ended_with}

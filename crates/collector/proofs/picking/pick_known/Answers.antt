@@ -3,7 +3,7 @@ use Rattle.std.proofs.lemmas.Result.{IfOk-weaker}
 use Rattle.lanes.specs.Notes.{Note}
 use Rattle.lanes.specs.Files.{AreToldWhole}
 use Rattle.lanes.specs.Faults.{HoldsOnFault}
-use Rattle.lanes.specs.declared.fault.RunFault.{RunFault}
+use Rattle.lanes.specs.declared.gathering.RunFault.{RunFault}
 use Rattle.streams.specs.declared.output.SinkFault.{SinkFault}
 use Rattle.file_order.specs.Writing.{GivesUp, HasFailedBy}
 use Rattle.file_order.proofs.SucceedsOrFails.{err_then, err_any}

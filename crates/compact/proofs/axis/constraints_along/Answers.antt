@@ -1,5 +1,5 @@
 use Rattle.std.proofs.Common.{◌≡◌, ◌≢◌, ◌+◌, ◌∙◌, ◌⊎◌, ◌<◌, ℕ, Vec, Global, arith, subst, sym, ap}
-use Rattle.compact.specs.declared.constraint_graph.Constraint.{Constraint}
+use Rattle.compact.specs.declared.axis.Constraint.{Constraint}
 use Rattle.compact.specs.Monotone.{AreAlong, growth}
 use Rattle.geometry.specs.Directions.{quarters}
 use Rattle.dissect.specs.Boxes.{dart_map}

@@ -1,6 +1,6 @@
 use Rattle.std.proofs.Common.{◌≡◌, ◌≤◌, ℕ, List, length, slice_index, subst, sym, ap, refl, arith}
 use Rattle.std.proofs.lemmas.List.{take_at}
-use Rattle.compact.specs.declared.constraint_graph.Constraint.{Constraint}
+use Rattle.compact.specs.declared.axis.Constraint.{Constraint}
 use Rattle.compact.specs.Constraints.{Satisfies}
 use Rattle.compact.specs.Monotone.{AreLeastOnAxis, growth}
 use Rattle.dissect.specs.Boxes.{dart_map}

@@ -1,6 +1,6 @@
 use Rattle.std.proofs.Common.{◌≡◌, ◌<◌, ◌∙◌, ◌++◌, ℕ, List, [], ◌∷◌, length, All, slice_index, map, subst, sym, ap, refl, arith}
 use Rattle.dissect.specs.Paths.{turning_vertices}
-use Rattle.ortho_rep.specs.declared.points.Point.{Point}
+use Rattle.ortho_rep.specs.declared.grid_points.Point.{Point}
 use Rattle.common.proofs.PushedLists.{concatenated-starts, concatenated-pushed, concatenated-AreStarts, concatenated-slices_at}
 use Rattle.dissect.specs.Boxes.{dart_map}
 use Rattle.compact.specs.Monotone.{point_at, vertices_along}

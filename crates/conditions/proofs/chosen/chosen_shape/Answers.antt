@@ -1,5 +1,5 @@
 use Rattle.std.proofs.Common.{◌∙◌, ap, subst, sym}
-use Rattle.common.specs.declared.choice.Choice.{Choice}
+use Rattle.common.specs.declared.parameters.Choice.{Choice}
 use Rattle.faces.specs.Planes.{with_outer}
 use Rattle.conditions.specs.DartConditions.{DartConditionsModel}
 use Rattle.conditions.specs.Chosen.{IsChosenKeeping}

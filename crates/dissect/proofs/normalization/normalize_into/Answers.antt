@@ -2,7 +2,7 @@ use Rattle.std.proofs.Common.{◌+◌, ℕ, List, length, map, get_or, drop, ari
 use Rattle.std.specs.Prelude.{slice_index}
 use Rattle.std.proofs.lemmas.List.{drop_all}
 use Rattle.faces.specs.Planes.{darts, reverse_dart}
-use Rattle.ortho_rep.specs.declared.turn.Turn.{Turn}
+use Rattle.ortho_rep.specs.declared.turn_strings.Turn.{Turn}
 use Rattle.ortho_rep.specs.Shapes.{angle_at, turns_at}
 use Rattle.dissect.specs.DartMaps.{IsTied, IsMeeting}
 use Rattle.dissect.specs.Tables.{dart_map_of}

@@ -1,6 +1,6 @@
 use Rattle.std.proofs.Common.{◌≡◌, ◌↔◌, ℕ, ◌<◌, ◌++◌, map, true}
 use Rattle.std.specs.List.{flat_map}
-use Rattle.ortho_rep.specs.declared.points.Point.{Point}
+use Rattle.ortho_rep.specs.declared.grid_points.Point.{Point}
 use Rattle.ortho_rep.specs.Edges.{is_lesser, edge_number}
 use Rattle.ortho_rep.specs.Shapes.{turns_at}
 use Rattle.drawing_check.specs.Paths.{path_along}

@@ -1,7 +1,7 @@
 use Rattle.std.proofs.Common.{ℕ, ◌<◌, List, sym, subst, below_more, arith}
 use Rattle.std.specs.List.{All}
 use Rattle.std.proofs.lemmas.Bool.{iff_false}
-use Rattle.embedding.specs.declared.lists.TheConstants.{VERTEX_NUMBERS}
+use Rattle.embedding.specs.declared.neighbour_lists.TheConstants.{VERTEX_NUMBERS}
 use Rattle.embedding.specs.Rules.{NamesTwice}
 use Rattle.embedding.proofs.Ranges.{all_at_in_range}
 use Rattle.embedding.proofs.EachList.{blank_le, yes_is, no_is, found_at, none_below}

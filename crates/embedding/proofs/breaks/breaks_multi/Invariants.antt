@@ -1,5 +1,5 @@
 use Rattle.std.proofs.Common.{ℕ, ◌<◌, ◌≤◌, [], get_or}
-use Rattle.embedding.specs.declared.lists.TheConstants.{VERTEX_NUMBERS}
+use Rattle.embedding.specs.declared.neighbour_lists.TheConstants.{VERTEX_NUMBERS}
 use Rattle.embedding.specs.Rules.{NamesTwice}
 use Rattle.embedding.proofs.breaks.breaks_multi.Given as goal
 

@@ -1,7 +1,7 @@
 use Rattle.std.proofs.Common.{◌≡◌, ◌++◌, ℕ, List, false}
 use Rattle.std.specs.List.{flat_map}
 use Rattle.streams.specs.Sink.{IsInTransit}
-use Rattle.graph_facts.specs.declared.combination.Combination.{Combination}
+use Rattle.graph_facts.specs.declared.table.Combination.{Combination}
 use Rattle.graph_facts.specs.Tables.{row_text}
 use Rattle.graph_facts.proofs.table.write_counts.Given as goal
 

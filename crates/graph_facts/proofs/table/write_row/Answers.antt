@@ -1,6 +1,6 @@
 use Rattle.std.proofs.Common.{◌≡◌, ◌++◌, ◌∙◌, [], Err, ap, append-nil, false, true, if◌then◌else◌, rules, subst, sym}
 use Rattle.std.proofs.lemmas.Result.{err_from_is_err_and}
-use Rattle.streams.specs.declared.faults.WriteFault.{WriteFault}
+use Rattle.streams.specs.declared.output.WriteFault.{WriteFault}
 use Rattle.streams.specs.Sink.{IsInTransit}
 use Rattle.streams.proofs.Sinks.{room_fails, line_waits}
 use Rattle.graph_facts.specs.Tables.{asks_any, columns_text}

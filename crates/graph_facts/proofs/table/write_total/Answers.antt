@@ -1,6 +1,6 @@
 use Rattle.std.proofs.Common.{◌≡◌, Err, subst}
 use Rattle.std.proofs.lemmas.Result.{err_from_is_err_and}
-use Rattle.streams.specs.declared.faults.WriteFault.{WriteFault}
+use Rattle.streams.specs.declared.output.WriteFault.{WriteFault}
 use Rattle.streams.proofs.Sinks.{room_fails}
 use Rattle.graph_facts.proofs.table.write_total.Goals as goal
 

@@ -10,7 +10,7 @@ use Rattle.min_cost_flow.specs.Search.{far, labels, predecessors, orders, places
 use Rattle.min_cost_flow.proofs.Signs.{same_from_bits}
 use Rattle.min_cost_flow.proofs.Reaching.{strictly, reached_fits}
 use Rattle.min_cost_flow.specs.Overfull.{IsOverfull, HasStopped}
-use Rattle.min_cost_flow.specs.declared.search_state.Visit.{Visit}
+use Rattle.min_cost_flow.specs.declared.dijkstra.Visit.{Visit}
 use Rattle.min_cost_flow.proofs.Solving.{is_graph, is_priced, can_augment, nothing_found, path_looks, short_path, label_bounds}
 use Rattle.min_cost_flow.proofs.solver.find_path.Goals as goal
 

@@ -1,7 +1,7 @@
 use Rattle.std.proofs.Common.{ap, subst, arith}
 use Rattle.embedding.specs.Darts.{dart_count}
 use Rattle.min_cost_flow.specs.Flow.{amounts}
-use Rattle.ortho_rep.specs.declared.repeats.DartShape.{DartShape}
+use Rattle.ortho_rep.specs.declared.turn_strings.DartShape.{DartShape}
 use Rattle.ortho_rep.specs.OfFlow.{angles_of, strings_of}
 use Rattle.ortho_rep.specs.Repeats.{HaveShapes}
 use Rattle.ortho_rep.proofs.OneSided.{shapes-more, repeats-more}

@@ -1,8 +1,8 @@
 use Rattle.std.proofs.Common.{◌≤◌}
 use Rattle.std.specs.Prelude.{All}
 use Rattle.min_cost_flow.specs.Flow.{amounts}
-use Rattle.ortho_rep.specs.declared.turn.TheConstants.{MAX_REPEATS}
-use Rattle.ortho_rep.specs.declared.repeats.DartShape.{DartShape}
+use Rattle.ortho_rep.specs.declared.turn_strings.TheConstants.{MAX_REPEATS}
+use Rattle.ortho_rep.specs.declared.turn_strings.DartShape.{DartShape}
 use Rattle.ortho_rep.specs.OfFlow.{angles_of, strings_of}
 use Rattle.ortho_rep.specs.Repeats.{HaveShapes}
 use Rattle.ortho_rep.proofs.least.darts_with.Given as goal

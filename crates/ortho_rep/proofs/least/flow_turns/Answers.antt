@@ -3,7 +3,7 @@ use Rattle.std.proofs.lemmas.List.{append-nil}
 use Rattle.embedding.specs.Darts.{reverse_of}
 use Rattle.faces.specs.Planes.{darts, reverse_dart}
 use Rattle.min_cost_flow.specs.Flow.{amounts, at_nodes}
-use Rattle.ortho_rep.specs.declared.turn.Turn.TheVariants.{Left}
+use Rattle.ortho_rep.specs.declared.turn_strings.Turn.TheVariants.{Left}
 use Rattle.ortho_rep.specs.OfFlow.{lefts_then_rights}
 use Rattle.ortho_rep.proofs.FromFlow.{short_of_flow, one_sided_of_flow}
 use Rattle.ortho_rep.proofs.least.flow_turns.Goals as goal

@@ -1,6 +1,6 @@
 use Rattle.std.proofs.Common.{◌≡◌, ◌∙◌, ◌+◌, List, Some, All, ap, arith, length, map, subst, sym}
 use Rattle.embedding.specs.Darts.{dart_count}
-use Rattle.ortho_rep.specs.declared.points.Point.{Point}
+use Rattle.ortho_rep.specs.declared.grid_points.Point.{Point}
 use Rattle.drawing_check.specs.Draws.{IsInGrid}
 use Rattle.planarbend_c.specs.Held.{Holds}
 use Rattle.answers.specs.Drawings.{IsDrawing}

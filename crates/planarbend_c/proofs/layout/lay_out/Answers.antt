@@ -1,7 +1,7 @@
 use Rattle.std.proofs.Common.{◌≡◌, List, ℕ, IfErr, IfOk, subst, sym}
 use Rattle.std.proofs.lemmas.Result.{IfErr-weaker, IfOk-weaker, err_from_is_err_and}
-use Rattle.planarbend_c.specs.declared.laid.Layout.{Layout}
-use Rattle.planarbend_c.specs.declared.outcome.Outcome.{Outcome}
+use Rattle.planarbend_c.specs.declared.request.Layout.{Layout}
+use Rattle.planarbend_c.specs.declared.request.Outcome.{Outcome}
 use Rattle.planarbend_c.specs.Faults.{IsFault, IsFaultOf, IsUnparsed}
 use Rattle.planarbend_c.specs.Found.{IsAsAsked, IsFound, finding_of}
 use Rattle.planarbend_c.specs.Sources.{Input, IsOneRecord, input_lists, input_of}

@@ -1,7 +1,7 @@
 use Rattle.std.proofs.Common.{◌≡◌, ◌∙◌, Option, Some, None, refl}
 use Rattle.std.specs.Prelude.{unwrap_or}
-use Rattle.common.specs.declared.drawing_kind.DrawingKind.{DrawingKind}
-use Rattle.common.specs.declared.drawing_kind.DrawingKind.TheVariants.{Quick}
+use Rattle.common.specs.declared.parameters.DrawingKind.{DrawingKind}
+use Rattle.common.specs.declared.parameters.DrawingKind.TheVariants.{Quick}
 use Rattle.planarbend_c.specs.Requests.{shape_kind}
 use Rattle.planarbend_c.proofs.request.shape_kind.Goals as goal
 

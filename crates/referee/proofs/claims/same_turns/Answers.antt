@@ -3,8 +3,8 @@ use Rattle.std.proofs.lemmas.Bool.{false≢true}
 use Rattle.std.proofs.lemmas.List.{ext_get_or}
 use denote.Enum.Bare.{differs_true, differs_false}
 use Rattle.ortho_rep.specs.contracts.turn.Turn.{the_type}
-use Rattle.ortho_rep.specs.declared.turn.Turn.{Turn}
-use Rattle.ortho_rep.specs.declared.turn.Turn.TheVariants.{Left}
+use Rattle.ortho_rep.specs.declared.turn_strings.Turn.{Turn}
+use Rattle.ortho_rep.specs.declared.turn_strings.Turn.TheVariants.{Left}
 use Rattle.referee.proofs.claims.same_turns.Goals as goal
 
 pub loop-k-preserved : goal.loop-k-preserved

@@ -1,5 +1,5 @@
 use Rattle.std.proofs.Common.{◌≡◌, ℕ, ◌<◌, get_or}
-use Rattle.ortho_rep.specs.declared.turn.Turn.TheVariants.{Left}
+use Rattle.ortho_rep.specs.declared.turn_strings.Turn.TheVariants.{Left}
 use Rattle.referee.proofs.claims.same_turns.Given as goal
 
 abbrev pub invariant-loop-k : goal.invariant-loop-k

@@ -1,7 +1,7 @@
 use Rattle.std.proofs.Common.{List, OnOk, refl}
 use Rattle.lanes.specs.Notes.{Note}
 use Rattle.file_order.proofs.SucceedsOrFails.{ok_both, err_both}
-use Rattle.collector.specs.declared.picks.Picks.{Picks}
+use Rattle.collector.specs.declared.picking.Picks.{Picks}
 use Rattle.collector.specs.PicksHolding.{PicksHold}
 use Rattle.collector.proofs.PicksHeld.{flushed_picks, left_off_flushed}
 use Rattle.collector.proofs.picking.TextsPicksConsumerFoundFactsKnownEnd.flush.Goals as goal

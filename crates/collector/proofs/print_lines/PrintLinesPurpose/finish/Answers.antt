@@ -2,9 +2,9 @@ use Rattle.std.proofs.Common.{ℕ, List, Result, Ok, Err, IfOk, ap, refl, sym, s
 use Rattle.std.proofs.Math.Logic.{∥∥₁_map, ∥∥₁_elim}
 use Rattle.std.proofs.Props.{props}
 use Rattle.planar_code.specs.Stream.{lists_of}
-use Rattle.common.specs.declared.choice.Choice.{Choice}
+use Rattle.common.specs.declared.parameters.Choice.{Choice}
 use Rattle.ortho_rep.specs.Representation.{IsLeast}
-use Rattle.embedding.specs.declared.faults.ReadFault.{ReadFault}
+use Rattle.embedding.specs.declared.breaks.ReadFault.{ReadFault}
 use Rattle.answers.specs.declared.shaped_plane.ShapedPlane.{ShapedPlane}
 use Rattle.answers.specs.Steps.{IsShaped, answer_in}
 use Rattle.reports.specs.Answers.{Answers}

@@ -1,6 +1,6 @@
 use Rattle.std.proofs.Common.{◌≡◌, ◌<◌, ◌∙◌, ℕ, List, ap, get_or, length, subst, sym}
 use Rattle.std.proofs.lemmas.List.{get_or_default}
-use Rattle.file_order.specs.declared.waiting.Waiting.{Waiting}
+use Rattle.file_order.specs.declared.chunks.Waiting.{Waiting}
 use Rattle.file_order.specs.FileOrder.{OrderModel}
 use Rattle.file_order.specs.Writing.{IsPartlyAdded}
 use Rattle.file_order.proofs.SucceedsOrFails.{err_then}

@@ -2,7 +2,7 @@
 use Rattle.std.proofs.Common.{◌+◌, ◌≤◌, length, Ok, Err, None, Some, sym, subst, arith}
 use Rattle.planar_code.specs.declared.TheConstants.{MAX_RECORDS}
 use Rattle.planar_code.specs.declared.framer.Phase.TheVariants as phase
-use Rattle.planar_code.specs.declared.fault.FeedFault.TheVariants as fault
+use Rattle.planar_code.specs.declared.partial_record.FeedFault.TheVariants as fault
 use Rattle.planar_code.specs.FramerState.{After}
 use Rattle.planar_code.specs.Framer.{framer_state_at, IsBefore}
 use Rattle.planar_code.specs.Scan.{TakesFrom}

@@ -1,0 +1,183 @@
+//! What points must satisfy: how many points and corners there are, whether they lie in the grid, whether the parts of
+//! paths are parallel to an axis, and whether the edges at each vertex leave it in the order of the record, so that the
+//! angles at it make one round. The outer face is the one that turns once to the right.
+ghost use Rattle.std.specs.Prelude.{OnOk, OnErr, IfErr, ◌↔◌, IsTrue, All, ◌≡◌, ◌+◌, ◌≤◌, ◌<◌, ℕ, length, replicate, slice_index, ◌≢◌, IfOk, negsuc, pos, ◌-ℤ◌};
+ghost use Rattle.referee.specs.Drawings.{HasBoundedPoints};
+ghost use Rattle.referee.specs.Faults.{IsFirstFailure, IsCornerFault, IsAxisFault, AreOrdered, IsDisorderFault};
+ghost use Rattle.drawing_check.specs.Draws.{IsInGrid, AreInGrid, IsOnAxes, AreOnAxes};
+ghost use Rattle.drawing_check.specs.Paths.{paths};
+ghost use Rattle.drawing_check.specs.Routes.{path_of};
+ghost use Rattle.faces.specs.Planes.{vertices};
+ghost use Rattle.ortho_rep.specs.Shapes.{angle_at, turns_at};
+ghost use Rattle.ortho_rep.specs.Representation.{HasDarts, angles_around, turning_around};
+
+use crate::judge::Fault;
+use drawing_check::{Route, is_axis, route_of};
+use faces::Plane;
+use ortho_rep::{MAX_COORDINATE, MAX_TURNS, Point, Points, Shape, add_angles, add_turns};
+
+/// That there is a point for each vertex, and for each edge a list of few enough corners.
+pub(crate) fn check_counts(plane: &Plane, points: &Points) -> Result<(), Fault>
+    ensures whole { OnOk result (HasBoundedPoints plane.now points.now) }
+    ensures refused { OnErr result (¬ HasBoundedPoints plane.now points.now) }
+    ensures first { IfErr result (IsFirstFailure plane.now points.now) }
+{
+    let graph = plane.graph();
+    if points.vertex_count() != usize::from(graph.vertices()) {
+        return Err(Fault::Vertices);
+    }
+    if points.edge_count() != usize::from(graph.edges()) {
+        return Err(Fault::Edges);
+    }
+    for edge in 0..graph.edges() {
+        if points.corners(edge).len() > MAX_TURNS {
+            return Err(Fault::Long { edge });
+        }
+    }
+    Ok(())
+}
+
+/// That all points lie in the grid: those of vertices first, then the corners, edge by edge.
+pub(crate) fn check_grid(plane: &Plane, points: &Points) -> Result<(), Fault>
+    requires { HasBoundedPoints plane.now points.now }
+    ensures inside { OnOk result (AreInGrid points.now) }
+    ensures refused { OnErr result (¬ AreInGrid points.now) }
+    ensures first { IfErr result (IsFirstFailure plane.now points.now) }
+{
+    check_vertices(plane, points)?;
+    check_corners(plane, points)
+}
+
+/// The first vertex out of the grid, as an error.
+fn check_vertices(plane: &Plane, points: &Points) -> Result<(), Fault>
+    requires { HasBoundedPoints plane.now points.now }
+    ensures inside { OnOk result (All IsInGrid points.now.vertices) }
+    ensures refused { OnErr result (¬ All IsInGrid points.now.vertices) }
+    ensures first { IfErr result (IsFirstFailure plane.now points.now) }
+{
+    for place in 0..plane.graph().vertices() {
+        let vertex = place + 1;
+        if !is_in_grid(points.vertex(vertex)) {
+            return Err(Fault::VertexOutOfGrid { vertex });
+        }
+    }
+    Ok(())
+}
+
+/// The first corner out of the grid, edge by edge, as an error.
+fn check_corners(plane: &Plane, points: &Points) -> Result<(), Fault>
+    requires { HasBoundedPoints plane.now points.now }
+    ensures inside { OnOk result (All (All IsInGrid) points.now.corners) }
+    ensures refused { OnErr result (¬ All (All IsInGrid) points.now.corners) }
+    ensures first { IfErr result (λ fault. All IsInGrid points.now.vertices → IsFirstFailure plane.now points.now fault) }
+{
+    for edge in 0..plane.graph().edges() {
+        check_edge(points.corners(edge), edge)?;
+    }
+    Ok(())
+}
+
+/// The first corner of an edge out of the grid, as an error.
+fn check_edge(corners: &[Point], edge: u16) -> Result<(), Fault>
+    ensures inside { OnOk result (All IsInGrid corners.now) }
+    ensures refused { OnErr result (¬ All IsInGrid corners.now) }
+    ensures first { IfErr result (IsCornerFault corners.now edge) }
+{
+    for (corner, point) in corners.iter().enumerate() {
+        if !is_in_grid(*point) {
+            return Err(Fault::CornerOutOfGrid { edge, corner });
+        }
+    }
+    Ok(())
+}
+
+/// Whether both coordinates are at most the greatest of the grid.
+fn is_in_grid(point: Point) -> bool
+    ensures { IsTrue result ↔ IsInGrid point }
+{
+    point.x <= MAX_COORDINATE && point.y <= MAX_COORDINATE
+}
+
+/// That each part of each path is parallel to an axis.
+pub(crate) fn check_axes(plane: &Plane, points: &Points) -> Result<(), Fault>
+    requires { HasBoundedPoints plane.now points.now }
+    ensures on_axes { OnOk result (AreOnAxes (paths plane.now points.now)) }
+    ensures refused { OnErr result (¬ AreOnAxes (paths plane.now points.now)) }
+    ensures first { IfErr result (λ fault. AreInGrid points.now → IsFirstFailure plane.now points.now fault) }
+{
+    let graph = plane.graph();
+    let mut edge = 0;
+    for dart in 0..graph.darts() {
+        let reverse = graph.reverse(dart);
+        if dart < reverse {
+            let route = route_of(plane, points, dart, reverse, edge);
+            check_route(&route, edge)?;
+            edge += 1;
+        }
+    }
+    Ok(())
+}
+
+/// That each part of the path of this edge is parallel to an axis.
+fn check_route(route: &Route<'_>, edge: u16) -> Result<(), Fault>
+    ensures on_axes { OnOk result (IsOnAxes (path_of route.now)) }
+    ensures refused { OnErr result (¬ IsOnAxes (path_of route.now)) }
+    ensures first { IfErr result (IsAxisFault (path_of route.now) edge) }
+{
+    for part in 0..route.corners.len() + 1 {
+        if !is_axis(route.point_at(part), route.point_at(part + 1)) {
+            return Err(Fault::NotAxis { edge, part });
+        }
+    }
+    Ok(())
+}
+
+/// That the angles round each vertex sum to four quarters, by adding them up in a list of zeros.
+pub(crate) fn check_embedding(plane: &Plane, shape: &Shape, sums: &mut [u32]) -> Result<(), Fault>
+    requires darts { HasDarts plane.now shape.now }
+    requires clear { sums.old ≡ replicate (vertices plane.now + 1) 0 }
+    ensures ordered { OnOk result (AreOrdered plane.now shape.now) }
+    ensures first { IfErr result (IsDisorderFault plane.now shape.now) }
+{
+    let vertices = plane.graph().vertices();
+    add_angles(plane, shape, sums);
+    for place in 0..vertices {
+        if sums[usize::from(place) + 1] != 4 {
+            return Err(Fault::Embedding { vertex: place + 1 });
+        }
+    }
+    Ok(())
+}
+
+/// The first face that turns once to the right, by adding turns up in two lists of zeros.
+pub(crate) fn find_outer(
+    plane: &Plane,
+    shape: &Shape,
+    left_sums: &mut [u64],
+    right_sums: &mut [u64],
+) -> Result<u16, Fault>
+    requires darts { HasDarts plane.now shape.now }
+    requires clear_left_sums { left_sums.old ≡ replicate plane.now.faces 0 }
+    requires clear_right_sums { right_sums.old ≡ replicate plane.now.faces 0 }
+    ensures named { IfOk result (λ outer. outer < plane.now.faces) }
+    ensures turns { IfOk result (λ outer. turning_around plane.now (angle_at shape.now) (turns_at shape.now) outer ≡ negsuc 3) }
+    ensures kind { IfErr result (λ fault. fault ≡ Fault.Outer) }
+    ensures none { OnErr result ((f : ℕ) → f < plane.now.faces → turning_around plane.now (angle_at shape.now) (turns_at shape.now) f ≢ negsuc 3) }
+{
+    let faces = plane.face_count();
+    add_turns(plane, shape, left_sums, right_sums);
+    for face in 0..faces {
+        let place = usize::from(face);
+        if turns_right(left_sums[place], right_sums[place]) {
+            return Ok(face);
+        }
+    }
+    Err(Fault::Outer)
+}
+
+/// Whether these numbers of left and right turns make one turn to the right.
+fn turns_right(lefts: u64, rights: u64) -> bool
+    ensures { IsTrue result ↔ ((pos lefts -ℤ pos rights) ≡ negsuc 3) }
+{
+    rights >= 4 && rights - 4 == lefts
+}

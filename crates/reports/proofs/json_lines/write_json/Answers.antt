@@ -1,0 +1,46 @@
+use Rattle.std.proofs.Common.{◌≡◌, ◌+◌, ◌<◌, ◌≤◌, ℕ, List, Err, get_or, length, take, subst}
+use Rattle.std.proofs.lemmas.Result.{err_from_is_err_and}
+use Rattle.streams.specs.declared.output.WriteFault.{WriteFault}
+use Rattle.streams.specs.Sink.{IsInTransit}
+use Rattle.reports.specs.Report.{numbered_texts}
+use Rattle.reports.specs.Json.{book_json, json_text}
+use Rattle.reports.proofs.TextParts.{texts-next, texts-at, texts-all, texts_rest}
+use Rattle.reports.proofs.Lacks.{lacks_whole, lacks_nothing}
+use Rattle.reports.proofs.json_lines.write_json.Goals as goal
+
+pub returns-in_err-write_book : goal.returns-in_err-write_book
+returns-in_err-write_book g c =
+    let p = err_from_is_err_and c.from_residual.result c.from_residual.ensures.1 in
+    let is : c.from_residual.result ≡ Err c.in_err-write_book.field-0.0 =
+    subst (λ (e : WriteFault). c.from_residual.result ≡ Err e) p.2 p.1 in
+    let xs = c.args.batch.now in
+    let i = c.loop-file.file in
+    let x = c.book.result.now in
+    let here : x ≡ get_or xs i x = c.book.ensures x in
+    let below : i < length xs = subst (λ n. i < n) c.files-file-end.ensures.count c.loop-file-test.true in
+    lacks_whole _ _ _ _ c.write_book.new.lines _ (numbered_texts book_json 1 (take i xs)) (book_json (i + 1) x) (texts_rest book_json xs (i + 1)) (json_text xs) _ _
+    c.loop-file.invariant.in_transit c.in_err-write_book.ensures
+    (texts-at book_json xs i x below here) is
+
+pub loop-file-preserved : goal.loop-file-preserved
+loop-file-preserved g c =
+    let xs = c.args.batch.now in
+    let i = c.loop-file.file in
+    let x = c.book.result.now in
+    let here : x ≡ get_or xs i x = c.book.ensures x in
+    let below : i < length xs = subst (λ n. i < n) c.files-file-end.ensures.count c.loop-file-test.true in
+    record {
+      whole = c.in_ok-write_book.ensures.0;
+      in_transit = subst (λ (text : List ℕ). IsInTransit (g.S.Sink.taken c.args.sink.now) (g.S.Sink.taken c.write_book.new.sink) c.write_book.new.lines text)
+          (texts-next book_json xs i x below here)
+          (c.in_ok-write_book.ensures.1 _ _ c.loop-file.invariant.in_transit);
+    }
+
+pub returns : goal.returns
+returns g c =
+    let xs = c.args.batch.now in
+    let i = c.loop-file.file in
+    let past : length xs ≤ i = subst (λ n. n ≤ i) c.files-file-end.ensures.count c.loop-file-test.false in
+    lacks_nothing _ _ _ _ _ (json_text xs) _
+    (subst (λ (text : List ℕ). IsInTransit (g.S.Sink.taken c.args.sink.now) (g.S.Sink.taken c.loop-file.sink) c.loop-file.lines text)
+    (texts-all book_json xs i past) c.loop-file.invariant.in_transit) c.flush.ensures.writes
