@@ -1,7 +1,7 @@
 use Rattle.std.proofs.Common.{◌≡◌, ◌-◌, true, false, length, get_or, ◌∙◌, sym, rules, arith}
 use borrow.Author.Count.{below_more}
 use denote.Enum.Bare.{sameb}
-use Rattle.ortho_rep.specs.contracts.turn.Turn.{the_type}
+use Rattle.ortho_rep.specs.contracts.turn_strings.Turn.{the_type}
 use Rattle.ortho_rep.specs.declared.turn_strings.Turn.{Turn}
 use Rattle.ortho_rep.specs.declared.turn_strings.Turn.TheVariants.{Left, Right}
 use Rattle.ortho_rep.specs.Turns.{opposite}

@@ -2,7 +2,7 @@ use Rattle.std.proofs.Common.{◌≡◌, ℕ, List, length, get_or, refl, sym, a
 use Rattle.std.proofs.lemmas.Bool.{false≢true}
 use Rattle.std.proofs.lemmas.List.{ext_get_or}
 use denote.Enum.Bare.{differs_true, differs_false}
-use Rattle.ortho_rep.specs.contracts.turn.Turn.{the_type}
+use Rattle.ortho_rep.specs.contracts.turn_strings.Turn.{the_type}
 use Rattle.ortho_rep.specs.declared.turn_strings.Turn.{Turn}
 use Rattle.ortho_rep.specs.declared.turn_strings.Turn.TheVariants.{Left}
 use Rattle.referee.proofs.claims.same_turns.Goals as goal
