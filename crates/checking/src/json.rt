@@ -1,17 +1,12 @@
-//! Parts of a JSON value: its fields, numbers, texts, lists and points. Also why a line is none of a drawing.
-ghost use Rattle.std.specs.Prelude.{◌≡◌, ◌≢◌, ◌≤◌, ℕ, ℤ, List, option_map, IfOk, IfErr, Some, None, map, All};
+//! Parts of a JSON value: its fields, numbers, texts and lists. Also why a line is none of a drawing.
+ghost use Rattle.std.specs.Prelude.{◌≡◌, ◌≢◌, ◌≤◌, ℕ, ℤ, List, option_map, IfOk, IfErr, Some, None, map};
 ghost use Rattle.checking.specs.declared.json.LineFault.TheVariants.{Memory, Malformed, Points, Number};
 ghost use Rattle.serde_json.specs.Data.{Data, Items, array, string};
 ghost use Rattle.serde_json.specs.Errors.{IsMemory};
 ghost use Rattle.serde_json.specs.Find.{get};
 ghost use Rattle.serde_json.specs.View.{view, items_of};
-ghost use Rattle.checking.specs.Values.{IsTextOf, natural, integer_of, IsOf32Bits, point_data, list_data, lists_data, IsShort, AreShort, SaysPoints};
-ghost use Rattle.ortho_rep.specs.declared.grid_points.Point.{Point};
-ghost use Rattle.ortho_rep.specs.Points.{PointsModel};
-ghost use Rattle.ortho_rep.specs.Storage.{lists_in};
-ghost use Rattle.checking.specs.Wrong.{IsWrongPoint, IsWrongPointList, IsWrongCorners, IsWrongPoints};
+ghost use Rattle.checking.specs.Values.{IsTextOf, natural, integer_of, IsOf32Bits};
 
-use ortho_rep::{Point, Points};
 use serde_json::{Error, Value};
 use std::alloc::{AllocError, AllocFailed, Global};
 
@@ -146,79 +141,4 @@ pub(crate) fn text_in(value: &Value, otherwise: LineFault) -> Result<&str, LineF
     ensures fault { IfErr result (λ fault. fault ≡ otherwise) }
 {
     value.as_str().ok_or(otherwise)
-}
-
-/// The maximum coordinate that is read.
-const MAX_COORDINATE: u64 = 4_294_967_295;
-
-/// The points of the field `points` of a value.
-///
-/// # Errors
-///
-/// `Memory` if memory runs out. Otherwise `Points` if a field, a list or a point is missing or malformed, and `Number` if a
-/// coordinate is no integer of 32 bits. `vertices` is read before `corners`; the first error counts.
-pub(crate) fn points_in(alloc: Global, value: &Value) -> Result<Points, LineFault>
-    ensures ok { IfOk result (SaysPoints (view value.now)) }
-    ensures short { IfOk result AreShort }
-    ensures none { IfErr result (λ fault. fault ≢ Memory
-        → (points : PointsModel) → AreShort points → SaysPoints (view value.now) points → ⊥) }
-    ensures fault { IfErr result (λ fault. fault ≢ Memory → IsWrongPoints (view value.now) fault) }
-{
-    let field = needed_field_in(value, "points")?;
-    let vertices = point_list(alloc, needed_field_in(field, "vertices")?)?;
-    let corners = corner_lists(alloc, needed_field_in(field, "corners")?)?;
-    Ok(Points::new(vertices, corners))
-}
-
-/// The lists of corners that a value is, one for each edge.
-fn corner_lists(alloc: Global, value: &Value) -> Result<Vec<Vec<Point>>, LineFault>
-    ensures ok { IfOk result (λ lists. view value.now ≡ lists_data (lists_in lists.items)) }
-    ensures short { IfOk result (λ lists. All (All IsShort) (lists_in lists.items)) }
-    ensures none { IfErr result (λ fault. fault ≢ Memory
-        → (lists : List (List Point)) → All (All IsShort) lists → view value.now ≢ lists_data lists) }
-    ensures fault { IfErr result (λ fault. fault ≢ Memory → IsWrongCorners (view value.now) fault) }
-{
-    let mut lists = Vec::new(alloc);
-    let elements = list_in(value, LineFault::Points)?;
-    for element in elements {
-        let points = point_list(alloc, element)?;
-        lists.push(points)?;
-    }
-    Ok(lists)
-}
-
-/// The points that a value is.
-fn point_list(alloc: Global, value: &Value) -> Result<Vec<Point>, LineFault>
-    ensures ok { IfOk result (λ points. view value.now ≡ list_data points.items) }
-    ensures short { IfOk result (λ points. All IsShort points.items) }
-    ensures none { IfErr result (λ fault. fault ≢ Memory
-        → (points : List Point) → All IsShort points → view value.now ≢ list_data points) }
-    ensures fault { IfErr result (λ fault. fault ≢ Memory → IsWrongPointList (view value.now) fault) }
-{
-    let mut points = Vec::new(alloc);
-    let elements = list_in(value, LineFault::Points)?;
-    for element in elements {
-        let point = point_in(element)?;
-        points.push(point)?;
-    }
-    Ok(points)
-}
-
-/// The point that a value is.
-fn point_in(value: &Value) -> Result<Point, LineFault>
-    ensures ok { IfOk result (λ point. view value.now ≡ point_data point) }
-    ensures short { IfOk result IsShort }
-    ensures none { IfErr result (λ _. (point : Point) → IsShort point → view value.now ≢ point_data point) }
-    ensures fault { IfErr result (IsWrongPoint (view value.now)) }
-{
-    let coordinates = list_in(value, LineFault::Points)?;
-    if coordinates.len() != 2 {
-        return Err(LineFault::Points);
-    }
-    let x = number_in(&coordinates[0], MAX_COORDINATE)?;
-    let y = number_in(&coordinates[1], MAX_COORDINATE)?;
-    Ok(Point {
-        x: x as u32,
-        y: y as u32,
-    })
 }

@@ -7,6 +7,7 @@ mod judging;
 mod line_buffer;
 mod line_content;
 mod line_reader;
+mod points;
 mod run;
 mod verdict_lines;
 

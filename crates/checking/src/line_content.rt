@@ -10,8 +10,9 @@ ghost use Rattle.checking.specs.Lines.{state_in};
 ghost use Rattle.checking.specs.UnderWay.{trailing_of, HasKept, KeepsNext, KeepsRest};
 
 use crate::claims::{angles_in, bends_in, outer_in, prices_in, turns_in};
-use crate::json::{LineFault, points_in, value_in};
+use crate::json::{LineFault, value_in};
 use crate::line_reader::{LineOutcome, Lines};
+use crate::points::points_in;
 use ortho_rep::Points;
 use referee::Claims;
 use serde_json::Value;

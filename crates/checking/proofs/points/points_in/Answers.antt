@@ -2,7 +2,7 @@ use Rattle.std.proofs.Common.{All, ap, sym, subst, List}
 use Rattle.ortho_rep.specs.declared.grid_points.Point.{Point}
 use Rattle.ortho_rep.specs.Points.{PointsModel}
 use Rattle.checking.specs.Values.{AreShort}
-use Rattle.checking.proofs.json.points_in.Goals as goal
+use Rattle.checking.proofs.points.points_in.Goals as goal
 
 pub returns-clause-short : goal.returns-clause-short
 returns-clause-short c =

@@ -2,7 +2,7 @@ use Rattle.std.proofs.Common.{◌≡◌, map, take, All}
 use Rattle.serde_json.specs.View.{view}
 use Rattle.ortho_rep.specs.Storage.{lists_in}
 use Rattle.checking.specs.Values.{list_data, IsShort}
-use Rattle.checking.proofs.json.corner_lists.Given as goal
+use Rattle.checking.proofs.points.corner_lists.Given as goal
 
 abbrev pub invariant-loop-element : goal.invariant-loop-element
 invariant-loop-element l = record {

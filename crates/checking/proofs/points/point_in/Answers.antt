@@ -4,7 +4,7 @@ use Rattle.std.proofs.lemmas.Result.{err_from_is_err_and}
 use Rattle.checking.specs.Wrong.{IsWrongPoint}
 use Rattle.checking.proofs.Parts.{is_no_pair}
 use Rattle.checking.proofs.Wrong.{no_pair, bad_coordinate}
-use Rattle.checking.proofs.json.point_in.Goals as goal
+use Rattle.checking.proofs.points.point_in.Goals as goal
 
 pub returns-then-coordinates-ne2-clause-none : goal.returns-then-coordinates-ne2-clause-none
 returns-then-coordinates-ne2-clause-none c = λ point short said.

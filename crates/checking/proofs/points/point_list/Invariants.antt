@@ -1,7 +1,7 @@
 use Rattle.std.proofs.Common.{◌≡◌, map, take, All}
 use Rattle.serde_json.specs.View.{view}
 use Rattle.checking.specs.Values.{point_data, IsShort}
-use Rattle.checking.proofs.json.point_list.Given as goal
+use Rattle.checking.proofs.points.point_list.Given as goal
 
 abbrev pub invariant-loop-element : goal.invariant-loop-element
 invariant-loop-element l = record {

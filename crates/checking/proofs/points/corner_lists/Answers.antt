@@ -10,7 +10,7 @@ use Rattle.ortho_rep.specs.Storage.{lists_in}
 use Rattle.checking.specs.Wrong.{IsWrongPointList, IsWrongCorners}
 use Rattle.checking.proofs.Wrong.{wrong_element}
 use Rattle.checking.proofs.Parts.{says_none, one_more}
-use Rattle.checking.proofs.json.corner_lists.Goals as goal
+use Rattle.checking.proofs.points.corner_lists.Goals as goal
 
 pub returns-in_err-points-clause-none : goal.returns-in_err-points-clause-none
 returns-in_err-points-clause-none c =

@@ -9,7 +9,7 @@ use Rattle.ortho_rep.specs.declared.grid_points.Point.{Point}
 use Rattle.checking.specs.Wrong.{IsWrongPointList, IsWrongPoint}
 use Rattle.checking.proofs.Wrong.{wrong_element}
 use Rattle.checking.proofs.Parts.{says_none, one_more}
-use Rattle.checking.proofs.json.point_list.Goals as goal
+use Rattle.checking.proofs.points.point_list.Goals as goal
 
 pub returns-in_err-point-clause-none : goal.returns-in_err-point-clause-none
 returns-in_err-point-clause-none c =
