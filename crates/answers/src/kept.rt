@@ -83,7 +83,7 @@ impl RecordScratch {
         shape(alloc, &mut self.shapes, plane, choice, drawing_kind)
     }
 
-    /// Returns points that draw a shaped plane: a drawing of the kind that its shape is for.
+    /// Returns points that draw a plane with a least shape: a drawing of the kind that its shape is for.
     ///
     /// Each least shape has a drawing. The edges of a short one are in all no longer than those of a quick one. For n
     /// vertices and b bends, coordinates are below 3n + 2b + 5.

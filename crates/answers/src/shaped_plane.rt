@@ -10,9 +10,9 @@ use ortho_rep::{Prices, Shape};
 
 /// A plane with an orthogonal representation, its prices, and the directions of its darts.
 ///
-/// Of all representations, or of all that keep conditions, it has the fewest bends, as the prices prove: the call that makes
-/// it says so. The direction of a dart is that in which it arrives at its head there, in quarter turns to the left from
-/// east.
+/// Of all representations, or of all that keep conditions, it has the fewest bends, as the prices prove: the calls of
+/// `RecordScratch` that make it say so. The direction of a dart is that in which it arrives at its head there, in
+/// quarter turns to the left from east.
 #[derive(Drop)]
 pub struct ShapedPlane {
     pub plane: Plane,

@@ -1,4 +1,4 @@
-//! The stages that answer a record.
+//! The stages that answer a record: it is read into a plane; points are found for a shaped plane; and both, as one call.
 
 ghost use Rattle.std.specs.Prelude.{◌≡◌, ℕ, List, IfOk, MatchOption};
 ghost use Rattle.reports.specs.Lengths.{IfDrawn, IsNear, IsNoLonger, IsQuick};
@@ -114,7 +114,7 @@ pub(crate) fn answer_with(
     }
 }
 
-/// Adds points that draw the shape to a shaped plane; a record without a plane keeps its fault.
+/// Adds points that draw it to a plane with a least shape; a record without a plane keeps its fault.
 ///
 /// The points of a quick drawing are not checked: it is proved that they draw the shape.
 pub fn find_points(

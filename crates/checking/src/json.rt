@@ -35,6 +35,7 @@ pub(crate) enum LineFault {
 impl From<AllocError> for LineFault {
     ghost from_gives = { λ _ fault. fault ≡ Memory };
 
+    /// `Memory`: an allocation failed.
     fn from(_error: AllocError) -> LineFault {
         LineFault::Memory
     }

@@ -1,5 +1,5 @@
-//! The commands of the program: what each does for the arguments after its name, and its exit status. `layout` is a run
-//! whose output is streamed.
+//! The commands of the program: what each does for the arguments after its name, and its exit status. `layout` writes
+//! its output while it reads.
 #![tactic(auto)]
 
 mod layout;

@@ -1,4 +1,4 @@
-//! The program as a function of its arguments, a whole run of it, its version and the command `check`.
+//! The program as a function of its arguments, a whole run of it, its version and the commands `check` and `frames`.
 ghost use Rattle.std.specs.Prelude.{◌≡◌, ◌⊎◌, ◌↔◌, true, false, IfOk, IfErr, OnErr, ◌≤◌, List, String};
 ghost use Rattle.streams.specs.declared.output.WriteFault.{WriteFault};
 ghost use Rattle.command_line.specs.Refusals.{IsMisuse};

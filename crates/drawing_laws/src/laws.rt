@@ -75,18 +75,20 @@ pub fn closed_sets_hold_the_outside()
 
 // Coordinates that grow along the darts of boxes exist: laws, each as the contract of a function that does nothing.
 //
-// Take a nonempty set of boxes that has, with each box, all boxes directly above it, and suppose that it avoids the outside. Take in what the
-// outside does not reach without crossing it, so that the rest is connected. Count the edges that touch the rest. At each vertex the
-// angle over the north-west belongs to the rest, or one dart at most to the east or north runs along the set's border with the set
-// on its left: so there are fewer of these edges than vertices on them and boxes off the set, taken together. But a tree on the faces
-// of the rest, with the whole set as one more node, and a tree on the vertices of these edges have no edge in common, and as many at
-// least. So **the set has the outside**, and likewise in the other three directions.
+// Take a nonempty set of boxes that has, with each box, all boxes directly above it, and suppose that it avoids the
+// outside. Take in what the outside does not reach without crossing it, so that the rest is connected. Count the
+// edges that touch the rest. At each vertex the angle over the north-west belongs to the rest, or one dart at most to
+// the east or north runs along the set's border with the set on its left: so there are fewer of these edges than
+// vertices on them and boxes off the set, taken together. But a tree on the faces of the rest, with the whole set as
+// one more node, and a tree on the vertices of these edges have no edge in common, and as many at least. So **the set
+// has the outside**, and likewise in the other three directions.
 //
-// By the same two trees on all faces and vertices, what flows along the darts and is kept at each vertex is the difference of one
-// number a face. Where it flows along a cycle without darts to the west, the faces with coordinates above the outside's are such a
-// set, and so are, downward, those below: there are none, so nothing flows to the east. Hence from the end of a dart to the east its
-// start is not reached without going to the west. **The coordinate x of a vertex** is the count of darts to the east from whose ends it
-// is reached so: it grows along darts to the east, and stays along those to the north. For y turn the picture by a quarter.
+// By the same two trees on all faces and vertices, what flows along the darts and is kept at each vertex is the
+// difference of one number a face. Where it flows along a cycle without darts to the west, the faces with coordinates
+// above the outside's are such a set, and so are, downward, those below: there are none, so nothing flows to the
+// east. Hence from the end of a dart to the east its start is not reached without going to the west. **The coordinate
+// x of a vertex** is the count of darts to the east from whose ends it is reached so: it grows along darts to the
+// east, and stays along those to the north. For y turn the picture by a quarter.
 
 /// All boxes have coordinates that grow along their darts.
 ///
@@ -117,22 +119,25 @@ pub fn least_points_have_no_gap()
     ensures { (b : BoxesModel) (points : PointsModel) → AreBoxes b → AreLeastPoints b points → AreBelow b.vertices points }
 {}
 
-// Boxes drawn by coordinates that grow along their darts lie apart, and points that are taken from such coordinates draw the
-// shape: laws, each as the contract of a function that does nothing.
+// Boxes drawn by coordinates that grow along their darts lie apart, and points that are taken from such coordinates
+// draw the shape: laws, each as the contract of a function that does nothing.
 //
-// Take one row of cells. A dart to the north that crosses it is on the right side of a box, or on the left side of the outside. In
-// the first case the box has one dart on its left side there, which is, walked to the north, the next dart to the west:
+// Take one row of cells. A dart to the north that crosses it is on the right side of a box, or on the left side of
+// the outside. In the first case the box has one dart on its left side there, which is, walked to the north, the next
+// dart to the west:
 //
 //     outside |  box  |     box     | box | outside
 //             a <---- b <---------- c <-- d
 //
-// The coordinates fall from step to step, so from each dart they lead to the outside; no two steps lead to one dart, so the darts of the
-// row are one sequence. Hence exactly one box covers each cell of the rectangle round all of them.
+// The coordinates fall from step to step, so from each dart they lead to the outside; no two steps lead to one dart,
+// so the darts of the row are one sequence. Hence exactly one box covers each cell of the rectangle round all of
+// them.
 //
-// At a point look at the cell to its upper right. A dart touches it that goes past the point to the south, or to the east, or arrives
-// there with an angle that reaches so far to the right. What touches the cell is of the face that covers it, the outside where no box
-// does; and of one face one dart alone touches it. But at each vertex some dart touches its cell, and of an edge that a point lies inside
-// one of the two darts. So two vertices at one point are one, no vertex lies inside an edge, and no two edges cross or overlap.
+// At a point look at the cell to its upper right. A dart touches it that goes past the point to the south, or to the
+// east, or arrives there with an angle that reaches so far to the right. What touches the cell is of the face that
+// covers it, the outside where no box does; and of one face one dart alone touches it. But at each vertex some dart
+// touches its cell, and of an edge that a point lies inside one of the two darts. So two vertices at one point are
+// one, no vertex lies inside an edge, and no two edges cross or overlap.
 
 /// Points derived from any coordinates within the grid that grow along the darts of boxes draw the shape.
 ///
@@ -148,12 +153,13 @@ pub fn least_points_pass()
         → AreLeastPoints b points → (fault : CheckFault) → IsFirstFault p shape points fault → fault ≡ Memory }
 {}
 
-// Boxes drawn by coordinates that grow along their darts have regions, and what regions are: laws, each as the contract of a function that
-// does nothing.
+// Boxes drawn by coordinates that grow along their darts have regions, and what regions are: laws, each as the
+// contract of a function that does nothing.
 //
-// Each box lies in one face of the plane, and the outside in the outer one. A cell lies in the face of the box that covers it, or in the
-// outer face where none does. Two cells side by side have a dart between them, or one box covers both, or none either. The dart is a part
-// of an edge, with the faces of this edge on its sides, or a cut, with one face on both.
+// Each box lies in one face of the plane, and the outside in the outer one. A cell lies in the face of the box that
+// covers it, or in the outer face where none does. Two cells side by side have a dart between them, or one box covers
+// both, or none either. The dart is a part of an edge, with the faces of this edge on its sides, or a cut, with one
+// face on both.
 
 /// The regions of points derived from coordinates that grow along the darts of boxes are the plane's faces.
 ///

@@ -56,7 +56,8 @@ fn face_supply(plane: &Plane, face: u16) -> i32
     turn - i32::from(plane.degree(face))
 }
 
-/// What a vertex, which counts from 1, has to turn: 4 less its degree, less what its given angles have beyond the first.
+/// What a vertex, which counts from 1, has to turn: 4 less its degree, less what its given angles have beyond the
+/// first.
 ///
 /// Linear in the darts of the plane.
 pub fn vertex_to_turn(plane: &Plane, given: &Given<'_>, vertex: u16) -> i32
@@ -195,7 +196,8 @@ pub fn arcs_of(old: Vec<Arc>, plane: &Plane, given: &Given<'_>) -> Result<Vec<Ar
     Ok(arcs)
 }
 
-/// A list of `count` arcs, to be overwritten, in the buffer of `old`. If that is too small, it allocates exactly `count`.
+/// A list of `count` arcs, to be overwritten, in the buffer of `old`. If that is too small, it allocates exactly
+/// `count`.
 fn resized(old: Vec<Arc>, count: usize) -> Result<Vec<Arc>, AllocError>
     ensures { IfOk result (λ a. length a.items ≡ count) }
 {
@@ -250,8 +252,8 @@ fn write_arcs(arcs: &mut [Arc], plane: &Plane, given: &Given<'_>)
 
 /// The flow network of a plane (Tamassia 1987), whose flows give its orthogonal representations.
 ///
-/// A unit on a corner arc is a right angle beyond the first, and a unit on a crossing arc is a bend. Of angles and turns that
-/// are given the supplies have their part already, and their arcs carry nothing.
+/// A unit on a corner arc is a right angle beyond the first, and a unit on a crossing arc is a bend. Of angles and
+/// turns that are given the supplies have their part already, and their arcs carry nothing.
 ///
 /// For a plane with n vertices and D darts:
 ///
@@ -299,8 +301,8 @@ impl FaceNet {
 
     /// The flow network of a plane besides what is given of its shapes.
     ///
-    /// There need not be a flow, unless nothing is given. Linear in the darts. It reuses the caller's scratch. The network takes
-    /// its lists with it; [`FaceNet::give_back`] returns them.
+    /// There need not be a flow, unless nothing is given. Linear in the darts. It reuses the caller's scratch. The
+    /// network takes its lists with it; [`FaceNet::give_back`] returns them.
     ///
     /// # Errors
     ///

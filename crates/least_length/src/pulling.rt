@@ -455,8 +455,8 @@ fn raise(coordinates: &mut [u32], segments: &[u16], slack: u32) -> bool
     true
 }
 
-/// Adds units to the weights of the pairs by which the search went up on its way to this segment, and takes them from
-/// the others; false if a weight has no room.
+/// Adds units to the weights of pairs walked up, and takes them from those walked down, from this segment back; false
+/// if a weight leaves its range: earlier ones have then changed.
 fn shift(sights: &mut [Sight], marks: &[u16], target: u16, units: u32) -> bool
     requires few { length sights.old ≤ MAX_SIGHTS }
     requires pairs { ArePairs (length marks.now) sights.old }

@@ -307,6 +307,7 @@ impl<W: Write> Sink for OutputSink<W> {
 
     ghost failed = { λ s. s.failed };
 
+    /// Writes a piece; keeps the reason of a failed write.
     fn put(&mut self, piece: &[u8]) -> Result<usize, SinkFault> {
         match self.writer.write(piece) {
             Ok(count) if count > 0 || piece.is_empty() => Ok(count),

@@ -39,7 +39,7 @@ fn list_end(bytes: &[u8]) -> End
     End::Truncated
 }
 
-/// Where the record at the beginning of the bytes ends.
+/// Where the record at the beginning of nonempty bytes ends, or that it is cut off or a list is too long.
 pub fn record_end(bytes: &[u8]) -> End
     requires some { 0 < length bytes.now }
     requires nonzero { slice_index bytes.now 0 ≢ 0 }
