@@ -161,21 +161,11 @@ impl<'c, C: Console> Meter<'c, C> {
     }
 }
 
-/// The place value of each group of three digits, the greatest first.
-const POWERS: [u64; 7] = [
-    1_000_000_000_000_000_000,
-    1_000_000_000_000_000,
-    1_000_000_000_000,
-    1_000_000_000,
-    1_000_000,
-    1000,
-    1,
-];
-
 /// Writes a number with thousands separators (commas).
 fn write_grouped(line: &mut ShortLine, number: u64) -> fmt::Result {
     let mut begun = false;
-    for power in POWERS {
+    let mut power: u64 = 1_000_000_000_000_000_000;
+    for _ in 0..7 {
         let group = number.checked_div(power).unwrap_or(0) % 1000;
         if begun {
             write!(line, ",{group:03}")?;
@@ -183,6 +173,7 @@ fn write_grouped(line: &mut ShortLine, number: u64) -> fmt::Result {
             write!(line, "{group}")?;
             begun = true;
         }
+        power /= 1000;
     }
     Ok(())
 }
