@@ -464,9 +464,9 @@ class Judge:
 
     @functools.cached_property
     def _labels(self) -> list[tuple[Box, list[Element]]]:
-        covers = [one for one in self.shown if one.kind == "rect" and "rx" not in one.own]
+        covers = dict.fromkeys(one.box for one in self.shown if one.kind == "rect" and "rx" not in one.own)  # each once
         texts = [one for one in self.shown if one.kind == "text"]
-        return [(cover.box, [one for one in texts if is_inside(one.points[0], cover.box)]) for cover in covers]
+        return [(cover, [one for one in texts if is_inside(one.points[0], cover)]) for cover in covers]
 
     def labels(self) -> list[tuple[Box, list[Element]]]:
         """The labels of edges: what is behind them, and their texts."""

@@ -1,12 +1,15 @@
 """Frames of clusters: what is laid out, the embedding, and whole drawings, which the judge looks at."""
 from __future__ import annotations
 
+import itertools
 import json
 import random
 import re
 import unittest
+import xml.etree.ElementTree as xml
 
 import support
+from attribute_judge import Element, Hue, elements_of, in_picture, is_inside
 from dot_grammar import PortGrammar
 from drawing_checker import on_outer_face
 from planarbend.command import named
@@ -14,7 +17,9 @@ from planarbend.draw import draw
 from planarbend.drawing.drawn import Drawing
 from planarbend.drawing.nest_search import NestSearch, planarized
 from planarbend.drawing.nesting import nesting_of
+from planarbend.drawing.picture import svg
 from planarbend.drawing.plans import Options
+from planarbend.drawing.themes import DARK_PAPER
 from planarbend.graph import Graph
 from planarbend.layout.library import LibraryEngine
 from planarbend.programs import PlanarbendError
@@ -29,6 +34,10 @@ LONELY = """graph { subgraph cluster_a { label=one; a } subgraph cluster_b { lab
 K33 = "graph { subgraph cluster_a { a; b; x } subgraph cluster_b { c; y; z } a -- x; a -- y; a -- z; b -- x; b -- y; b -- z; c -- x; c -- y; c -- z }"
 # Any three of four vertices that are all joined have a common face, all four only where two edges cross.
 K4 = "graph { a -- b; a -- c; a -- d; b -- c; b -- d; c -- d; subgraph cluster_x { x; y; subgraph cluster_z { z } } x -- a; y -- b; z -- a }"
+LABELS = """digraph { %s subgraph cluster_a { style=filled; fillcolor=lightblue; a; x; subgraph cluster_b { style="filled,rounded"; fillcolor="#ffcc0080"
+  b -> c [label="in b", taillabel=t, headlabel=h, arrowhead=odiamond, dir=both] subgraph cluster_e { c } } a -> x [label="in a", arrowhead=odot] }
+  subgraph cluster_d { label=plain; style=filled; fillcolor=none; d -> e [label="in d", arrowhead=odot] subgraph cluster_g { style="filled,invis"
+  fillcolor=red; g -> e [label="in g"] } } a -> e [label=between]; c -> d [label="c to d", fontcolor=blue, arrowhead=odot]; a -> b [label=over] }"""
 RECORDS = """graph { node [shape=record]; subgraph cluster_in { subgraph cluster_r { r [label="<p> x|<q> y"] } } u; v; r:p -- u; r:q -- v; u -- v }"""
 
 
@@ -162,6 +171,46 @@ class Drawn(unittest.TestCase):
         for seed in range(6):
             self.judged(Plain(seed).file())
 
+    def test_what_is_under_labels_and_heads(self) -> None:
+        """Between a label and its line, and within open heads, is the colour of the frames and of the background that are there, and hides
+        the line."""
+        for background in ("", "bgcolor=beige;", 'bgcolor="#00ff0040";', "bgcolor=transparent;"):
+            made = self.judged(LABELS % background)
+            shown = elements_of(xml.fromstring(made.text("svg")))
+            frames = {tuple(round(side, 1) for side in frame.box) for frame in made.frames.values()}
+            behind = [one for one in shown if one.kind == "rect" and (not one.points or {tuple(round(side, 1) for side in one.box)} <= frames)]
+            covers = [one for one in shown if one.kind == "rect" and one.points and "rx" not in one.own]
+            boxes = [*made.label_boxes.values(), *made.end_boxes.values()]
+            self.assertEqual(len(boxes), 9)
+            for left, top, right, bottom in boxes:
+                over = [one for one in covers if is_inside(((left + right) / 2, (top + bottom) / 2), one.box)]
+                self.assertNotIn("fill-opacity", over[0].own)
+                for corner in ((left, top), (right, bottom)):
+                    self.assertEqual(mixed(over), mixed([one for one in behind if not one.points or is_inside(corner, one.box)]))
+            heads: dict[str, list[Element]] = {}
+            for one in shown:
+                if one.kind == "marker":
+                    heads[one.own["id"]] = []
+                elif one.is_marker and "stroke" in one.own:
+                    list(heads.values())[-1].append(one)
+            lines = [one for one in shown if one.kind == "polyline"]
+            for line, end in itertools.product(lines, ("marker-start", "marker-end")):
+                inside = heads.get(line.own.get(end, "")[len("url(#"):-1])
+                if inside:
+                    (x, y), (u, v) = line.points[-2:] if end == "marker-end" else line.points[1::-1]
+                    at = u + 4 * ((x > u) - (x < u)), v + 4 * ((y > v) - (y < v))
+                    self.assertEqual(mixed(inside), mixed([one for one in behind if not one.points or is_inside(at, one.box)]))
+
+    def test_labels_of_a_theme(self) -> None:
+        """In dark pictures they are black on the colours of a file, as labels of frames are, and light elsewhere."""
+        found = re.findall(r'<rect x=[^>]*? fill="([^"]*)"[^>]*?/>\n<text [^>]*?dy=".35em"(?: fill="(.*?)")?>(.*?)<', svg(draw(
+            of(LABELS % ""), engine=self.engine), "dark"))
+        fills = {text: (cover, fill) for cover, fill, text in found}
+        black = dict.fromkeys(("in a", "in b", "over", "t", "h"), "black")
+        self.assertEqual({text: fill for text, (_, fill) in fills.items()},
+                         black | {"in d": "", "in g": "", "between": "", "c to d": "blue"})
+        self.assertEqual({fills[text][0] for text in ("in d", "in g", "between")}, {DARK_PAPER})
+
     def test_no_library(self) -> None:
         """The program takes no conditions: clusters are left out with a warning that names them."""
 
@@ -195,6 +244,17 @@ class Drawn(unittest.TestCase):
         self.assertEqual(graph.looks.warnings, ["clusters are drawn without frames: cluster_in, cluster_r: no vertex within a frame is on the"
                                                 " outer face, as it must be: r (in cluster_r)"])
         self.assertLessEqual(set(named(graph, "u,r")), on_outer_face(json.loads(made.text("json"))))
+
+
+def mixed(elements: list[Element]) -> Hue:
+    """The colour of elements, each over those before it, on white."""
+    found: tuple[float, ...] = (255.0, 255.0, 255.0)
+    for one in elements:
+        hue = in_picture(one, "fill")
+        if hue is not None and one.values.get("fill") != "none":
+            share = hue[3] / 255
+            found = tuple(old + share * (new - old) for old, new in zip(found, hue))
+    return tuple(round(one) for one in found)
 
 
 if __name__ == "__main__":

@@ -2,7 +2,7 @@
 from __future__ import annotations
 
 from planarbend.drawing.drawn import Drawing
-from planarbend.drawing.ink import lettered, painted, stroked, wrapped
+from planarbend.drawing.ink import is_solid, lettered, painted, stroked, wrapped
 from planarbend.drawing.symbols import ROUND, rectangle
 from planarbend.drawing.texts import FAMILY, FONT, LINE_HEIGHT, lines_of, text_lines
 
@@ -24,9 +24,7 @@ def frame_elements(drawing: Drawing, line: str, ink: str, theme: str) -> list[st
         found += wrapped(one.look, [rectangle(frame.box, ROUND * one.look.is_rounded, paint)])
         if frame.label_box is not None:
             left, top, right, bottom = frame.label_box
-            fill, font = one.look.fill, one.look.font
-            is_own = fill is not None and fill.text != "none" and font.colour is None and theme != "light"
-            words = lettered(font) + (' fill="black"' if is_own else "")
-            height = LINE_HEIGHT * (font.size or FONT) / FONT
+            words = lettered(one.look.font, is_solid(one.look.fill) and theme != "light")
+            height = LINE_HEIGHT * (one.look.font.size or FONT) / FONT
             texts += wrapped(one.look, text_lines(lines_of(one.label), (left + right) / 2, (top + bottom) / 2, height, words))
     return [*found, "</g>", *texts, "</g>"]

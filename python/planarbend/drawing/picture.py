@@ -9,7 +9,7 @@ from collections.abc import Sequence
 from planarbend.drawing.drawn import Box, Drawing, Point
 from planarbend.drawing.field_picture import field_lines, field_texts
 from planarbend.drawing.frame_picture import frame_elements
-from planarbend.drawing.ink import Markers, lettered, painted, stroked, wrapped
+from planarbend.drawing.ink import Markers, beneath, is_solid, lettered, painted, stroked, wrapped
 from planarbend.drawing.nets import dots_of, ends_of, net_labels, pieces_of
 from planarbend.drawing.items import size_of
 from planarbend.drawing.symbols import ROUND, WHOLE, border, drawn_on, elements
@@ -40,13 +40,14 @@ def svg(drawing: Drawing, theme: str = "light") -> str:
     background = drawing.graph.looks.graph.background
     theme = "light" if background is not None else theme
     behind = paper(theme) if background is None else painted("fill", background)
-    cover = behind if background is None or background.text != "none" else paper("light")
-    markers = Markers(drawing.graph, LINE, cover)
+    is_opaque = background is None or is_solid(background) and background.opacity >= 1
+    cover = [behind] if is_opaque else [paper("light")] + [behind] * is_solid(background)
+    markers = Markers(drawing, LINE, cover)
     (width, height), caption = captioned(drawing)
     text = svg_text(width, height, [*markers.elements(), *frame_elements(drawing, LINE, INK, theme),
                                     *line_elements(drawing, markers, False),
                                     *box_elements(drawing, theme, line_elements(drawing, markers, True)),
-                                    *label_elements(drawing, cover), *net_label_elements(drawing), *caption], behind)
+                                    *label_elements(drawing, theme, cover), *net_label_elements(drawing), *caption], behind)
     return themed(text, theme)
 
 
@@ -115,8 +116,7 @@ def box_elements(drawing: Drawing, theme: str, over: Sequence[str]) -> list[str]
             continue
         found += wrapped(look, outline_elements(vertex, look, box) + field_lines(drawing, number, look))
         height = LINE_HEIGHT * (look.font.size or FONT) / FONT
-        is_own = look.fill is not None and look.fill.text != "none" and look.font.colour is None and theme != "light"
-        words = lettered(look.font) + (' fill="black"' if is_own else "")  # which the file expects on its own colours
+        words = lettered(look.font, is_solid(look.fill) and theme != "light")
         texts += wrapped(look, [line for text, at in field_texts(drawing, number) for line in text_lines(
             lines_of(text), (at[0] + at[2]) / 2, (at[1] + at[3]) / 2, height, words)])
     return found + ["</g>", *net_elements(drawing), *over, *texts, "</g>"]
@@ -149,8 +149,9 @@ def net_elements(drawing: Drawing) -> list[str]:
     return found + ["</g>"]
 
 
-def label_elements(drawing: Drawing, paint: str) -> list[str]:
-    """Return the labels of the edges, each on its line; `paint` are the attributes of what is between the two."""
+def label_elements(drawing: Drawing, theme: str, paper: Sequence[str]) -> list[str]:
+    """Return the labels of the edges, each on its line, and between the two what is under the line; `paper` paints what is behind
+    all."""
     labels = [(number, drawing.graph.edges[number].label, box) for number, box in drawing.label_boxes.items()]
     for (number, is_head), box in drawing.end_boxes.items():
         look = drawing.graph.looks.edges[number]
@@ -158,13 +159,14 @@ def label_elements(drawing: Drawing, paint: str) -> list[str]:
     if not labels:
         return []
     found = [f'<g fill="{INK}" font-family="{FAMILY}" font-size="{LABEL_FONT}" text-anchor="middle">']
-    for number, label, (left, top, right, bottom) in labels:
-        look = drawing.graph.looks.edges.get(number, EdgeLook())
+    for number, label, box in labels:
+        look, (left, top, right, bottom) = drawing.graph.looks.edges.get(number, EdgeLook()), box
         if look.is_visible:
-            cover = (f'<rect x="{left:.1f}" y="{top:.1f}" width="{right - left:.1f}" height="{bottom - top:.1f}"{paint}/>')
-            height = LABEL_HEIGHT * (look.font.size or LABEL_FONT) / LABEL_FONT
-            lines = text_lines(lines_of(label), (left + right) / 2, (top + bottom) / 2, height, lettered(look.font))
-            found += wrapped(look, [cover, *lines])
+            place = f'x="{left:.1f}" y="{top:.1f}" width="{right - left:.1f}" height="{bottom - top:.1f}"'
+            under, height = beneath(drawing, box, paper), LABEL_HEIGHT * (look.font.size or LABEL_FONT) / LABEL_FONT
+            words = lettered(look.font, under != paper and theme != "light")
+            lines = text_lines(lines_of(label), (left + right) / 2, (top + bottom) / 2, height, words)
+            found += wrapped(look, [*(f"<rect {place}{paint}/>" for paint in under), *lines])
     return found + ["</g>"]
 
 
