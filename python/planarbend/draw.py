@@ -295,7 +295,7 @@ def side_by_side(graph: Graph, parts: Sequence[Part]) -> Drawing:
     labels: dict[int, Box] = {}
     end_labels: dict[tuple[int, bool], Box] = {}
     frames: dict[int, Frame] = {}
-    field_boxes: dict[int, list[Box]] = {}
+    field_boxes, text_boxes = dict[int, list[Box]](), dict[int, list[Box]]()
     meets: dict[tuple[int, bool], Point] = {}
     bounds = [part.sheet.bounds() for part in parts]
     places, width, height = packed([(right - left + BETWEEN, bottom - top + BETWEEN) for left, top, right, bottom in bounds])
@@ -313,15 +313,16 @@ def side_by_side(graph: Graph, parts: Sequence[Part]) -> Drawing:
             label = sheet.frame_labels.get(cluster)
             frames[part.clusters[cluster]] = Frame(box_at(sheet.extent(item), corner, place), None if label is None else box_at(
                 sheet.extent(label), corner, place))
-        for number in sheet.graph.fields:
+        for number, some in field_items.text_boxes(sheet).items():
             field_boxes[part.vertices[number]] = [box_at(one, corner, place) for one in field_items.field_boxes(sheet, number)]
+            text_boxes[part.vertices[number]] = [box_at(one, corner, place) for one in some]
         for (number, is_head), end in sheet.graph.ends.items():
             meets[edges[number], is_head] = point_at(end_of(sheet, number, is_head, end), corner, place)
         crossings += [Crossing(meeting(lines[edges[one]], lines[edges[other]]), (edges[one], edges[other]))
                       for one, other in crossings_of(sheet.shape)]
     size = (math.ceil(width - BETWEEN + 2 * MARGIN), math.ceil(height - BETWEEN + 2 * MARGIN))
     embedding = [lists for part in parts for lists in bare(part.sheet.shape)]
-    return Drawing(graph, boxes, lines, crossings, size, labels, embedding, end_labels, frames, field_boxes, meets)
+    return Drawing(graph, boxes, lines, crossings, size, labels, embedding, end_labels, frames, field_boxes, meets, text_boxes)
 
 
 def end_of(sheet: Sheet, number: int, is_head: bool, end: End) -> Point:

@@ -32,6 +32,7 @@ Box = Sequence[float]  # left, top, right, bottom
 Said = dict[str, Any]
 
 SLACK = .3  # pixels
+NARROW = "ijlftrI.,:;'|!()[]{}`\"/\\- "  # letters
 POINTS = ("n", "ne", "e", "se", "s", "sw", "w", "nw")
 TOKEN = re.compile(r'//[^\n]*|/\*.*?\*/|(?:^|(?<=\n))#[^\n]*|"(?:[^"\\]|\\.)*"|[\w.\x80-\U0010ffff-]+|\S', re.S)
 SIGN = re.compile(r"\\.|[{}|<>]|[^\\{}|<>]+", re.S)
@@ -228,6 +229,19 @@ def sides_at(box: Box, point: Sequence[float]) -> set[str]:
     return {side for side, far in (("w", x - box[0]), ("n", y - box[1]), ("e", x - box[2]), ("s", y - box[3])) if abs(far) <= SLACK}
 
 
+def letters_of(text: Element) -> Box:
+    """A box that the letters of a text fill at least, in a font as wide as DejaVu Sans."""
+    (x, y), size = text.points[0], float(text.values.get("font-size", 11))
+    half = size * sum(.27 if one in NARROW else .5 for one in text.text) / 2
+    return x - half, y - .38 * size, x + half, y + (.5 if set(text.text) & set("gjpqy") else .35) * size
+
+
+def meets(line: Sequence[Point], box: Box) -> bool:
+    """Whether a piece of a line runs through a box."""
+    return any(min(x, u) < box[2] and max(x, u) > box[0] and min(y, v) < box[3] and max(y, v) > box[1]
+               for (x, y), (u, v) in itertools.pairwise(line))
+
+
 def crossings(line: Sequence[Point], box: Box) -> int:
     """How often a line crosses the border of a box. Its ends may lie there; a piece along the border counts twice."""
     found = 0
@@ -320,6 +334,9 @@ class Judge:
             inside = [some for some in self.elements if some.kind == "text" and holds(at, some.points[0] * 2)]
             shown = "".join(words_of("".join(some.text for some in inside)))
             self.check("texts of fields", shown == text, f"node {name}: the text {shown!r} for {text!r}")
+            for some in inside:
+                crossed = any(meets(line.points, letters_of(some)) for line in self.elements if line.kind == "polyline")
+                self.check("lines beside texts", not crossed, f"node {name}: a line crosses the text {some.text!r}")
         for (kind, number), places in lines.items():
             self.check("lines of fields", max(places) - min(places) <= SLACK, f"node {name}: {kind} {number} at {sorted(places)}")
         for kind, near, far in (("row", box[1], box[3]), ("column", box[0], box[2])):

@@ -25,7 +25,7 @@ from svg_reader import SVG
 from test_attributes import EVERYTHING
 from test_clusters import CLUSTERS, COMPOUND, GML, YED
 from test_frames import LONELY, NESTED
-from test_port_drawings import BOTH, COMPASS, TABLE
+from test_port_drawings import BOTH, COMPASS, MIDDLES, TABLE
 from test_ports import GRAPHML, STRUCTS, TABLES
 from test_read_back import LABELLED
 
@@ -39,6 +39,7 @@ LOOKS = """graph { label=whole; bgcolor=ivory; fontsize=20; fontcolor=red; compo
 ODD = """digraph { subgraph "cluster \\"1\\"" { label="<1>"; "a\\b" } subgraph cluster { label="é &amp; y"; z }
   subgraph cluster_e { label=empty } "a\\b" -> z }"""
 TEXTS = {"structs": STRUCTS, "tables": TABLES, "clusters": CLUSTERS, "compound": COMPOUND, "nested": NESTED, "lonely": LONELY, "both": BOTH,
+         "middles": MIDDLES,
          "compass": COMPASS, "table": TABLE, "columns": COLUMNS, "looks": LOOKS, "odd": ODD, **FILES}
 NAMED = {"graphml": GRAPHML, "yed": YED, "nested": support.GRAPHS["nested.graphml"].read_text(encoding="utf-8")}
 Told = dict[str, Any]
@@ -199,7 +200,7 @@ class ByGraphviz(unittest.TestCase):
         except (ImportError, PlanarbendError, OSError) as fault:
             raise unittest.SkipTest(f"needs scipy and the library: {fault}") from None
         names = ("structs", "tables", "clusters", "compound", "nested", "both", "table", "columns", "looks", "machine", "empties",
-                 "gates", "list_7", "hash_5", "search_3")
+                 "gates", "list_7", "hash_5", "search_3", "middles")
         cls.made = {name: draw(of(TEXTS[name]), Options(effort=0), engine) for name in names}
 
     def test_all_is_taken(self) -> None:
@@ -243,6 +244,24 @@ class ByGraphviz(unittest.TestCase):
             move = [min(box[axis] for box in boxes) - min(cell[axis] for cell in found) for axis in (0, 1)]
             for box in boxes:
                 self.assertTrue(any(all(abs(cell[side] + move[side % 2] - box[side]) <= 2 for side in range(4)) for cell in found), box)
+
+    def test_lines_over_fields(self) -> None:
+        """Graphviz draws the texts of fields beside the lines that pass there."""
+        count = 0
+        for name in ("structs", "table", "middles"):
+            ran = subprocess.run(["neato", "-n2", "-Tsvg"], input=self.made[name].text("dot").encode(), capture_output=True, check=True)
+            groups = [one for one in xml.fromstring(ran.stdout).iter(SVG + "g") if one.get("class") in ("node", "edge")]
+            lines = [[float(part) for part in re.findall(r"-?[\d.]+", path.get("d", ""))]
+                     for one in groups if one.get("class") == "edge" for path in one.iter(SVG + "path")]
+            pieces = [piece for line in lines for piece in zip(line[::2], line[1::2], line[2::2], line[3::2])]
+            for text in (text for one in groups if one.get("class") == "node" for text in one.iter(SVG + "text")):
+                x, y, size = (float(text.get(key, "nan")) for key in ("x", "y", "font-size"))
+                wide, count = .27 * size * len(text.text or ""), count + 1
+                left = x if text.get("text-anchor") == "start" else x - wide / 2
+                crossed = [one for one in pieces if min(one[::2]) < left + wide and max(one[::2]) > left
+                           and min(one[1::2]) < y and max(one[1::2]) > y - .7 * size]
+                self.assertEqual(crossed, [], (name, text.text))
+        self.assertGreater(count, 30)
 
     def test_ports(self) -> None:
         """Graphviz finds the same ports at the same edges as in the file."""

@@ -11,12 +11,12 @@ import support
 from dot_grammar import PortGrammar
 from planarbend.draw import draw
 from planarbend.drawing.drawn import Drawing
-from planarbend.drawing.field_items import in_order
 from planarbend.drawing.linked import NONE
 from planarbend.drawing.nest_search import NestSearch
 from planarbend.drawing.nesting import nesting_of
 from planarbend.drawing.picture import line_of
 from planarbend.drawing.sites import Sites, rectangles, sides_of
+from planarbend.drawing.solver import in_order
 from planarbend.layout.library import LibraryEngine
 from planarbend.ports import Compass, End, Field, Side, Span
 from planarbend.programs import PlanarbendError
@@ -35,6 +35,11 @@ LOOPS = """graph { node [shape=record]; a [label="<p> x|<q> y"]; a:p -- a; a -- 
   b -- c; d [label="<u> 1|<v> 2"]; d:u:w -- d:v:e; d -- b; d -- c; d -- a }"""
 BOTH = """digraph { compound=true; node [shape=record]; subgraph cluster_a { label=A; r [label="{<p> x|<q> y}"]; s } subgraph cluster_b { label=B;
   t [label="<u> 1|<v> 2|<w> 3"] } r:p:e -> t:u; r:q -> t:w; t:v:n -> s; s -> r:p; s -> t [lhead=cluster_b]; t:u -> t:w }"""
+
+
+GRID = "{{<a> alpha|<b> beta|<c> gamma}|{<d> delta|<e> epsilon|<f> phi}|{<g> ghi|<h> hjk|<i>}}"
+MIDDLES = f"""digraph {{ node [shape=record]; m [label="{GRID}"]; n [label="{GRID}", fontsize=20]; r [label="<l> left|<m> middle|<r> right"]
+  p -> m:e; r:m -> m:e; q -> m:d; m:b -> r:l; r:m:w -> s; t -> r:m:e; m:e -> u; n:e:n -> m:e; n:e -> n:a; n:e:se -> r:m:e; v -> n:e }}"""
 
 
 class Places(unittest.TestCase):
@@ -196,6 +201,28 @@ class Drawn(unittest.TestCase):
         assert place is not None
         share = (at[0] - boxes[place][0]) / (boxes[place][2] - boxes[place][0])
         self.assertGreater(abs(share - 0.5), 0.2)
+
+    def test_texts_on_the_way(self) -> None:
+        """Lines to fields in the middle cross no text, which the judge sees, and are 4 pixels or more from borders beside them."""
+        made, count = self.judged(MIDDLES), 0
+        for (edge, is_head), at in made.meets.items():
+            ends, (x, y) = made.graph.edges[edge], made.lines[edge][-1 if is_head else 0]
+            vertex, axis = ends.head if is_head else ends.tail, 0 if x == at[0] else 1
+            begin, end = sorted((y, at[1]) if axis == 0 else (x, at[0]))
+            for (one, _), box, text in zip(made.graph.fields[vertex].walk(), made.field_boxes[vertex], made.text_boxes[vertex]):
+                if one.fields or not max(begin, box[1 - axis]) < min(end, box[3 - axis]) or not box[axis] <= at[axis] <= box[2 + axis]:
+                    self.assertTrue(one.fields or all(box[place] <= text[place] for place in (0, 1)))
+                    continue
+                count += 1
+                self.assertGreaterEqual(min(at[axis] - box[axis], box[2 + axis] - at[axis]), 4)
+                self.assertTrue(not one.text or text[2 + axis] <= at[axis] or text[axis] >= at[axis] or abs(
+                    2 * at[axis] - text[axis] - text[2 + axis]) > 8)
+        self.assertGreater(count, 7)
+
+    def test_a_line_up_to_a_frame(self) -> None:
+        """It does not reach the field in the middle, so all texts are in the middles of their fields."""
+        made = self.judged(f'digraph {{ compound=true; subgraph cluster_a {{ m [shape=record, label="{GRID}"] }} x -> m:e [lhead=cluster_a] }}')
+        self.assertEqual(made.text_boxes, made.field_boxes)
 
     def test_random(self) -> None:
         for seed in (2, 3, 4, 6, 7, 26, 507):

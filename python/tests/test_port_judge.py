@@ -88,7 +88,9 @@ class Judged(unittest.TestCase):
 
     def test_changes_of_the_picture(self) -> None:
         for old, new, fault in ((">x<", ">v<", "the text 'v' for 'x'"), ('fill="gold"', 'fill="navy"', "fill gold"),
-                                ('stroke="red" fill="none"', 'stroke="navy"', "stroke red"), (">A<", "><", "the label 'A'")):
+                                ('stroke="red" fill="none"', 'stroke="navy"', "stroke red"), (">A<", "><", "the label 'A'"),
+                                ("</svg>", '<polyline points="85,58 110,58"/></svg>', "a line crosses the text 'w'"),
+                                ("</svg>", '<polyline points="92,80 92,20"/></svg>', "a line crosses the text 'w'")):
             self.assertTrue(any(fault in one for one in Judge(FILE, PICTURE.replace(old, new), DRAWING).judged()), fault)
 
     def test_a_node_in_two_clusters(self) -> None:

@@ -48,6 +48,8 @@ class Drawing:
         Those of all clusters, but for those of which a warning says that they are left out.
     field_boxes : dict from vertex to list of Box
         For each vertex whose fields are drawn their boxes, in the order of `Field.walk`, that of the whole first.
+    text_boxes : dict from vertex to list of Box
+        For each of these fields the box in whose middle its text is: that of the field, or a part beside lines that pass over it.
     meets : dict from (edge, whether at the head) to (x, y)
         The point where an edge meets its port: at the border of its field, at the side that is its compass point, or at the frame
         of a cluster. It is the end of the edge's line, unless the field is within others: then it is straight on from there.
@@ -64,6 +66,7 @@ class Drawing:
     frames: dict[int, Frame] = field(default_factory=dict)
     field_boxes: dict[int, list[Box]] = field(default_factory=dict)
     meets: dict[tuple[int, bool], Point] = field(default_factory=dict)
+    text_boxes: dict[int, list[Box]] = field(default_factory=dict)
 
     @property
     def bends(self) -> int:

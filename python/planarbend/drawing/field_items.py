@@ -1,9 +1,9 @@
 """Fields of vertices among the coordinates of a drawing: the lines between them, and the ends of edges at them."""
 from __future__ import annotations
 
-import heapq
 from collections.abc import Iterator, Sequence
 from dataclasses import dataclass
+from itertools import pairwise
 from typing import TYPE_CHECKING
 
 from planarbend.drawing.nesting import is_port
@@ -98,20 +98,44 @@ def hold_end(sheet: Sheet, edge: int, is_head: bool, axis: int, coordinate: int)
     sheet.port_ends.append(PortEnd(axis, (low[axis], coordinate, high[axis]), share, is_low or is_high))
 
 
-def hold_halves(sheet: Sheet) -> bool:
-    """Demand that ends at corners lie in the halves of their fields beside these. Return whether some did not."""
-    found = False
-    for end in sheet.port_ends:
-        value, is_low = sheet.axes[end.axis].value, end.share < MIDDLE
-        low, coordinate, high = map(sheet.axes[end.axis].same.find, end.places)
-        middle = (value[low] + value[high]) / 2
-        if end.is_held and is_low and value[coordinate] > middle:
-            sheet.within[end.axis].append((coordinate, high, value[coordinate] - value[low] + 1))
-        elif end.is_held and not is_low and value[coordinate] < middle:
-            sheet.within[end.axis].append((low, coordinate, value[high] - value[coordinate] + 1))
-        else:
-            continue
-        found = True
+def passed(sheet: Sheet) -> Iterator[tuple[int, int, int, list[int], float]]:
+    """Yield the fields over which lines pass on their way to a field within the vertex: the vertex, the place of the field in
+    `Field.walk`, the axis across the lines, the coordinates along it at which the field begins, of the lines, and at which it
+    ends, in order, and the room that its text takes."""
+    lines: dict[tuple[int, int], list[tuple[int, float, float]]] = {}  # coordinates, and from where to where along the other axis
+    for (edge, is_head), end in sheet.graph.ends.items():
+        if is_port(end) and end.field is not None:
+            ends, piece = sheet.graph.edges[edge], sheet.piece_at(edge, is_head)[0]
+            axis, points = piece.across, (sheet.line(edge)[-is_head], met(sheet, edge, is_head, end))
+            begin, last = sorted(point[1 - axis] for point in points)
+            lines.setdefault((ends.head if is_head else ends.tail, axis), []).append((piece.low[axis], begin, last))
+    for (vertex, axis), some in lines.items():
+        value, find, look = sheet.axes[axis].value, sheet.axes[axis].same.find, sheet.graph.looks.nodes.get(vertex)
+        fields = zip(sheet.graph.fields[vertex].walk(), sheet.fields[vertex], field_boxes(sheet, vertex))
+        for place, ((one, _), (low, high), box) in enumerate(fields):
+            over = {line for line, begin, last in some if box[axis] <= value[line] < box[2 + axis]
+                    and begin < box[3 - axis] and box[1 - axis] < last}
+            if over and not one.fields:
+                places = [find(low[axis]), *sorted(over, key=value.__getitem__), find(high[axis])]
+                yield vertex, place, axis, places, field_size(one, look)[axis] if one.text.strip() else 0.0
+
+
+def part_of(value: Sequence[float], places: Sequence[int], room: float) -> tuple[int, int]:
+    """Return the coordinates between which the text of a field is that `passed` yields: the first and the last, unless a line
+    would cross the text in the middle; then two that follow each other and are farthest apart."""
+    first, *lines, last = places
+    if all(abs(2 * value[line] - value[first] - value[last]) >= room for line in lines):
+        return first, last
+    return max(pairwise(places), key=lambda pair: value[pair[1]] - value[pair[0]])
+
+
+def text_boxes(sheet: Sheet) -> dict[int, list[Box]]:
+    """Return for the fields of vertices, in the order of `Field.walk`, the boxes in whose middle their texts are."""
+    found = {vertex: field_boxes(sheet, vertex) for vertex in sheet.graph.fields}
+    for vertex, field, axis, places, room in passed(sheet):
+        left, top, right, bottom = found[vertex][field]
+        low, high = (sheet.axes[axis].value[place] for place in part_of(sheet.axes[axis].value, places, room))
+        found[vertex][field] = (low, top, high, bottom) if axis == 0 else (left, low, right, high)
     return found
 
 
@@ -142,30 +166,3 @@ def met(sheet: Sheet, edge: int, is_head: bool, end: End) -> Point:
     if x == u:
         return u, top if v > y else bottom
     return left if u > x else right, v
-
-
-def in_order(order: Sequence[int], constraints: Sequence[tuple[int, int, float]]) -> list[int]:
-    """Return coordinates in an order that constraints `low, high, distance` allow, as close as possible to a given one."""
-    place = {number: at for at, number in enumerate(order)}
-    after: dict[int, list[int]] = {}
-    waits = dict.fromkeys(order, 0)
-    for low, high in {(low, high) for low, high, _ in constraints if low != high}:
-        after.setdefault(low, []).append(high)
-        waits[high] += 1
-    ready = [place[number] for number in order if not waits[number]]
-    heapq.heapify(ready)
-    found: list[int] = []
-    while len(found) < len(order):
-        if not ready:  # a cycle
-            ready.append(min(place[number] for number, count in waits.items() if count > 0))
-        number = order[heapq.heappop(ready)]
-        if waits[number] < 0:
-            continue
-        waits[number] = -1
-        found.append(number)
-        for other in after.get(number, ()):
-            waits[other] -= 1
-            if waits[other] == 0:
-                heapq.heappush(ready, place[other])
-    return found
-

@@ -11,7 +11,7 @@ from planarbend.style import NodeLook, Outline
 
 def field_texts(drawing: Drawing, number: int) -> Iterator[tuple[str, Box]]:
     """Yield the texts of a vertex and the boxes in whose middle they are: those of its fields, or its label."""
-    boxes = drawing.field_boxes.get(number)
+    boxes = drawing.text_boxes.get(number, drawing.field_boxes.get(number))
     if boxes is None:
         yield drawing.graph.vertices[number].label, drawing.boxes[number]
         return

@@ -55,8 +55,8 @@ def is_solid(colour: Colour | None) -> bool:
 
 
 def beneath(drawing: Drawing, box: Box, paper: Sequence[str]) -> list[str]:
-    """Return the attributes that paint what lies under a box, from below: the paper, and the frames around the box that are filled;
-    without what another hides."""
+    """Return the attributes that paint what lies under a box, from below: the paper, and the frames around the box that are
+    filled, without what another hides."""
     found = list(paper)
     for number, frame in sorted(drawing.frames.items()):
         look, (left, top, right, bottom) = drawing.graph.clusters[number].look, frame.box

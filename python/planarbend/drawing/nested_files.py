@@ -22,6 +22,7 @@ FONT_HEIGHT = 1.2 * FONT  # pixels, of a line in Graphviz
 NEAR = 0.01  # pixels
 SIGNS = str.maketrans({sign: "\\" + sign for sign in "\\{}|<>"} | {"\n": "\\n"})  # of records
 TABLE = ' border="0" cellborder="1" cellspacing="0" cellpadding="0"'
+PADDED = ' cellpadding="2"'
 
 
 def steps(clusters: Sequence[Cluster], chosen: Iterable[int]) -> Iterator[tuple[int, bool]]:
@@ -135,9 +136,10 @@ def record_text(whole: Field) -> str:
     return "|".join(found)
 
 
-def table_text(whole: Field, boxes: Sequence[Box] = ()) -> str:
-    """Return fields as a table of Graphviz's HTML; `boxes` are in the order of `Field.walk`, if cells have borders and sizes."""
-    box_of = {id(one): box for (one, _), box in zip(whole.walk(), boxes)}
+def table_text(whole: Field, boxes: Sequence[Box] = (), texts: Sequence[Box] = ()) -> str:
+    """Return fields as a table of Graphviz's HTML. If cells have borders and sizes, `boxes` are those of the fields, and `texts`
+    those in whose middle their texts are, in the order of `Field.walk`."""
+    box_of = {id(one): pair for (one, _), *pair in zip(whole.walk(), boxes, texts)}
 
     def cell(one: Field) -> str:
         """Return a field as a cell."""
@@ -145,10 +147,10 @@ def table_text(whole: Field, boxes: Sequence[Box] = ()) -> str:
         if boxes and one.fields:
             words += ' border="0"'
         elif boxes:
-            (left, top, right, bottom), (x, y) = box_of[id(one)], boxes[0][:2]
+            (left, top, right, bottom), (x, y) = box_of[id(one)][0], boxes[0][:2]
             sizes = int(right - x) - int(left - x), int(bottom - y) - int(top - y)
             wide, high = (size // count * count for size, count in zip(sizes, (one.at.columns, one.at.rows)))  # not rounded up
-            words += f' width="{wide}" height="{high}"'
+            words += f' width="{wide}" height="{high}"' + aligned(*box_of[id(one)])
         text = escape(allowed(one.text), quote=False).replace("\n", "<br/>")
         return f"<td{port_word(one.port)}{words}>{table(one) if one.fields else text}</td>"
 
@@ -161,21 +163,34 @@ def table_text(whole: Field, boxes: Sequence[Box] = ()) -> str:
     return table(whole, whole.port)
 
 
+def aligned(box: Box, text: Box) -> str:
+    """Return the attributes of a cell in HTML with this box, if the box in whose middle its text is lies at one of its sides."""
+    found = ""
+    for axis, key, sides in ((0, "align", ("left", "right")), (1, "valign", ("top", "bottom"))):
+        is_after = text[axis] > box[axis]
+        if is_after != (text[2 + axis] < box[2 + axis]):
+            found += f' {key}="{sides[is_after]}"'
+    return found and found + PADDED
+
+
 def port_word(port: str) -> str:
     """Return the attribute that names a port in HTML; nothing if it has no name."""
     return f" port={attribute(port)}" if port else ""
 
 
 def field_values(drawing: Drawing, number: int, is_column: bool) -> dict[str, object]:
-    """Return the attributes in DOT of a vertex with fields: a record as a record if edges end at its fields there too, another one as
-    a table, whose cells have sizes; `is_column` is what `has_columns` returns."""
+    """Return the attributes in DOT of a vertex with fields: a record as a record if edges end at its fields there too and no
+    line passes beside a text, another one as a table, whose cells have sizes; `is_column` is what `has_columns` returns."""
     graph = drawing.graph
     if number not in graph.fields:
         return {}
     whole, outline = graph.fields[number], graph.looks.nodes.get(number, NodeLook()).outline
-    if outline in RECORDS and outline is not None and is_record(whole, is_column) and has_ends(drawing, number, is_column):
+    boxes = drawing.field_boxes.get(number, [])
+    texts = drawing.text_boxes.get(number, boxes)
+    is_plain = is_record(whole, is_column) and texts == boxes and has_ends(drawing, number, is_column)
+    if outline in RECORDS and outline is not None and is_plain:
         return {"shape": outline.value, "label": Source(identifier(record_text(whole))), "margin": MARGIN}
-    return {"label": Source(f"<{table_text(whole, drawing.field_boxes.get(number, ()))}>"), "margin": "0"}
+    return {"label": Source(f"<{table_text(whole, boxes, texts)}>"), "margin": "0"}
 
 
 def port_values(graph: Graph, number: int, clusters: Sequence[str]) -> dict[str, str]:

@@ -1,6 +1,7 @@
 """Coordinates under constraints: by longest paths, by least length, and by moves of single coordinates."""
 from __future__ import annotations
 
+import heapq
 import math
 from collections.abc import Sequence
 
@@ -201,3 +202,29 @@ class Solver:
         middle = (start + end) / 2
         begin = min(max(middle - size / 2, first), last - size)
         self.value[low], self.value[high] = begin, begin + size
+
+
+def in_order(order: Sequence[int], constraints: Sequence[tuple[int, int, float]]) -> list[int]:
+    """Return coordinates in an order that constraints `low, high, distance` allow, as close as possible to a given one."""
+    place = {number: at for at, number in enumerate(order)}
+    after: dict[int, list[int]] = {}
+    waits = dict.fromkeys(order, 0)
+    for low, high in {(low, high) for low, high, _ in constraints if low != high}:
+        after.setdefault(low, []).append(high)
+        waits[high] += 1
+    ready = [place[number] for number in order if not waits[number]]
+    heapq.heapify(ready)
+    found: list[int] = []
+    while len(found) < len(order):
+        if not ready:  # a cycle
+            ready.append(min(place[number] for number, count in waits.items() if count > 0))
+        number = order[heapq.heappop(ready)]
+        if waits[number] < 0:
+            continue
+        waits[number] = -1
+        found.append(number)
+        for other in after.get(number, ()):
+            waits[other] -= 1
+            if waits[other] == 0:
+                heapq.heappush(ready, place[other])
+    return found

@@ -10,10 +10,10 @@ import math
 
 from planarbend.drawing.constraints import GAP, apart, lengths_of, reach_of
 from planarbend.drawing.extents import BOX, LABEL
-from planarbend.drawing.field_items import centre_ends, hold_halves, in_order
+from planarbend.drawing.field_items import MIDDLE, centre_ends, part_of, passed
 from planarbend.drawing.frame_items import place_frame_labels
 from planarbend.drawing.items import Sheet
-from planarbend.drawing.solver import Solver
+from planarbend.drawing.solver import Solver, in_order
 from planarbend.graph import Kind
 
 PASSES = 2
@@ -21,6 +21,7 @@ SAME = 1e-3  # pixels, by which distances may differ
 NARROW = 4.0  # pixels, between a label at an end of an edge and others, if it cannot be nearer to this end otherwise
 MOST_HELD = 3  # times that lines are made longer for labels at their ends
 CLOSE = 20.0  # pixels, from an end of a line to a label that need not be nearer to it than to the other end
+BORDER = 6.0  # pixels, from a line over a field to its borders
 
 
 def spread(sheet: Sheet) -> None:
@@ -28,7 +29,7 @@ def spread(sheet: Sheet) -> None:
     for step in range(PASSES):
         settle_both(sheet, step)
     for _ in range(MOST_HELD + MOST_HELD * bool(sheet.port_ends)):
-        if not hold_halves(sheet) and not hold_labels(sheet):
+        if not hold_halves(sheet) and not hold_texts(sheet) and not hold_labels(sheet):
             return
         settle_both(sheet, PASSES - 1)
 
@@ -86,6 +87,36 @@ def hold_labels(sheet: Sheet) -> bool:
         low, high = sorted((number, far), key=value.__getitem__)
         sheet.within[axis].append((low, high, abs(value[number] - value[near]) + 1))
     return bool(found)
+
+
+def hold_halves(sheet: Sheet) -> bool:
+    """Demand that ends at corners lie in the halves of their fields beside these. Return whether some did not."""
+    found = False
+    for end in sheet.port_ends:
+        value, is_low = sheet.axes[end.axis].value, end.share < MIDDLE
+        low, coordinate, high = map(sheet.axes[end.axis].same.find, end.places)
+        middle = (value[low] + value[high]) / 2
+        if end.is_held and is_low and value[coordinate] > middle:
+            sheet.within[end.axis].append((coordinate, high, value[coordinate] - value[low] + 1))
+        elif end.is_held and not is_low and value[coordinate] < middle:
+            sheet.within[end.axis].append((low, coordinate, value[high] - value[coordinate] + 1))
+        else:
+            continue
+        found = True
+    return found
+
+
+def hold_texts(sheet: Sheet) -> bool:
+    """Demand that lines over fields leave room for the texts there, and do not run along borders. Return whether some did not."""
+    found = False
+    for _, _, axis, places, room in passed(sheet):
+        value, (first, *lines, last) = sheet.axes[axis].value, places
+        wanted = [(*part_of(value, places, room), room), *((first, line, BORDER) for line in lines),
+                  *((line, last, BORDER) for line in lines)]
+        if any(value[high] - value[low] < distance - SAME for low, high, distance in wanted):
+            sheet.within[axis].extend(wanted)
+            found = True
+    return found
 
 
 def settle(sheet: Sheet, axis: int, step: int) -> None:
