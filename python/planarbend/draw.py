@@ -313,7 +313,7 @@ def side_by_side(graph: Graph, parts: Sequence[Part]) -> Drawing:
             label = sheet.frame_labels.get(cluster)
             frames[part.clusters[cluster]] = Frame(box_at(sheet.extent(item), corner, place), None if label is None else box_at(
                 sheet.extent(label), corner, place))
-        for number, some in field_items.text_boxes(sheet).items():
+        for number, some in boxes_of_texts(sheet).items():
             field_boxes[part.vertices[number]] = [box_at(one, corner, place) for one in field_items.field_boxes(sheet, number)]
             text_boxes[part.vertices[number]] = [box_at(one, corner, place) for one in some]
         for (number, is_head), end in sheet.graph.ends.items():
@@ -328,6 +328,16 @@ def side_by_side(graph: Graph, parts: Sequence[Part]) -> Drawing:
 def end_of(sheet: Sheet, number: int, is_head: bool, end: End) -> Point:
     """Return the point at which an edge meets its port, or the frame at which it ends."""
     return field_items.met(sheet, number, is_head, end) if is_port(end) else sheet.line(number)[-1 if is_head else 0]
+
+
+def boxes_of_texts(sheet: Sheet) -> dict[int, list[Box]]:
+    """Return for the fields of vertices, in the order of `Field.walk`, the boxes in whose middle their texts are."""
+    found = {vertex: field_items.field_boxes(sheet, vertex) for vertex in sheet.graph.fields}
+    for vertex, place, axis, places, room in field_items.passed(sheet):
+        (left, top, right, bottom), value = found[vertex][place], sheet.axes[axis].value
+        low, high = (value[one] for one in field_items.part_of(value, places, room))
+        found[vertex][place] = (low, top, high, bottom) if axis == 0 else (left, low, right, high)
+    return found
 
 
 def point_at(point: Point, corner: Point, place: Point) -> Point:

@@ -7,6 +7,7 @@ import random
 import re
 import unittest
 import xml.etree.ElementTree as xml
+from collections import Counter
 
 import support
 from attribute_judge import Element, Hue, elements_of, in_picture, is_inside
@@ -38,6 +39,8 @@ LABELS = """digraph { %s subgraph cluster_a { style=filled; fillcolor=lightblue;
   b -> c [label="in b", taillabel=t, headlabel=h, arrowhead=odiamond, dir=both] subgraph cluster_e { c } } a -> x [label="in a", arrowhead=odot] }
   subgraph cluster_d { label=plain; style=filled; fillcolor=none; d -> e [label="in d", arrowhead=odot] subgraph cluster_g { style="filled,invis"
   fillcolor=red; g -> e [label="in g"] } } a -> e [label=between]; c -> d [label="c to d", fontcolor=blue, arrowhead=odot]; a -> b [label=over] }"""
+WHEEL = ("graph { h; subgraph cluster_a { h; w1; w2; w3; w4 } subgraph cluster_b { w5; w6; w7; w8; w9; w10 } "
+         + "; ".join(f"h -- w{one}; w{one} -- w{one % 10 + 1}" for one in range(1, 11)) + "}")
 RECORDS = """graph { node [shape=record]; subgraph cluster_in { subgraph cluster_r { r [label="<p> x|<q> y"] } } u; v; r:p -- u; r:q -- v; u -- v }"""
 
 
@@ -123,10 +126,10 @@ class Drawn(unittest.TestCase):
         except (ImportError, PlanarbendError, OSError) as fault:
             raise unittest.SkipTest(f"needs scipy and the library: {fault}") from None
 
-    def judged(self, text: str) -> Drawing:
+    def judged(self, text: str, options: Options = Options()) -> Drawing:
         """The drawing of a text, in which the judge sees no fault, and all frames."""
         graph = of(text)
-        made = draw(graph, engine=self.engine)
+        made = draw(graph, options, self.engine)
         judge = Judge(text.encode(), made.text("svg"), json.loads(made.text("json")), "\n".join(graph.looks.warnings))
         self.assertEqual(judge.judged(), [], text)
         self.assertEqual(len(made.frames), len(graph.clusters))
@@ -210,6 +213,16 @@ class Drawn(unittest.TestCase):
         self.assertEqual({text: fill for text, (_, fill) in fills.items()},
                          black | {"in d": "", "in g": "", "between": "", "c to d": "blue"})
         self.assertEqual({fills[text][0] for text in ("in d", "in g", "between")}, {DARK_PAPER})
+
+    def test_compact(self) -> None:
+        """Less room and more bends: ten lines leave the hub of a wheel on all sides, at most three on each."""
+        plain, small = (self.judged(WHEEL, Options(compact=is_compact)) for is_compact in (False, True))
+        self.assertLess(small.size[0] * small.size[1], .9 * plain.size[0] * plain.size[1])
+        self.assertGreater(small.bends, plain.bends)
+        left, top, right, bottom = small.boxes[0]
+        ends = [line[0] for edge, line in zip(small.graph.edges, small.lines) if edge.tail == 0]
+        sides = Counter((x == left) - (x == right) + 2 * (y == top) - 2 * (y == bottom) for x, y in ends)
+        self.assertEqual((sum(sides.values()), len(sides), max(sides.values())), (10, 4, 3))
 
     def test_no_library(self) -> None:
         """The program takes no conditions: clusters are left out with a warning that names them."""

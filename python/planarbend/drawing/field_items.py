@@ -129,16 +129,6 @@ def part_of(value: Sequence[float], places: Sequence[int], room: float) -> tuple
     return max(pairwise(places), key=lambda pair: value[pair[1]] - value[pair[0]])
 
 
-def text_boxes(sheet: Sheet) -> dict[int, list[Box]]:
-    """Return for the fields of vertices, in the order of `Field.walk`, the boxes in whose middle their texts are."""
-    found = {vertex: field_boxes(sheet, vertex) for vertex in sheet.graph.fields}
-    for vertex, field, axis, places, room in passed(sheet):
-        left, top, right, bottom = found[vertex][field]
-        low, high = (sheet.axes[axis].value[place] for place in part_of(sheet.axes[axis].value, places, room))
-        found[vertex][field] = (low, top, high, bottom) if axis == 0 else (left, low, right, high)
-    return found
-
-
 def centre_ends(sheet: Sheet, axis: int, solver: Solver) -> None:
     """Move ends of edges towards the middles of their fields, or of the halves at their corners, or beside texts that lie on the
     way, as far as nothing else moves."""

@@ -4,6 +4,7 @@ from __future__ import annotations
 from collections.abc import Iterable, Iterator, Sequence
 
 from planarbend.clusters import clusters_of
+from planarbend.drawing.choose import smallest
 from planarbend.drawing.frame_items import NoFrames
 from planarbend.drawing.given import given_shape
 from planarbend.drawing.nest_search import planarized
@@ -47,10 +48,14 @@ def framed_shapes(graph: Graph, options: Options, engine: Engine) -> list[Shape]
         raise NoFrames(f"no embedding was found with these vertices on one face outside all frames: {names}")
     if min(len(planar.rotation) for planar in planars) > engine.most_vertices:
         raise NoFrames(f"they take more than {engine.most_vertices} vertices and crossings")
-    best = sorted(directed(planars, options), key=lambda one: one.cost)[:MOST_WAYS]
-    ways = sorted(filter(None, (upright(one, options) for one in best)), key=lambda one: one.cost)
+    best = sorted(directed(planars, options), key=lambda one: one.cost)
+    ways = sorted(filter(None, (upright(one, options) for one in best[:MOST_WAYS])), key=lambda one: one.cost)
     boxed = sorted(filter(None, (again(one, options) for one in ways)), key=lambda one: one.cost)
     found = [*shapes_of(ways[:MOST_SHAPES], engine), *shapes_of(boxed[:MOST_SHAPES], engine)]
+    if options.compact:
+        even = list(filter(None, (upright(one, options, True) for one in best)))
+        boxed = list(filter(None, (again(one, options, True) for one in even)))
+        found += smallest([*shapes_of(even, engine), *shapes_of(boxed, engine)])
     if not found:
         raise NoFrames(f"no drawing was found with at most {engine.most_vertices} vertices of degree 4 and all conditions")
     return found
@@ -82,18 +87,18 @@ def directed(planars: Iterable[NestedPlanarization], options: Options) -> Iterat
                 continue
 
 
-def upright(way: Directed, options: Options) -> Directed | None:
-    """Return the directions of the same embedding and outer face in which vertices with ports are upright; None if the search for
-    them ends without any."""
+def upright(way: Directed, options: Options, is_even: bool = False) -> Directed | None:
+    """Return the directions of the same embedding and outer face in which vertices with ports are upright and, if `is_even`, the
+    sides of large vertices have equally many lines; None if the search for them ends without any."""
     try:
-        return way if len(way.upright) < 2 else Program(way.planar, (), options.straight).solved(way.outer)
+        return way if len(way.upright) < 2 and not is_even else Program(way.planar, (), options.straight, is_even).solved(way.outer)
     except ArithmeticError:
         return None
 
 
-def again(way: Directed, options: Options) -> Directed | None:
+def again(way: Directed, options: Options, is_even: bool = False) -> Directed | None:
     """Return the directions of the same embedding if vertices with few edges may be boxes too; None if none is one."""
-    found = Program(way.planar, range(len(way.planar.nesting.home)), options.straight).solved(way.outer, way.upright)
+    found = Program(way.planar, range(len(way.planar.nesting.home)), options.straight, is_even).solved(way.outer, way.upright)
     return found if found.cost < way.cost else None
 
 

@@ -72,11 +72,13 @@ class Program:
 
     `boxes`: the vertices that may be boxes although they have few edges.
     `straight`: edges that must not bend.
+    `is_even`: whether the sides of a vertex with many edges have equally many lines, as far as possible.
     """
 
-    def __init__(self, planar: NestedPlanarization, boxes: Collection[int] = (), straight: Collection[int] = ()) -> None:
+    def __init__(self, planar: NestedPlanarization, boxes: Collection[int] = (), straight: Collection[int] = (),
+                 is_even: bool = False) -> None:
         """Return the program of a connected embedding."""
-        self.planar, self.boxes = planar, boxes
+        self.planar, self.boxes, self.is_even = planar, boxes, is_even
         count = len(planar.tail)
         self.variable, self.offset, self.wraps = [NONE] * count, [0] * count, [0] * count
         self.rows: list[tuple[int, int, float, int]] = []  # high, low, least difference, and a column that may make it less
@@ -110,7 +112,7 @@ class Program:
         else:
             for place, dart in enumerate(darts):
                 self.variable[dart] = self.count + place
-            is_large = len(darts) > MOST_CONNECTIONS
+            is_large, most = len(darts) > MOST_CONNECTIONS, -(-len(darts) // 4)  # lines at a side
             for place in range(len(darts) if len(darts) > 1 else 0):
                 is_last = place + 1 == len(darts)
                 high, low = self.count + (place + 1) % len(darts), self.count + place
@@ -119,6 +121,9 @@ class Program:
                 if vertex in self.boxes and not is_large:
                     self.rows.append((high, low, least + 1, len(self.prices)))
                     self.prices.append(SHARED)
+                if is_large and self.is_even:
+                    turn, after = divmod(place + most, len(darts))
+                    self.rows.append((self.count + after, self.count + place, 1 - 4 * turn, NONE))
             self.count += len(darts)
         self.wraps[darts[-1]] = 1
 
