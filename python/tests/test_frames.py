@@ -16,6 +16,8 @@ from drawing_checker import on_outer_face
 from planarbend.command import named
 from planarbend.draw import draw
 from planarbend.drawing.drawn import Drawing
+from planarbend.drawing.frames import Frame
+from planarbend.drawing.ink import beneath
 from planarbend.drawing.nest_search import NestSearch, planarized
 from planarbend.drawing.nesting import nesting_of
 from planarbend.drawing.picture import svg
@@ -35,10 +37,11 @@ LONELY = """graph { subgraph cluster_a { label=one; a } subgraph cluster_b { lab
 K33 = "graph { subgraph cluster_a { a; b; x } subgraph cluster_b { c; y; z } a -- x; a -- y; a -- z; b -- x; b -- y; b -- z; c -- x; c -- y; c -- z }"
 # Any three of four vertices that are all joined have a common face, all four only where two edges cross.
 K4 = "graph { a -- b; a -- c; a -- d; b -- c; b -- d; c -- d; subgraph cluster_x { x; y; subgraph cluster_z { z } } x -- a; y -- b; z -- a }"
-LABELS = """digraph { %s subgraph cluster_a { style=filled; fillcolor=lightblue; a; x; subgraph cluster_b { style="filled,rounded"; fillcolor="#ffcc0080"
-  b -> c [label="in b", taillabel=t, headlabel=h, arrowhead=odiamond, dir=both] subgraph cluster_e { c } } a -> x [label="in a", arrowhead=odot] }
+LABELS = """digraph { compound=true; %s subgraph cluster_a { style=filled; fillcolor=lightblue; a; x; subgraph cluster_b { style="filled,rounded"; fillcolor="#ffcc0080"
+  b -> c [label="in b", taillabel=t, headlabel=h, arrowhead=odiamond, dir=both] subgraph cluster_e { c } } a -> x [label="in a", arrowhead=odot, fontcolor=blue] }
   subgraph cluster_d { label=plain; style=filled; fillcolor=none; d -> e [label="in d", arrowhead=odot] subgraph cluster_g { style="filled,invis"
-  fillcolor=red; g -> e [label="in g"] } } a -> e [label=between]; c -> d [label="c to d", fontcolor=blue, arrowhead=odot]; a -> b [label=over] }"""
+  fillcolor=red; g -> e [label="in g"] } } a -> e [label=between]; c -> d [label="c to d", arrowhead=odot]; a -> b [label=over]
+  y -> x [lhead=cluster_a, arrowhead=odot] }"""
 WHEEL = ("graph { h; subgraph cluster_a { h; w1; w2; w3; w4 } subgraph cluster_b { w5; w6; w7; w8; w9; w10 } "
          + "; ".join(f"h -- w{one}; w{one} -- w{one % 10 + 1}" for one in range(1, 11)) + "}")
 RECORDS = """graph { node [shape=record]; subgraph cluster_in { subgraph cluster_r { r [label="<p> x|<q> y"] } } u; v; r:p -- u; r:q -- v; u -- v }"""
@@ -109,6 +112,17 @@ class Embedded(unittest.TestCase):
             for place in (0, 1):
                 turns = [found.turns(dart) for side in planar.sides_of(place) for dart in planar.chains[side]]
                 self.assertEqual((sum(turns), min(turns)), (4, 0))
+
+
+@support.needs_graphviz
+class Under(unittest.TestCase):
+    def test_a_box_beside_a_frame(self) -> None:
+        """The colour of a frame lies under what is within it, and not under what only meets it."""
+        made = Drawing(of("graph { subgraph cluster_a { style=filled; fillcolor=red; a } }"), [(20, 20, 30, 30)], [], [], (70, 70), {}, [],
+                       frames={0: Frame((10, 10, 50, 50))})
+        self.assertEqual(beneath(made, (10, 10, 50, 50), ["paper"]), [' fill="red"'])
+        for box in ((9, 12, 14, 15), (12, 9, 14, 15), (12, 12, 51, 15), (12, 12, 14, 51)):
+            self.assertEqual(beneath(made, box, ["paper"]), ["paper"])
 
 
 @support.needs_graphviz
@@ -187,7 +201,7 @@ class Drawn(unittest.TestCase):
             self.assertEqual(len(boxes), 9)
             for left, top, right, bottom in boxes:
                 over = [one for one in covers if is_inside(((left + right) / 2, (top + bottom) / 2), one.box)]
-                self.assertNotIn("fill-opacity", over[0].own)
+                self.assertEqual(["fill-opacity" in one.own for one in over], [False] + [True] * (len(over) - 1))
                 for corner in ((left, top), (right, bottom)):
                     self.assertEqual(mixed(over), mixed([one for one in behind if not one.points or is_inside(corner, one.box)]))
             heads: dict[str, list[Element]] = {}
@@ -209,9 +223,8 @@ class Drawn(unittest.TestCase):
         found = re.findall(r'<rect x=[^>]*? fill="([^"]*)"[^>]*?/>\n<text [^>]*?dy=".35em"(?: fill="(.*?)")?>(.*?)<', svg(draw(
             of(LABELS % ""), engine=self.engine), "dark"))
         fills = {text: (cover, fill) for cover, fill, text in found}
-        black = dict.fromkeys(("in a", "in b", "over", "t", "h"), "black")
-        self.assertEqual({text: fill for text, (_, fill) in fills.items()},
-                         black | {"in d": "", "in g": "", "between": "", "c to d": "blue"})
+        wanted = dict.fromkeys(("in b", "over", "t", "h"), "black") | {"in a": "blue", "in d": "", "in g": "", "between": ""}
+        self.assertEqual({text: fill for text, (_, fill) in fills.items() if text != "c to d"}, wanted)
         self.assertEqual({fills[text][0] for text in ("in d", "in g", "between")}, {DARK_PAPER})
 
     def test_compact(self) -> None:

@@ -38,8 +38,9 @@ LOOKS = """graph { label=whole; bgcolor=ivory; fontsize=20; fontcolor=red; compo
     subgraph cluster_in { label=""; style=""; bgcolor=blue; labelloc=t; labeljust=c; tooltip=""; URL=""; "n\\"o" } } z -- x [lhead=cluster_a]; x -- y [tailport=ne] }"""
 ODD = """digraph { subgraph "cluster \\"1\\"" { label="<1>"; "a\\b" } subgraph cluster { label="é &amp; y"; z }
   subgraph cluster_e { label=empty } "a\\b" -> z }"""
+WIDE = f"""digraph {{ r [shape=record, label="{{{'n' * 30}|<m> middle|{{{'o' * 17}|{'u' * 17}}}}}"]; x -> r:m:n }}"""
 TEXTS = {"structs": STRUCTS, "tables": TABLES, "clusters": CLUSTERS, "compound": COMPOUND, "nested": NESTED, "lonely": LONELY, "both": BOTH,
-         "middles": MIDDLES,
+         "middles": MIDDLES, "wide": WIDE,
          "compass": COMPASS, "table": TABLE, "columns": COLUMNS, "looks": LOOKS, "odd": ODD, **FILES}
 NAMED = {"graphml": GRAPHML, "yed": YED, "nested": support.GRAPHS["nested.graphml"].read_text(encoding="utf-8")}
 Told = dict[str, Any]
@@ -200,7 +201,7 @@ class ByGraphviz(unittest.TestCase):
         except (ImportError, PlanarbendError, OSError) as fault:
             raise unittest.SkipTest(f"needs scipy and the library: {fault}") from None
         names = ("structs", "tables", "clusters", "compound", "nested", "both", "table", "columns", "looks", "machine", "empties",
-                 "gates", "list_7", "hash_5", "search_3", "middles")
+                 "gates", "list_7", "hash_5", "search_3", "middles", "wide")
         cls.made = {name: draw(of(TEXTS[name]), Options(effort=0), engine) for name in names}
 
     def test_all_is_taken(self) -> None:
@@ -262,6 +263,8 @@ class ByGraphviz(unittest.TestCase):
                            and min(one[1::2]) < y and max(one[1::2]) > y - .7 * size]
                 self.assertEqual(crossed, [], (name, text.text))
         self.assertGreater(count, 30)
+        self.assertRegex(self.made["wide"].text("dot"), ' align="(left|right)"')
+        self.assertNotIn(' align="', self.made["gates"].text("dot"))
 
     def test_ports(self) -> None:
         """Graphviz finds the same ports at the same edges as in the file."""

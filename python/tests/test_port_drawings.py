@@ -194,13 +194,14 @@ class Drawn(unittest.TestCase):
         self.assertEqual(self.judged(tree.replace("{", "{ subgraph cluster_a {", 1) + "}").bends, 0)
 
     def test_beside_texts(self) -> None:
-        """A line to a field in the middle passes the short text of the field below it."""
+        """A line to a field in the middle passes the short text of the field below it, which stays in the middle."""
         made = self.judged(STRUCTS.replace("<here> d", "<here> wide"))
         boxes, at = made.field_boxes[2], made.meets[1, True]
         place = made.graph.ends[1, True].field
         assert place is not None
         share = (at[0] - boxes[place][0]) / (boxes[place][2] - boxes[place][0])
         self.assertGreater(abs(share - 0.5), 0.2)
+        self.assertEqual(made.text_boxes, made.field_boxes)
 
     def test_texts_on_the_way(self) -> None:
         """Lines to fields in the middle cross no text, which the judge sees, and are 4 pixels or more from borders beside them."""
@@ -219,9 +220,10 @@ class Drawn(unittest.TestCase):
                     2 * at[axis] - text[axis] - text[2 + axis]) > 8)
         self.assertGreater(count, 7)
 
-    def test_a_line_up_to_a_frame(self) -> None:
-        """It does not reach the field in the middle, so all texts are in the middles of their fields."""
-        made = self.judged(f'digraph {{ compound=true; subgraph cluster_a {{ m [shape=record, label="{GRID}"] }} x -> m:e [lhead=cluster_a] }}')
+    def test_lines_up_to_a_frame(self) -> None:
+        """None of them reaches the field in the middle, so all texts are in the middles of their fields."""
+        made = self.judged(f'''digraph {{ compound=true; subgraph cluster_a {{ label=""; m [shape=record, label="{GRID}"] }}
+          x -> m:e [lhead=cluster_a]; y -> m:e:s [lhead=cluster_a]; z -> m:e:w [lhead=cluster_a] }}''')
         self.assertEqual(made.text_boxes, made.field_boxes)
 
     def test_random(self) -> None:
