@@ -8,7 +8,7 @@ ghost use Rattle.ortho_rep.specs.Shapes.{angle_at, turns_at};
 ghost use Rattle.ortho_rep.specs.Repeats.{shape_in};
 ghost use Rattle.ortho_rep.specs.Representation.{bends_of};
 
-use crate::turn_strings::{DartShape, MAX_TURNS, Repeats, Strings, Turn};
+use crate::turn_strings::{DartShape, MAX_TURNS, Turn, repeat};
 use embedding::MAX_DARTS;
 use std::alloc::Global;
 use std::marker::Model;
@@ -70,8 +70,11 @@ pub struct Shape {
 #[derive(Debug, Drop)]
 enum ShapeStore {
     // no dart turns to both sides
-    OneSided(Repeats),
-    Lists { angles: Vec<u8>, strings: Strings },
+    OneSided(Vec<DartShape>),
+    Lists {
+        angles: Vec<u8>,
+        strings: Vec<Vec<Turn>>,
+    },
 }
 
 impl Model for Shape {
@@ -79,9 +82,11 @@ impl Model for Shape {
 
     ghost Value = { ShapeModel };
 
-    ghost use Rattle.ortho_rep.specs.ShapeStores.{shape_of};
+    ghost use Rattle.ortho_rep.specs.ShapeStores.{shape_of, IsShort};
 
     ghost view = { λ a. shape_of a.store };
+
+    ghost invariant = { λ a. IsShort a.store };
 }
 
 impl Shape {
@@ -100,10 +105,7 @@ impl Shape {
         ensures { result ≡ record { angles = angles.items; strings = lists_in strings.items } }
     {
         Shape {
-            store: ShapeStore::Lists {
-                angles,
-                strings: Strings::from_lists(strings),
-            },
+            store: ShapeStore::Lists { angles, strings },
         }
     }
 
@@ -114,7 +116,7 @@ impl Shape {
         ensures { result ≡ shape_in darts.items }
     {
         Shape {
-            store: ShapeStore::OneSided(Repeats::new(darts)),
+            store: ShapeStore::OneSided(darts),
         }
     }
 
@@ -123,7 +125,7 @@ impl Shape {
     /// Lists that are not of darts, as [`least_shape_in`](crate::least_shape_in) makes it, are dropped.
     pub fn give_back(self, scratch: &mut Scratch) {
         match self.store {
-            ShapeStore::OneSided(repeats) => scratch.lists.darts = repeats.into_darts(),
+            ShapeStore::OneSided(darts) => scratch.lists.darts = darts,
             ShapeStore::Lists {
                 angles: _,
                 strings: _,
@@ -136,7 +138,7 @@ impl Shape {
         ensures { result ≡ length self.now.angles }
     {
         match &self.store {
-            ShapeStore::OneSided(repeats) => repeats.len(),
+            ShapeStore::OneSided(darts) => darts.len(),
             ShapeStore::Lists { angles, .. } => angles.len(),
         }
     }
@@ -147,7 +149,7 @@ impl Shape {
         ensures few { result ≤ MAX_DARTS }
     {
         match &self.store {
-            ShapeStore::OneSided(repeats) => repeats.len(),
+            ShapeStore::OneSided(darts) => darts.len(),
             ShapeStore::Lists { strings, .. } => strings.len(),
         }
     }
@@ -158,7 +160,7 @@ impl Shape {
         ensures { result ≡ angle_at self.now dart }
     {
         match &self.store {
-            ShapeStore::OneSided(repeats) => repeats.angle(dart),
+            ShapeStore::OneSided(darts) => darts[usize::from(dart)].angle,
             ShapeStore::Lists { angles, .. } => angles[usize::from(dart)],
         }
     }
@@ -171,8 +173,11 @@ impl Shape {
         ensures short { length result.now ≤ MAX_TURNS }
     {
         match &self.store {
-            ShapeStore::OneSided(repeats) => repeats.turns(dart),
-            ShapeStore::Lists { strings, .. } => strings.get(usize::from(dart)),
+            ShapeStore::OneSided(darts) => {
+                let dart = darts[usize::from(dart)];
+                repeat(dart.turn, dart.count)
+            }
+            ShapeStore::Lists { strings, .. } => strings[usize::from(dart)].as_slice(),
         }
     }
 
@@ -182,8 +187,20 @@ impl Shape {
         ensures few { result ≤ length self.now.strings * MAX_TURNS }
     {
         match &self.store {
-            ShapeStore::OneSided(repeats) => repeats.turn_count(),
-            ShapeStore::Lists { strings, .. } => strings.turn_count(),
+            ShapeStore::OneSided(darts) => {
+                let mut turns = 0;
+                for dart in darts {
+                    turns += u32::from(dart.count);
+                }
+                u64::from(turns)
+            }
+            ShapeStore::Lists { strings, .. } => {
+                let mut turns = 0;
+                for string in strings {
+                    turns += string.len() as u64;
+                }
+                turns
+            }
         }
     }
 
