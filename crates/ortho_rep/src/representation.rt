@@ -27,8 +27,7 @@ pub fn is_shape(plane: &Plane, shape: &Shape) -> bool
     has_darts(plane, shape)
         && has_angles(plane, shape)
         && has_mirrored_strings(plane, shape)
-        && angles_sum_to_four(plane, shape)
-        && turns_faces(plane, shape)
+        && has_whole_sums(plane, shape)
 }
 
 /// Whether each dart has an angle and a string.
@@ -69,25 +68,29 @@ fn has_mirrored_strings(plane: &Plane, shape: &Shape) -> bool
     true
 }
 
-/// Whether the angles round each vertex sum to 4.
-fn angles_sum_to_four(plane: &Plane, shape: &Shape) -> bool
+/// Whether the angles round each vertex sum to 4, and the darts of each inner face turn once to the left, those of the
+/// outer face to the right.
+fn has_whole_sums(plane: &Plane, shape: &Shape) -> bool
     requires { HasDarts plane.now shape.now }
-    ensures { IsTrue result ↔ ((v : ℕ) → 1 ≤ v → v ≤ vertices plane.now
-        → angles_around plane.now (angle_at shape.now) v ≡ 4) }
+    ensures { IsTrue result ↔ (((v : ℕ) → 1 ≤ v → v ≤ vertices plane.now
+        → angles_around plane.now (angle_at shape.now) v ≡ 4)
+        × ((f : ℕ) → f < plane.now.faces
+        → turning_around plane.now (angle_at shape.now) (turns_at shape.now) f
+        ≡ whole_turn plane.now f)) }
 {
-    let sums = usize::from(plane.graph().vertices()) + 1;
-    if sums <= FEW_SUMS {
-        angles_sum_to_four_in::<FEW_SUMS>(plane, shape)
-    } else if sums <= MORE_SUMS {
-        angles_sum_to_four_in::<MORE_SUMS>(plane, shape)
+    let sums = plane.face_count().max(plane.graph().vertices() + 1);
+    if usize::from(sums) <= FEW_SUMS {
+        angles_sum_to_four::<FEW_SUMS>(plane, shape) && turns_faces::<FEW_SUMS>(plane, shape)
+    } else if usize::from(sums) <= MORE_SUMS {
+        angles_sum_to_four::<MORE_SUMS>(plane, shape) && turns_faces::<MORE_SUMS>(plane, shape)
     } else {
-        angles_sum_to_four_in::<MOST_SUMS>(plane, shape)
+        angles_sum_to_four::<MOST_SUMS>(plane, shape) && turns_faces::<MOST_SUMS>(plane, shape)
     }
 }
 
 /// Whether the angles round each vertex sum to 4, by N sums.
 #[inline(never)]
-fn angles_sum_to_four_in<const N: usize>(plane: &Plane, shape: &Shape) -> bool
+fn angles_sum_to_four<const N: usize>(plane: &Plane, shape: &Shape) -> bool
     requires darts { HasDarts plane.now shape.now }
     requires room { vertices plane.now < N }
     requires few { N < 2 ^ 16 }
@@ -119,27 +122,10 @@ pub fn add_angles(plane: &Plane, shape: &Shape, sums: &mut [u32])
     }
 }
 
-/// Whether the darts of each inner face turn once to the left, and those of the outer face to the right.
-fn turns_faces(plane: &Plane, shape: &Shape) -> bool
-    requires { HasDarts plane.now shape.now }
-    ensures { IsTrue result ↔ ((f : ℕ) → f < plane.now.faces
-        → turning_around plane.now (angle_at shape.now) (turns_at shape.now) f
-        ≡ whole_turn plane.now f) }
-{
-    let sums = usize::from(plane.face_count());
-    if sums <= FEW_SUMS {
-        turns_faces_in::<FEW_SUMS>(plane, shape)
-    } else if sums <= MORE_SUMS {
-        turns_faces_in::<MORE_SUMS>(plane, shape)
-    } else {
-        turns_faces_in::<MOST_SUMS>(plane, shape)
-    }
-}
-
 /// Whether the darts of each inner face turn once to the left, and those of the outer face to the right, by N sums of
 /// left turns, and as many of right turns.
 #[inline(never)]
-fn turns_faces_in<const N: usize>(plane: &Plane, shape: &Shape) -> bool
+fn turns_faces<const N: usize>(plane: &Plane, shape: &Shape) -> bool
     requires darts { HasDarts plane.now shape.now }
     requires room { plane.now.faces ≤ N }
     requires few { N < 2 ^ 16 }

@@ -1,5 +1,5 @@
 use Rattle.std.proofs.Common.{◌≡◌, ◌+◌, ◌-◌, ℕ, List, length, get_or, ap, ◌∙◌, sym, rules, arith}
-use Rattle.ortho_rep.proofs.representation.angles_sum_to_four_in.Goals as goal
+use Rattle.ortho_rep.proofs.representation.angles_sum_to_four.Goals as goal
 
 pub returns-then-sums-from-ne4 : goal.returns-then-sums-from-ne4
 returns-then-sums-from-ne4 g c =

@@ -1,7 +1,7 @@
 use Rattle.std.proofs.Common.{ℕ, cond, eqb, get_or, ap, ◌∙◌, sym, rules, arith, below_more}
 use Rattle.std.specs.Prelude.{pos, negsuc, ◌-ℤ◌}
 use Rattle.std.proofs.lemmas.Bool.{iff_false}
-use Rattle.ortho_rep.proofs.representation.turns_faces_in.Goals as goal
+use Rattle.ortho_rep.proofs.representation.turns_faces.Goals as goal
 
 pub returns-then-not-turns_once : goal.returns-then-not-turns_once
 returns-then-not-turns_once g c =

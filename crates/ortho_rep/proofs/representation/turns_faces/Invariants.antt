@@ -1,7 +1,7 @@
 use Rattle.std.proofs.Common.{◌≡◌, ℕ, ◌<◌}
 use Rattle.ortho_rep.specs.Shapes.{angle_at, turns_at}
 use Rattle.ortho_rep.specs.Representation.{turning_around, whole_turn}
-use Rattle.ortho_rep.proofs.representation.turns_faces_in.Given as goal
+use Rattle.ortho_rep.proofs.representation.turns_faces.Given as goal
 
 abbrev pub invariant-loop-face : goal.invariant-loop-face
 invariant-loop-face g l =
