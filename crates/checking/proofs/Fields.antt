@@ -1,5 +1,5 @@
 -- What a line does not say.
-use Rattle.std.proofs.Common.{◌≡◌, ℕ, List, Option, None, Some, is_some, true, false, refl, codes, sym, subst, ◌∙◌}
+use Rattle.std.proofs.Common.{◌≡◌, ℕ, List, Option, None, Some, is_some, option_map, true, false, refl, codes, sym, subst, ◌∙◌}
 use Rattle.serde_json.specs.Data.{Data}
 use Rattle.serde_json.specs.Find.{get}
 use Rattle.ortho_rep.specs.Points.{PointsModel}
@@ -28,3 +28,8 @@ none_of (Some x) is = cc
 pub some_of : {A : Type 0} (o : Option A) → is_some o ≡ true → o ≡ None → ⊥
 some_of None is none = cc
 some_of (Some x) is none = cc
+
+-- what is found is missing where nothing was found
+pub not_named : {A B : Type 0} (f : A → B) (o : Option A) (found : Option B) → option_map f o ≡ found → is_some o ≡ false → found ≡ None
+not_named f None found is none = sym is
+not_named f (Some x) found is none = cc

@@ -1,5 +1,6 @@
 -- Verdicts, step by step.
-use Rattle.std.proofs.Common.{◌≡◌, ℕ, ◌<◌, Bool, List, ap, subst, arith}
+use Rattle.std.proofs.Common.{◌≡◌, ℕ, ◌<◌, Bool, List, Result, Ok, Err, IfOk, ap, subst, arith}
+use Rattle.std.specs.Result.{result_unwrap_or}
 use Rattle.embedding.specs.declared.breaks.Rule.{Rule}
 use Rattle.faces.specs.Planes.{PlaneModel, IsPlane, with_outer}
 use Rattle.ortho_rep.specs.Points.{PointsModel}
@@ -65,7 +66,7 @@ on_drawing faces p now points shape claims (verdict.Ok bends fewest) same named 
 }
 
 -- so is the verdict on a representation of a drawing that has these points
-pub on_judged : (faces : Bool) (p now : PlaneModel) (points drawing : PointsModel) (shape : ShapeModel) (claims : Claims) (v : Verdict) (outer : ℕ)
+on_judged : (faces : Bool) (p now : PlaneModel) (points drawing : PointsModel) (shape : ShapeModel) (claims : Claims) (v : Verdict) (outer : ℕ)
     → drawing ≡ points → now ≡ with_outer p now.outer → outer ≡ now.outer → outer < now.faces → IsDrawnBy now drawing shape
     → IsFound faces now drawing shape claims v → IsVerdictOnDrawing faces p points claims v
 on_judged faces p now points drawing shape claims v outer points_same same outer_same inside drawn found =
@@ -73,3 +74,11 @@ on_judged faces p now points drawing shape claims v outer points_same same outer
     let named : now.outer < p.faces = omega arith in
     on_drawing faces p now points shape claims v same named (subst (λ (q : PointsModel). IsDrawnBy now q shape) points_same drawn)
     (subst (λ (q : PointsModel). IsFound faces now q shape claims v) points_same found)
+
+-- where memory runs out for it, the verdict is that
+pub on_settled : {E : Type 0} (faces : Bool) (p now : PlaneModel) (points drawing : PointsModel) (shape : ShapeModel) (claims : Claims) (found : Result Verdict E) (outer : ℕ)
+    → drawing ≡ points → now ≡ with_outer p now.outer → outer ≡ now.outer → outer < now.faces → IsDrawnBy now drawing shape
+    → IfOk found (IsFound faces now drawing shape claims) → IsVerdictOnDrawing faces p points claims (result_unwrap_or found verdict.Memory)
+on_settled faces p now points drawing shape claims (Ok v) outer points_same same outer_same inside drawn found =
+    on_judged faces p now points drawing shape claims v outer points_same same outer_same inside drawn found
+on_settled faces p now points drawing shape claims (Err e) outer points_same same outer_same inside drawn found = tt

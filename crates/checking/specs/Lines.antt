@@ -6,8 +6,6 @@ use Rattle.planar_code.specs.Stream.{before_first}
 use Rattle.streams.specs.Reading.{IsKnownOf}
 use Rattle.streams.specs.Tap.{IsAtItsEnd, IsAtItsFailure}
 use Rattle.checking.specs.declared.line_buffer.TheConstants.{MAX_LINE}
-use Rattle.checking.specs.declared.line_reader.Refill.{Refill}
-use Rattle.checking.specs.declared.line_reader.Refill.TheVariants as refill
 use Rattle.checking.specs.declared.line_reader.Lines.{Lines}
 use Rattle.checking.specs.declared.line_reader.LineOutcome.{LineOutcome}
 use Rattle.checking.specs.declared.line_reader.LineOutcome.TheVariants as next
@@ -100,11 +98,11 @@ IsCollected seen bytes true = MAX_LINE < length seen
 abbrev pub Adds : List ℕ → List ℕ → Bool → List ℕ → Bool → Type 0
 Adds part old old_long new new_long = (seen : List ℕ) → IsCollected seen old old_long → IsCollected (seen ++ part) new new_long
 
--- a read of a source, after which these bytes are held
-abbrev pub IsRefilled : Option (List ℕ) → Bool → Option (List ℕ) → Bool → List ℕ → Refill → Type 0
-IsRefilled to_come fails now now_fails held refill.More = Consumes to_come now held × (now_fails ≡ fails)
-IsRefilled to_come fails now now_fails held refill.Ended = IsAtItsEnd to_come fails
-IsRefilled to_come fails now now_fails held refill.Failed = IsAtItsFailure to_come fails
+-- a read of a source, after which these bytes are held, and the source is in this state
+abbrev pub IsRefilled : Option (List ℕ) → Bool → Option (List ℕ) → Bool → List ℕ → SourceState → Type 0
+IsRefilled to_come fails now now_fails held state.Open = Consumes to_come now held × (now_fails ≡ fails)
+IsRefilled to_come fails now now_fails held state.Ended = IsAtItsEnd to_come fails
+IsRefilled to_come fails now now_fails held state.Failed = IsAtItsFailure to_come fails
 
 abbrev pub IsWhole : Bool → LineOutcome → Type 0
 IsWhole long next.Line = long ≡ false

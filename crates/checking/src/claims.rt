@@ -9,7 +9,7 @@ ghost use Rattle.checking.specs.Values.{natural, array_of, letter_of, turns_data
 ghost use Rattle.checking.specs.Wrong.{IsWrongField, IsWrongAngles, IsWrongTurns, IsWrongPriceList, IsWrongPrices, IsWrongPriceValue};
 ghost use Rattle.checking.specs.declared.json.LineFault.TheVariants.{Number, Turns, Memory};
 
-use crate::json::{LineFault, field_in, integer_in, list_in, number_in, text_in};
+use crate::json::{LineFault, integer_in, list_in, number_in, text_in};
 use ortho_rep::{Prices, Turn};
 use serde_json::Value;
 use std::alloc::Global;
@@ -25,7 +25,7 @@ pub(crate) fn bends_in(value: &Value) -> Result<Option<u32>, LineFault>
     ensures made { IfErr result (λ _. get (codes "bends") (view value.now) ≢ None) }
     ensures fault { IfErr result (λ fault. fault ≡ Number) }
 {
-    match field_in(value, "bends") {
+    match value.get("bends") {
         Some(field) => Ok(Some(number_in(field, 4_294_967_295)? as u32)),
         None => Ok(None),
     }
@@ -42,7 +42,7 @@ pub(crate) fn outer_in(value: &Value) -> Result<Option<u16>, LineFault>
     ensures made { IfErr result (λ _. get (codes "outer") (view value.now) ≢ None) }
     ensures fault { IfErr result (λ fault. fault ≡ Number) }
 {
-    match field_in(value, "outer") {
+    match value.get("outer") {
         Some(field) => Ok(Some(number_in(field, 65_535)? as u16)),
         None => Ok(None),
     }
@@ -62,7 +62,7 @@ pub(crate) fn angles_in(alloc: Global, value: &Value) -> Result<Option<Vec<u8>>,
     ensures made { IfErr result (λ fault. fault ≢ Memory → get (codes "angles") (view value.now) ≢ None) }
     ensures fault { IfErr result (λ fault. fault ≢ Memory → IsWrongField IsWrongAngles (codes "angles") (view value.now) fault) }
 {
-    match field_in(value, "angles") {
+    match value.get("angles") {
         Some(field) => Ok(Some(angle_list(alloc, field)?)),
         None => Ok(None),
     }
@@ -98,7 +98,7 @@ pub(crate) fn prices_in(alloc: Global, value: &Value) -> Result<Option<Prices>, 
     ensures made { IfErr result (λ fault. fault ≢ Memory → get (codes "prices") (view value.now) ≢ None) }
     ensures fault { IfErr result (λ fault. fault ≢ Memory → IsWrongField IsWrongPrices (codes "prices") (view value.now) fault) }
 {
-    match field_in(value, "prices") {
+    match value.get("prices") {
         Some(field) => Ok(Some(two_price_lists(alloc, field)?)),
         None => Ok(None),
     }
@@ -124,7 +124,7 @@ fn prices_at(alloc: Global, value: &Value, name: &str) -> Result<Vec<i32>, LineF
         → (prices : List ℤ) → All IsOf32Bits prices → HasIntegers name.now (view value.now) prices → ⊥) }
     ensures fault { IfErr result (λ fault. fault ≢ Memory → IsWrongPriceList name.now (view value.now) fault) }
 {
-    match field_in(value, name) {
+    match value.get(name) {
         Some(list) => price_list(alloc, list),
         None => Err(LineFault::Prices),
     }
@@ -160,7 +160,7 @@ pub(crate) fn turns_in(alloc: Global, value: &Value) -> Result<Option<Vec<Vec<Tu
     ensures made { IfErr result (λ fault. fault ≢ Memory → get (codes "turns") (view value.now) ≢ None) }
     ensures fault { IfErr result (λ fault. fault ≢ Memory → IsWrongField IsWrongTurns (codes "turns") (view value.now) fault) }
 {
-    match field_in(value, "turns") {
+    match value.get("turns") {
         Some(field) => Ok(Some(string_list(alloc, field)?)),
         None => Ok(None),
     }

@@ -1,5 +1,5 @@
 //! Parts of a JSON value: its fields, numbers, texts and lists. Also why a line is none of a drawing.
-ghost use Rattle.std.specs.Prelude.{◌≡◌, ◌≢◌, ◌≤◌, ℕ, ℤ, List, option_map, IfOk, IfErr, Some, None, map};
+ghost use Rattle.std.specs.Prelude.{◌≡◌, ◌≢◌, ◌≤◌, ℕ, ℤ, List, IfOk, IfErr, Some, None, map};
 ghost use Rattle.checking.specs.declared.json.LineFault.TheVariants.{Memory, Malformed, Points, Number};
 ghost use Rattle.serde_json.specs.Data.{Data, Items, array, string};
 ghost use Rattle.serde_json.specs.Errors.{IsMemory};
@@ -77,13 +77,6 @@ fn fault_of(error: &Error) -> LineFault
     }
 }
 
-/// The field of this name that a value has, if any.
-pub(crate) fn field_in<'v>(value: &'v Value, name: &str) -> Option<&'v Value>
-    ensures { option_map (λ field. view field.now) result ≡ get name.now (view value.now) }
-{
-    value.get(name)
-}
-
 /// The field of this name that a value must have.
 ///
 /// # Errors
@@ -94,7 +87,7 @@ pub(crate) fn needed_field_in<'v>(value: &'v Value, name: &str) -> Result<&'v Va
     ensures none { IfErr result (λ _. get name.now (view value.now) ≡ None) }
     ensures fault { IfErr result (λ fault. fault ≡ Points) }
 {
-    field_in(value, name).ok_or(LineFault::Points)
+    value.get(name).ok_or(LineFault::Points)
 }
 
 /// The elements of the list that a value is; otherwise this fault.

@@ -1,8 +1,8 @@
 //! The verdict on a record and its input: what is said of a record and its line.
-ghost use Rattle.std.specs.Prelude.{◌≡◌, ◌↔◌, true, false, IfOk};
+ghost use Rattle.std.specs.Prelude.{◌≡◌, IfOk};
 ghost use Rattle.planar_code.specs.Stream.{lists_of};
 ghost use Rattle.referee.specs.Drawings.{IsDrawnBy};
-ghost use Rattle.checking.specs.Verdicts.{IsVerdict, IsVerdictOnPlane, IsVerdictOnDrawing, IsFound, KeepsFaces};
+ghost use Rattle.checking.specs.Verdicts.{IsVerdict, IsVerdictOnPlane, IsVerdictOnDrawing, IsFound};
 ghost use Rattle.checking.specs.declared.json.LineFault.TheVariants as line;
 ghost use Rattle.checking.specs.declared.line_content.DrawingInput.TheVariants as given;
 ghost use Rattle.checking.specs.declared.judging.Verdict.TheVariants as verdict;
@@ -74,7 +74,7 @@ pub(crate) fn record_verdict(
     ensures holds { IsVerdict faces (lists_of rec.now) input result }
     ensures memory { input ≡ given.Fault line.Memory → result ≡ verdict.Memory }
 {
-    if is_out_of_memory(&input) {
+    if matches!(input, DrawingInput::Fault(LineFault::Memory)) {
         return Verdict::Memory;
     }
     let graph = match Graph::read_in(alloc, &mut scratch.planes.graph, rec) {
@@ -93,13 +93,6 @@ pub(crate) fn record_verdict(
     let verdict = input_verdict(alloc, scratch, faces, &mut plane, input);
     plane.give_back(&mut scratch.planes);
     verdict
-}
-
-/// Whether memory ran out for a line.
-fn is_out_of_memory(input: &DrawingInput) -> bool
-    ensures { (result ≡ true) ↔ (input.now ≡ given.Fault line.Memory) }
-{
-    matches!(input, DrawingInput::Fault(LineFault::Memory))
 }
 
 /// The verdict on the input for a plane.
@@ -139,22 +132,7 @@ fn drawing_verdict(
     };
     // Only the proof needs this: `outer` says that there is such a face.
     let _outer = plane.outer();
-    match claims_verdict(alloc, scratch, faces, plane, &judged, &claims) {
-        Ok(verdict) => verdict,
-        Err(_) => Verdict::Memory,
-    }
-}
-
-/// Whether each region of a drawing is its face, if faces are asked for; otherwise true.
-fn keeps_faces(faces: bool, plane: &Plane, judged: &Judged) -> bool
-    requires { IsDrawnBy plane.now judged.now.drawing judged.now.shape }
-    ensures kept { result ≡ true → KeepsFaces faces plane.now judged.now.drawing }
-    ensures lost { result ≡ false → ¬ KeepsFaces faces plane.now judged.now.drawing }
-{
-    if !faces {
-        return true;
-    }
-    outside_is_outer(plane, &judged.drawing)
+    claims_verdict(alloc, scratch, faces, plane, &judged, &claims).unwrap_or(Verdict::Memory)
 }
 
 /// The verdict on the regions and the claims of a drawing, and the numbers of its bends.
@@ -169,7 +147,7 @@ fn claims_verdict(
     requires { IsDrawnBy plane.now judged.now.drawing judged.now.shape }
     ensures { IfOk result (IsFound faces plane.now judged.now.drawing judged.now.shape claims.now) }
 {
-    if !keeps_faces(faces, plane, judged) {
+    if faces && !outside_is_outer(plane, &judged.drawing) {
         return Ok(Verdict::Regions);
     }
     if let Some(claim) = false_claim(plane, &judged.shape, claims) {

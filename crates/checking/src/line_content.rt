@@ -1,6 +1,5 @@
 //! What a line says, a drawing or the end of a run; the lines of the drawings of records, and the lines after those.
-ghost use Rattle.std.specs.Prelude.{◌≡◌, ◌≢◌, codes, true, false, None, IfOk, IfErr, ℕ, Bool, Option, List};
-ghost use Rattle.serde_json.specs.Find.{get};
+ghost use Rattle.std.specs.Prelude.{◌≡◌, ◌≢◌, IfOk, IfErr, ℕ, Bool, Option, List};
 ghost use Rattle.serde_json.specs.View.{view};
 ghost use Rattle.ortho_rep.specs.Points.{PointsModel};
 ghost use Rattle.referee.specs.declared.claims.Claims.{Claims};
@@ -49,18 +48,10 @@ pub(crate) fn content_of(alloc: Global, line: &[u8]) -> Result<LineContent, Line
     ensures fault { IfErr result (λ fault. fault ≢ Memory → IsWrongLine line.now fault) }
 {
     let value = value_in(alloc, line)?;
-    if is_end(&value) {
+    if value.get("end").is_some() {
         return Ok(LineContent::End);
     }
     Ok(LineContent::Drawing(drawing_in(alloc, &value)?))
-}
-
-/// Whether a value has a field `end`.
-fn is_end(value: &Value) -> bool
-    ensures ended { result ≡ true → get (codes "end") (view value.now) ≢ None }
-    ensures goes_on { result ≡ false → get (codes "end") (view value.now) ≡ None }
-{
-    value.get("end").is_some()
 }
 
 /// The drawing that a value describes.
@@ -85,17 +76,12 @@ fn claims_in(alloc: Global, value: &Value) -> Result<Claims, LineFault>
         → HasClaimRanges claims → HasClaims (view value.now) claims → ⊥) }
     ensures fault { IfErr result (λ fault. fault ≢ Memory → IsWrongClaim (view value.now) fault) }
 {
-    let angles = angles_in(alloc, value)?;
-    let turns = turns_in(alloc, value)?;
-    let prices = prices_in(alloc, value)?;
-    let bends = bends_in(value)?;
-    let outer = outer_in(value)?;
     Ok(Claims {
-        angles,
-        turns,
-        prices,
-        bends,
-        outer,
+        angles: angles_in(alloc, value)?,
+        turns: turns_in(alloc, value)?,
+        prices: prices_in(alloc, value)?,
+        bends: bends_in(value)?,
+        outer: outer_in(value)?,
     })
 }
 

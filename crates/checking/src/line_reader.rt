@@ -29,13 +29,6 @@ impl Model for ReadBuffer {
     ghost invariant = { λ h. (0 < vec_len h.piece) × (h.at ≤ h.end) × (h.end ≤ vec_len h.piece) };
 }
 
-/// What a further read of a source gave.
-pub(crate) enum Refill {
-    More,
-    Ended,
-    Failed,
-}
-
 /// The place of the first byte 0A, if there is one.
 fn line_end(bytes: &[u8]) -> Option<usize>
     ensures some { IfSome result (λ k. k < length bytes.now) }
@@ -90,20 +83,20 @@ impl ReadBuffer {
         }
     }
 
-    /// Reads the next piece of the source, where no bytes are left, and returns the outcome.
-    pub(crate) fn refill<T: Tap>(&mut self, source: &mut T) -> Refill
+    /// Reads the next piece of the source, where no bytes are left, and returns whether it may give more.
+    pub(crate) fn refill<T: Tap>(&mut self, source: &mut T) -> SourceState
         requires { self.old ≡ [] }
         ensures { IsRefilled (T.to_come source.old) (T.fails source.old) (T.to_come source.new) (T.fails source.new) self.new result }
     {
         self.at = 0;
         self.end = 0;
         match source.read(self.piece.as_mut_slice()) {
-            Ok(0) => Refill::Ended,
+            Ok(0) => SourceState::Ended,
             Ok(count) => {
                 self.end = count;
-                Refill::More
+                SourceState::Open
             }
-            Err(_) => Refill::Failed,
+            Err(_) => SourceState::Failed,
         }
     }
 }
@@ -198,16 +191,11 @@ impl<T: Tap> Lines<T> {
             if self.held.move_to(&mut self.line) {
                 return ended_line(&self.line);
             }
-            match self.held.refill(&mut self.source) {
-                Refill::More => {}
-                Refill::Ended => {
-                    self.state = SourceState::Ended;
-                    return last_line(&self.line);
-                }
-                Refill::Failed => {
-                    self.state = SourceState::Failed;
-                    return LineOutcome::Failed;
-                }
+            self.state = self.held.refill(&mut self.source);
+            match self.state {
+                SourceState::Open => {}
+                SourceState::Ended => return last_line(&self.line),
+                SourceState::Failed => return LineOutcome::Failed,
             }
         }
         unreachable!()

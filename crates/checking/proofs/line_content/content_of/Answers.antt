@@ -2,14 +2,14 @@ use Rattle.serde_json.specs.View.{view}
 use Rattle.std.proofs.Common.{inl, inr, sym, subst, ◌∙◌}
 use Rattle.std.proofs.lemmas.Result.{err_from_is_err_and}
 use Rattle.checking.specs.LineContents.{IsWrongLine}
-use Rattle.checking.proofs.Fields.{nothing_said}
+use Rattle.checking.proofs.Fields.{nothing_said, not_named}
 use Rattle.checking.proofs.line_content.content_of.Goals as goal
 
 pub returns-in_err-drawing_in-clause-none : goal.returns-in_err-drawing_in-clause-none
 returns-in_err-drawing_in-clause-none c =
     let q = err_from_is_err_and c.from_residual-in_err-drawing_in.result c.from_residual-in_err-drawing_in.ensures.1 in
     rw q.1 (λ real.
-    nothing_said c.args.line.now (view c.in_ok-value.value) c.in_ok-value.ensures.ok (c.is_end.ensures.goes_on c.if-is_end.false) (c.in_err-drawing_in.ensures.none (λ m. real (q.2 ∙ m))))
+    nothing_said c.args.line.now (view c.in_ok-value.value) c.in_ok-value.ensures.ok (not_named _ _ _ c.get.ensures (sym c.is_some.ensures ∙ c.if-is_some.false)) (c.in_err-drawing_in.ensures.none (λ m. real (q.2 ∙ m))))
 
 pub returns-in_err-value-clause-none : goal.returns-in_err-value-clause-none
 returns-in_err-value-clause-none c =

@@ -26,23 +26,24 @@ pub loop-preserved : goal.loop-preserved
 loop-preserved g c =
     let inv = c.loop.invariant in
     let o = c.move_to.ensures.open c.if-move_to.false in
+    let more = rw c.in-Open.is at c.refill-self.ensures in
     record {
-      reads = inv.reads;
+      reads = c.in-Open.is;
       seen = inv.seen ++ c.loop.self.held;
       none = All-append (λ b. b ≢ 10) inv.seen c.loop.self.held inv.none o.1;
       kept = o.2 inv.seen inv.kept;
-      took = took_held _ _ _ inv.seen _ _ inv.took c.in-More.ensures.0;
-      same = c.in-More.ensures.1 ∙ inv.same;
+      took = took_held _ _ _ inv.seen _ _ inv.took more.0;
+      same = more.1 ∙ inv.same;
     }
 
 pub returns-in-Ended : goal.returns-in-Ended
 returns-in-Ended g c = λ known fails given has.
     let inv = c.loop.invariant in
     let o = c.move_to.ensures.open c.if-move_to.false in
-    gives_last known _ _ (prepend_known c.refill.new.self (g.T.Tap.to_come c.refill.new.source)) fails _ _ (g.T.Tap.fails c.refill.new.source) given inv.seen _ _ _ _ has inv.none o.1 inv.took inv.same c.in-Ended.ensures (o.2 inv.seen inv.kept) c.last_line.ensures
+    rw c.in-Ended.is (gives_last known _ _ (prepend_known c.refill-self.new.self (g.T.Tap.to_come c.refill-self.new.source)) fails _ _ (g.T.Tap.fails c.refill-self.new.source) given inv.seen _ _ _ _ has inv.none o.1 inv.took inv.same (rw c.in-Ended.is at c.refill-self.ensures) (o.2 inv.seen inv.kept) c.last_line.ensures)
 
 pub returns-in-Failed : goal.returns-in-Failed
 returns-in-Failed g c = λ known fails given has.
     let inv = c.loop.invariant in
     let o = c.move_to.ensures.open c.if-move_to.false in
-    gives_none known _ _ (prepend_known c.refill.new.self (g.T.Tap.to_come c.refill.new.source)) fails _ _ (g.T.Tap.fails c.refill.new.source) given inv.seen _ c.move_to.new.line.bytes.items has inv.none o.1 inv.took inv.same c.in-Failed.ensures
+    rw c.in-Failed.is (gives_none known _ _ (prepend_known c.refill-self.new.self (g.T.Tap.to_come c.refill-self.new.source)) fails _ _ (g.T.Tap.fails c.refill-self.new.source) given inv.seen _ c.move_to.new.line.bytes.items has inv.none o.1 inv.took inv.same (rw c.in-Failed.is at c.refill-self.ensures))
