@@ -39,7 +39,7 @@ impl<P: Purpose> Staged for Item<P, Record, ()> {
         Item {
             task: self.task,
             purpose: self.purpose,
-            rec: P::Carried::of(self.rec),
+            rec: P::Carried::carried(self.rec),
             state: held(alloc, scratch.shell.take(), plane),
         }
     }

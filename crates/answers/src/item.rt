@@ -70,23 +70,24 @@ pub trait Carried: Drop + Send {
     ghost bytes: { Self → List ℕ };
 
     /// What is carried of this record.
-    fn of(rec: Record) -> Self
+    fn carried(rec: Record) -> Self
         ensures { bytes result ≡ rec };
 }
 
 impl Carried for Record {
     ghost bytes = { λ rec. rec };
 
-    fn of(rec: Record) -> Record {
+    /// The record itself.
+    fn carried(rec: Record) -> Record {
         rec
     }
 }
 
-/// Nothing: the record is let go, and only proofs see its bytes.
 impl Carried for Snapshot<Record> {
     ghost bytes = { λ rec. rec.value };
 
-    fn of(rec: Record) -> Snapshot<Record> {
+    /// Nothing but its bytes for proofs: the record is dropped.
+    fn carried(rec: Record) -> Snapshot<Record> {
         Snapshot::of(&rec)
     }
 }

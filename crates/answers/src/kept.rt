@@ -2,6 +2,7 @@
 
 ghost use Rattle.std.specs.Prelude.{◌≡◌, ℕ, List, IfOk, IfErr};
 ghost use Rattle.planar_code.specs.Stream.{lists_of};
+ghost use Rattle.ortho_rep.specs.Prices.{IsProof};
 ghost use Rattle.ortho_rep.specs.Representation.{IsLeast};
 ghost use Rattle.reports.specs.declared.answer.Cause.TheVariants.{Wide};
 ghost use Rattle.reports.specs.Drawn.{IsCause};
@@ -79,6 +80,8 @@ impl RecordScratch {
     ) -> Result<ShapedPlane, ReadFault>
         ensures shaped { (g : List (List ℕ)) → IsEmbedded g plane → IsShaped choice g result }
         ensures kind { IfOk result (λ shaped_plane. shaped_plane.drawing_kind ≡ drawing_kind) }
+        ensures least { IfOk result (λ shaped_plane. IsLeast shaped_plane.plane shaped_plane.shape
+            × IsProof shaped_plane.plane shaped_plane.shape shaped_plane.prices) }
     {
         shape(alloc, &mut self.shapes, plane, choice, drawing_kind)
     }

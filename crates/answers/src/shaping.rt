@@ -1,7 +1,8 @@
 //! How a plane gets its least shape and the directions of its darts.
 
 ghost use Rattle.std.specs.Prelude.{◌≡◌, ℕ, List, IfOk, IfErr};
-ghost use Rattle.ortho_rep.specs.Representation.{IsShape};
+ghost use Rattle.ortho_rep.specs.Prices.{IsProof};
+ghost use Rattle.ortho_rep.specs.Representation.{IsShape, IsLeast};
 ghost use Rattle.compact.specs.Monotone.{AreDirectionsOf};
 ghost use Rattle.conditions.specs.Chosen.{IsKeepFault};
 ghost use Rattle.answers.specs.Kept.{IsKeptPlane};
@@ -111,6 +112,8 @@ pub(crate) fn shape(
 ) -> Result<ShapedPlane, ReadFault>
     ensures shaped { (g : List (List ℕ)) → IsEmbedded g plane → IsShaped choice g result }
     ensures kind { IfOk result (λ shaped_plane. shaped_plane.drawing_kind ≡ drawing_kind) }
+    ensures least { IfOk result (λ shaped_plane. IsLeast shaped_plane.plane shaped_plane.shape
+        × IsProof shaped_plane.plane shaped_plane.shape shaped_plane.prices) }
 {
     let mut plane = plane?;
     let (shape, prices) = match choice {

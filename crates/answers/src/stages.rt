@@ -1,4 +1,4 @@
-//! The stages that answer a record: it is read into a plane; points are found for a shaped plane; and both, as one call.
+//! A record is read into a plane; points are found for a shaped plane; and both, as one call that answers a record.
 
 ghost use Rattle.std.specs.Prelude.{◌≡◌, ℕ, List, IfOk, MatchOption};
 ghost use Rattle.reports.specs.Lengths.{IfDrawn, IsNear, IsNoLonger, IsQuick};

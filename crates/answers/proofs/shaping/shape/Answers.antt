@@ -84,20 +84,12 @@ invariant_of-result c =
     ] in
     record { shape_is = drawn; directed = c.in_ok-directions.ensures }
 
-pub returns-clause-shaped : goal.returns-clause-shaped
-returns-clause-shaped c g made =
+-- its prices prove it
+pub returns-clause-least : goal.returns-clause-least
+returns-clause-least c =
     let plane = c.match-choice.plane in
     let first = c.match-choice.shape in
     let shape = c.match-drawing_kind.shape in
-    let traced : IsTracedPlane g c.in_ok-plane.plane = subst (IsEmbedded g) c.in_ok-plane.was made in
-    let lists : plane.lists ≡ g = elim c.match-choice.branch [
-      | in-First+in_ok-least_shape_in-in-First w ↦ ap (λ (p : PlaneModel). p.lists) w.plane-is ∙ traced.lists
-      | in-Best+in_ok-shape-in-Best w ↦ ap (λ (p : PlaneModel). p.lists) (w.plane-is ∙ w.in_ok-shape-in-Best.ensures.outer_moved) ∙ traced.lists
-    ] in
-    let chosen : IsChosen c.args.choice plane = elim c.match-choice.branch [
-      | in-First+in_ok-least_shape_in-in-First w ↦ rw (w.in-First.is, w.plane-is) traced.greatest
-      | in-Best+in_ok-shape-in-Best w ↦ rw (w.in-Best.is, w.plane-is) w.in_ok-shape-in-Best.ensures.best
-    ] in
     let least : IsLeast plane first.0 = elim c.match-choice.branch [
       | in-First+in_ok-least_shape_in-in-First w ↦ rw (w.plane-is, w.shape-is) w.in_ok-least_shape_in-in-First.ensures.least
       | in-Best+in_ok-shape-in-Best w ↦ rw (w.plane-is, w.shape-is) w.in_ok-shape-in-Best.ensures.least
@@ -114,4 +106,21 @@ returns-clause-shaped c g made =
       | in-Quick w ↦ rw w.shape-is proof
       | in-Short+in_ok-shape-in-Short w ↦ rw w.shape-is w.in_ok-shape-in-Short.ensures.proof
     ] in
-    record { lists = lists; rules = c.graph-graph.ensures.plane; chosen = chosen; least = drawn_least; proof = drawn_proof }
+    (drawn_least, drawn_proof)
+
+pub returns-clause-shaped : goal.returns-clause-shaped
+returns-clause-shaped c g made =
+    let plane = c.match-choice.plane in
+    let first = c.match-choice.shape in
+    let shape = c.match-drawing_kind.shape in
+    let traced : IsTracedPlane g c.in_ok-plane.plane = subst (IsEmbedded g) c.in_ok-plane.was made in
+    let lists : plane.lists ≡ g = elim c.match-choice.branch [
+      | in-First+in_ok-least_shape_in-in-First w ↦ ap (λ (p : PlaneModel). p.lists) w.plane-is ∙ traced.lists
+      | in-Best+in_ok-shape-in-Best w ↦ ap (λ (p : PlaneModel). p.lists) (w.plane-is ∙ w.in_ok-shape-in-Best.ensures.outer_moved) ∙ traced.lists
+    ] in
+    let chosen : IsChosen c.args.choice plane = elim c.match-choice.branch [
+      | in-First+in_ok-least_shape_in-in-First w ↦ rw (w.in-First.is, w.plane-is) traced.greatest
+      | in-Best+in_ok-shape-in-Best w ↦ rw (w.in-Best.is, w.plane-is) w.in_ok-shape-in-Best.ensures.best
+    ] in
+    let priced : IsLeast plane shape × IsProof plane shape first.1 = returns-clause-least c in
+    record { lists = lists; rules = c.graph-graph.ensures.plane; chosen = chosen; least = priced.0; proof = priced.1 }

@@ -8,6 +8,6 @@ use Rattle.answers.proofs.answering.ItemRecordUnitStaged.work.Goals as goal
 pub invariant_of-result : goal.invariant_of-result
 invariant_of-result g c =
     record {
-      known = subst (λ bytes. ∥ g.P.Purpose.accepts c.args.self.task.file c.args.self.task.ordinal bytes × IsSpelt bytes ∥₁) (sym c.of.ensures) c.args.self.known;
-      made = ∣ subst (λ bytes. IsEmbedded (lists_of bytes) c.held.result) (sym c.of.ensures) (embedded_held _ c.embed-plane.result c.held.result c.held.ensures c.embed-plane.ensures) ∣₁;
+      known = subst (λ bytes. ∥ g.P.Purpose.accepts c.args.self.task.file c.args.self.task.ordinal bytes × IsSpelt bytes ∥₁) (sym c.carried.ensures) c.args.self.known;
+      made = ∣ subst (λ bytes. IsEmbedded (lists_of bytes) c.held.result) (sym c.carried.ensures) (embedded_held _ c.embed-plane.result c.held.result c.held.ensures c.embed-plane.ensures) ∣₁;
     }
