@@ -16,11 +16,11 @@ ghost use Rattle.answers.specs.Steps.{IsEmbedded, IsShaped, IsTracedPlane};
 
 use crate::drawing::{DrawScratch, draw, points_of};
 use crate::shaped_plane::ShapedPlane;
-use crate::shaping::{ShapeScratch, shape, with_shape_keeping};
+use crate::shaping::{ShapeScratch, directions_of, shape};
 use crate::stages::{embed, embed_wide};
 use common::{Choice, DrawingKind};
 use compact::CompactFault;
-use conditions::{Conditions, KeepFault};
+use conditions::{Conditions, KeepFault, shape_keeping_in};
 use drawing_check::Drawing;
 use embedding::{ReadFault, WideRecord};
 use faces::Plane;
@@ -124,7 +124,7 @@ impl RecordScratch {
     pub fn shape_keeping(
         &mut self,
         alloc: Global,
-        plane: Plane,
+        mut plane: Plane,
         conditions: &Conditions<'_>,
         choice: Choice,
         drawing_kind: DrawingKind,
@@ -134,8 +134,19 @@ impl RecordScratch {
         ensures kind { IfOk result (λ made. made.drawing_kind ≡ drawing_kind) }
         ensures fault { IfErr result (IsKeepFault conditions.now choice plane) }
     {
-        let shapes = &mut self.shapes;
-        with_shape_keeping(alloc, shapes, plane, conditions, choice, drawing_kind)
+        let scratch = &mut self.shapes;
+        let shapes = &mut scratch.shapes;
+        let (shape, prices) = shape_keeping_in(alloc, shapes, &mut plane, conditions, choice)?;
+        // Only the proof needs this: `graph` says that the plane still is one.
+        let _graph = plane.graph();
+        let directions = directions_of(alloc, scratch, &plane, &shape)?;
+        Ok(ShapedPlane {
+            plane,
+            shape,
+            prices,
+            directions,
+            drawing_kind,
+        })
     }
 
     /// A drawing, of the kind that the plane names, of a shape that keeps conditions.

@@ -1,19 +1,16 @@
 //! How a plane gets its least shape and the directions of its darts.
 
-ghost use Rattle.std.specs.Prelude.{◌≡◌, ℕ, List, IfOk, IfErr};
+ghost use Rattle.std.specs.Prelude.{◌≡◌, ℕ, List, IfOk};
 ghost use Rattle.ortho_rep.specs.Prices.{IsProof};
 ghost use Rattle.ortho_rep.specs.Representation.{IsShape, IsLeast};
 ghost use Rattle.compact.specs.Monotone.{AreDirectionsOf};
-ghost use Rattle.conditions.specs.Chosen.{IsKeepFault};
-ghost use Rattle.answers.specs.Kept.{IsKeptPlane};
-ghost use Rattle.answers.specs.Steps.{IsEmbedded, IsShaped, IsTracedPlane};
+ghost use Rattle.answers.specs.Steps.{IsEmbedded, IsShaped};
 ghost use Rattle.common.specs.declared.parameters.Choice.{Choice};
 
 use crate::holder::Shell;
 use crate::shaped_plane::ShapedPlane;
 use common::{Choice, DrawingKind};
 use compact::{DirectionSearch, directions_in};
-use conditions::{Conditions, KeepFault, shape_keeping_in};
 use embedding::ReadFault;
 use faces::Plane;
 use lanes::ReturnQueue;
@@ -26,7 +23,7 @@ use straightening::straighten_in;
 /// The buffers of the stage that finds shapes, reused for the next plane.
 #[derive(Drop)]
 pub struct ShapeScratch {
-    shapes: ortho_rep::Scratch,
+    pub(crate) shapes: ortho_rep::Scratch,
     straight: straightening::Scratch,
     search: DirectionSearch,
     // directions that are done with
@@ -138,41 +135,8 @@ pub(crate) fn shape(
     })
 }
 
-/// The plane with a least shape of those that keep conditions; its outer face is then the chosen one of those that may be
-/// outside.
-///
-/// # Errors
-///
-/// Those of [`shape_keeping_in`]; the plane is dropped then.
-pub(crate) fn with_shape_keeping(
-    alloc: Global,
-    scratch: &mut ShapeScratch,
-    mut plane: Plane,
-    conditions: &Conditions<'_>,
-    choice: Choice,
-    drawing_kind: DrawingKind,
-) -> Result<ShapedPlane, KeepFault>
-    ensures kept { IfOk result (λ made. (g : List (List ℕ))
-        → IsTracedPlane g plane → IsKeptPlane conditions.now choice g made) }
-    ensures kind { IfOk result (λ made. made.drawing_kind ≡ drawing_kind) }
-    ensures fault { IfErr result (IsKeepFault conditions.now choice plane) }
-{
-    let shapes = &mut scratch.shapes;
-    let (shape, prices) = shape_keeping_in(alloc, shapes, &mut plane, conditions, choice)?;
-    // Only the proof needs this: `graph` says that the plane still is one.
-    let _graph = plane.graph();
-    let directions = directions_of(alloc, scratch, &plane, &shape)?;
-    Ok(ShapedPlane {
-        plane,
-        shape,
-        prices,
-        directions,
-        drawing_kind,
-    })
-}
-
 /// The directions of the darts of a plane that is drawn by the shape. The next search has the spare list for its own.
-fn directions_of(
+pub(crate) fn directions_of(
     alloc: Global,
     scratch: &mut ShapeScratch,
     plane: &Plane,
