@@ -1,12 +1,12 @@
 //! The segments of a drawing, listed edge by edge: the vertices that edges without corners join, and where segments
 //! begin and end.
-ghost use Rattle.std.specs.Prelude.{◌≡◌, ◌<◌, ◌+◌, [], vec_len, OnOk, ℕ, List, length, true, IfOk, IfSome, ◌≤◌, All};
+ghost use Rattle.std.specs.Prelude.{◌≡◌, ◌<◌, ◌+◌, [], vec_len, OnOk, ℕ, List, length, IfOk, IfSome, ◌≤◌, All};
 ghost use Rattle.visibility.specs.Axes.{AreFew, AreListed, HaveEnds, KeepEnds};
 ghost use Rattle.drawing_check.specs.Draws.{HasPoints};
 ghost use Rattle.visibility.specs.Crossing.{AreCrossed};
 
 use crate::compaction::Lists;
-use crate::segments::{Segment, Segments, segment_of};
+use crate::segments::{Segment, SegmentFault, Segments, segment_of};
 use faces::Plane;
 use ortho_rep::{Point, Points};
 use std::alloc::{AllocError, Global};
@@ -85,11 +85,11 @@ impl StraightEdges {
 }
 
 /// Finds for each segment the segments of the other axis that cross it where it begins and where it ends, counts it at
-/// these, and lists it by its coordinate; false if it begins or ends at a place that is on no segment.
-pub(crate) fn find_ends(along: &mut Segments, other: &mut Segments) -> Result<bool, AllocError>
+/// these, and lists it by its coordinate; `TooLarge` if it begins or ends at a place that is on no segment.
+pub(crate) fn find_ends(along: &mut Segments, other: &mut Segments) -> Result<(), SegmentFault>
     requires few { AreFew along.old.segments.items }
-    ensures listed { IfOk result (λ found. found ≡ true → AreListed along.new.segments.items along.new.firsts.items) }
-    ensures ends { IfOk result (λ found. found ≡ true → HaveEnds along.new.segments.items (vec_len other.new.segments)) }
+    ensures listed { OnOk result (AreListed along.new.segments.items along.new.firsts.items) }
+    ensures ends { OnOk result (HaveEnds along.new.segments.items (vec_len other.new.segments)) }
     ensures count { vec_len along.new.segments ≡ vec_len along.old.segments }
     ensures other_few { AreFew other.old.segments.items → AreFew other.new.segments.items }
     ensures other_listed { AreListed other.old.segments.items other.old.firsts.items → AreListed other.new.segments.items other.new.firsts.items }
@@ -97,19 +97,20 @@ pub(crate) fn find_ends(along: &mut Segments, other: &mut Segments) -> Result<bo
     ensures other_count { vec_len other.new.segments ≡ vec_len other.old.segments }
 {
     let segments = along.segments.as_mut_slice();
-    if !set_ends(segments, other.segments.as_mut_slice(), other.of.as_slice()) {
-        return Ok(false);
-    }
-    along.list_anew()?;
-    Ok(true)
+    set_ends(segments, other.segments.as_mut_slice(), other.of.as_slice())?;
+    Ok(along.list_anew()?)
 }
 
-/// Sets for each segment the segments of the other axis where it begins and ends, and counts it at these; false if a
-/// place is on no segment.
-fn set_ends(segments: &mut [Segment], others: &mut [Segment], of: &[u16]) -> bool
+/// Sets for each segment the segments of the other axis where it begins and ends, and counts it at these; `TooLarge`
+/// if a place is on no segment, or 65,535 begin or end on one already.
+fn set_ends(
+    segments: &mut [Segment],
+    others: &mut [Segment],
+    of: &[u16],
+) -> Result<(), SegmentFault>
     requires few { AreFew segments.old }
     ensures few { AreFew segments.new }
-    ensures ends { result ≡ true → HaveEnds segments.new (length others.new) }
+    ensures ends { OnOk result (HaveEnds segments.new (length others.new)) }
     ensures other_few { AreFew others.old → AreFew others.new }
     ensures other_listed { (firsts : List ℕ) → AreListed others.old firsts → AreListed others.new firsts }
     ensures other_ends { KeepEnds others.old others.new }
@@ -117,16 +118,13 @@ fn set_ends(segments: &mut [Segment], others: &mut [Segment], of: &[u16]) -> boo
     let count = others.len();
     for place in 0..segments.len() {
         let segment = &mut segments[place];
-        let Some((first, last)) = ends_of(segment, of, count) else {
-            return false;
-        };
+        let ends = ends_of(segment, of, count);
+        let (first, last) = ends.ok_or(SegmentFault::TooLarge)?;
         segment.begins_on = first;
         segment.ends_on = last;
-        if !count_ends(others, first, last) {
-            return false;
-        }
+        count_ends(others, first, last)?;
     }
-    true
+    Ok(())
 }
 
 /// The segments on which the places lie where this one begins and ends; `None` if one of them is on none of this many.
@@ -138,8 +136,8 @@ fn ends_of(segment: &Segment, of: &[u16], count: usize) -> Option<(u16, u16)>
     Some((first, last))
 }
 
-/// Counts a segment at those where it begins and ends; false if 65,535 begin or end there already.
-fn count_ends(segments: &mut [Segment], first: u16, last: u16) -> bool
+/// Counts a segment at those where it begins and ends; `TooLarge` if 65,535 begin or end there already.
+fn count_ends(segments: &mut [Segment], first: u16, last: u16) -> Result<(), SegmentFault>
     requires first { first < length segments.old }
     requires last { last < length segments.old }
     ensures few { AreFew segments.old → AreFew segments.new }
@@ -150,11 +148,11 @@ fn count_ends(segments: &mut [Segment], first: u16, last: u16) -> bool
     let begun = segments[usize::from(first)].begun.checked_add(1);
     let ended = segments[usize::from(last)].ended.checked_add(1);
     let (Some(begun), Some(ended)) = (begun, ended) else {
-        return false;
+        return Err(SegmentFault::TooLarge);
     };
     segments[usize::from(first)].begun = begun;
     segments[usize::from(last)].ended = ended;
-    true
+    Ok(())
 }
 
 /// An edge that has corners, by its number and the places of its ends.
@@ -174,15 +172,15 @@ pub(crate) struct Bent {
 /// The maximum number of vertices and corners.
 const MAX_PLACES: usize = 65_535;
 
-/// Lists the segments of a drawing along both axes, with their ends; false if there are too many vertices and corners,
-/// or if one of them is on no segment.
+/// Lists the segments of a drawing along both axes, with their ends; `TooLarge` if there are too many vertices and
+/// corners, or if one of them is on no segment.
 pub(crate) fn list_segments(
     lists: &mut Lists,
     plane: &Plane,
     points: &Points,
-) -> Result<bool, AllocError>
+) -> Result<(), SegmentFault>
     requires points { HasPoints plane.now points.now }
-    ensures { IfOk result (λ listed. listed ≡ true → AreCrossed lists.new.x lists.new.y) }
+    ensures { OnOk result (AreCrossed lists.new.x lists.new.y) }
 {
     let vertices = plane.graph().vertices();
     lists.x.begin(vertices)?;
@@ -191,16 +189,10 @@ pub(crate) fn list_segments(
     list_edges(lists, plane, points)?;
     let x = &mut lists.x;
     let y = &mut lists.y;
-    if !list_straight(vertices, points, x, y)? {
-        return Ok(false);
-    }
-    if !list_bent(lists.bent.as_slice(), points, x, y)? {
-        return Ok(false);
-    }
-    if !find_ends(x, y)? {
-        return Ok(false);
-    }
-    Ok(find_ends(y, x)?)
+    list_straight(vertices, points, x, y)?;
+    list_bent(lists.bent.as_slice(), points, x, y)?;
+    find_ends(x, y)?;
+    find_ends(y, x)
 }
 
 /// Joins the ends of all edges that have no corner, and lists those that have some.
@@ -272,13 +264,13 @@ fn list_edge(
     Ok(())
 }
 
-/// Lists the segments of this many vertices and the straight edges between them; false if there is no room.
+/// Lists the segments of this many vertices and the straight edges between them; `TooLarge` if there is no room.
 fn list_straight(
     count: u16,
     points: &Points,
     x: &mut Segments,
     y: &mut Segments,
-) -> Result<bool, AllocError>
+) -> Result<(), SegmentFault>
     requires count { count ≤ length points.now.vertices }
     requires x_of { vec_len x.old.of ≡ count }
     requires y_of { vec_len y.old.of ≡ count }
@@ -291,23 +283,19 @@ fn list_straight(
 {
     for place in 0..count {
         let point = points.vertex(place + 1);
-        if !x.add_straight(place + 1, point.x)? {
-            return Ok(false);
-        }
-        if !y.add_straight(place + 1, point.y)? {
-            return Ok(false);
-        }
+        x.add_straight(place + 1, point.x)?;
+        y.add_straight(place + 1, point.y)?;
     }
-    Ok(true)
+    Ok(())
 }
 
-/// Adds the corners of all edges to segments; false if there are too many.
+/// Adds the corners of all edges to segments; `TooLarge` if there are too many.
 fn list_bent(
     bent: &[Bent],
     points: &Points,
     x: &mut Segments,
     y: &mut Segments,
-) -> Result<bool, AllocError>
+) -> Result<(), SegmentFault>
     requires edges { All (λ b. b.edge < length points.now.corners) bent.now }
     requires x { AreFew x.old.segments.items }
     requires y { AreFew y.old.segments.items }
@@ -315,21 +303,19 @@ fn list_bent(
     ensures y { AreFew y.new.segments.items }
 {
     for edge in bent {
-        if !list_corners(points.corners(edge.edge), *edge, x, y)? {
-            return Ok(false);
-        }
+        list_corners(points.corners(edge.edge), *edge, x, y)?;
     }
-    Ok(true)
+    Ok(())
 }
 
-/// Adds the corners of an edge to the segments on which they lie, which end there; false if there are too many. Between
-/// two corners lies a segment of its own.
+/// Adds the corners of an edge to the segments on which they lie, which end there; `TooLarge` if there are too many.
+/// Between two corners lies a segment of its own.
 fn list_corners(
     corners: &[Point],
     bent: Bent,
     x: &mut Segments,
     y: &mut Segments,
-) -> Result<bool, AllocError>
+) -> Result<(), SegmentFault>
     requires x { AreFew x.old.segments.items }
     requires y { AreFew y.old.segments.items }
     ensures x { AreFew x.new.segments.items }
@@ -340,41 +326,35 @@ fn list_corners(
     } else {
         y.segment_at(bent.tail)
     };
-    let Some(mut segment) = tail else {
-        return Ok(false);
-    };
+    let mut segment = tail.ok_or(SegmentFault::TooLarge)?;
     let mut vertical = bent.vertical;
     let mut from = bent.from;
     let mut place = 0;
     for index in 0..corners.len() {
         let corner = corners[index];
         if x.of.len() >= MAX_PLACES {
-            return Ok(false);
+            return Err(SegmentFault::TooLarge);
         }
         place = x.of.len() as u16;
         let end = (index + 1 == corners.len()).then_some(bent.head);
-        let next = if vertical {
+        segment = if vertical {
             turn(x, segment, y, (from.y, corner.y), place, end)?
         } else {
             turn(y, segment, x, (from.x, corner.x), place, end)?
         };
-        let Some(next) = next else {
-            return Ok(false);
-        };
-        segment = next;
         vertical = !vertical;
         from = corner;
     }
     if vertical {
-        Ok(x.extend(segment, place, bent.to.y < from.y))
+        x.extend(segment, place, bent.to.y < from.y)
     } else {
-        Ok(y.extend(segment, place, bent.to.x < from.x))
+        y.extend(segment, place, bent.to.x < from.x)
     }
 }
 
 /// Adds the corner to which an edge runs along a segment, between these coordinates, and at which it leaves for a segment
-/// that crosses it. Returns that one: the one of the vertex at the end of the edge, or a new one; `None` if there is no
-/// room.
+/// that crosses it. Returns that one: the one of the vertex at the end of the edge, or a new one; `TooLarge` if there
+/// is no room.
 fn turn(
     from_segments: &mut Segments,
     segment: u16,
@@ -382,25 +362,23 @@ fn turn(
     run: (u32, u32),
     place: u16,
     end: Option<u16>,
-) -> Result<Option<u16>, AllocError>
+) -> Result<u16, SegmentFault>
     requires from { AreFew from_segments.old.segments.items }
     requires to { AreFew to_segments.old.segments.items }
     requires segment { segment < vec_len from_segments.old.segments }
     ensures from { AreFew from_segments.new.segments.items }
     ensures to { AreFew to_segments.new.segments.items }
-    ensures next { IfOk result (λ found. IfSome found (λ next. next < vec_len to_segments.new.segments)) }
+    ensures next { IfOk result (λ next. next < vec_len to_segments.new.segments) }
 {
     let (from, to) = run;
-    if !from_segments.extend(segment, place, from < to) {
-        return Ok(None);
-    }
+    from_segments.extend(segment, place, from < to)?;
     let next = match end {
-        Some(vertex) => to_segments.segment_at(vertex),
+        Some(vertex) => to_segments
+            .segment_at(vertex)
+            .ok_or(SegmentFault::TooLarge)?,
         None => to_segments.add(to, place, place, 0)?,
     };
-    if let Some(next) = next {
-        from_segments.of.push(segment)?;
-        to_segments.of.push(next)?;
-    }
+    from_segments.of.push(segment)?;
+    to_segments.of.push(next)?;
     Ok(next)
 }

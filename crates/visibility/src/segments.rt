@@ -1,12 +1,12 @@
 //! Segments: largest sets of vertices and corners that edges join along one axis (Lengauer 1990).
 
-ghost use Rattle.std.specs.Prelude.{◌≡◌, ◌<◌, ◌≤◌, ◌+◌, ◌^◌, ℕ, [], length, vec_len, slice_index, slice_set, IfOk, IfSome, OnOk, true};
+ghost use Rattle.std.specs.Prelude.{◌≡◌, ◌<◌, ◌≤◌, ◌+◌, ◌^◌, ℕ, [], length, vec_len, slice_index, slice_set, IfOk, IfSome, OnOk};
 ghost use Rattle.visibility.specs.declared.segments.TheConstants.{MAX_COORDINATE, MAX_SEGMENTS};
 ghost use Rattle.visibility.specs.Axes.{segment_at, AreBelow, AreFew, AreListed, HaveEnds, KeepEnds};
 
 use crate::listing::StraightEdges;
 use common::MAX_VERTICES;
-use std::alloc::{AllocError, Global};
+use std::alloc::{AllocError, AllocFailed, Global};
 use std::mem;
 
 /// The maximum number of segments along one axis, so that one more than the index of one fits a `u16`.
@@ -14,6 +14,28 @@ pub(crate) const MAX_SEGMENTS: usize = 65_534;
 
 /// The maximum coordinate of a segment.
 pub(crate) const MAX_COORDINATE: u16 = 65_534;
+
+/// The reason why no segments were listed.
+#[derive(Clone, Copy, Debug)]
+pub(crate) enum SegmentFault {
+    /// Memory ran out.
+    Memory,
+    /// There are more vertices, corners, segments or parts of edges than the lists can hold, or a coordinate is too great
+    /// for them. It also stands where no invariant says that an entry of one list is in the range of the next.
+    TooLarge,
+}
+
+impl From<AllocError> for SegmentFault {
+    fn from(_refused: AllocError) -> SegmentFault {
+        SegmentFault::Memory
+    }
+}
+
+impl<T: Drop> From<AllocFailed<T>> for SegmentFault {
+    fn from(_refused: AllocFailed<T>) -> SegmentFault {
+        SegmentFault::Memory
+    }
+}
 
 /// A segment. All that lies on it has one coordinate along the axis that it crosses.
 #[derive(Clone, Copy, Debug)]
@@ -115,24 +137,24 @@ impl Segments {
     }
 
     /// Adds a segment with this coordinate that reaches from one vertex or corner to another, by their places, over this
-    /// many parts of edges; returns its index, or `None` if there is no room.
+    /// many parts of edges, and returns its index; `TooLarge` if there is no room.
     pub(crate) fn add(
         &mut self,
         coordinate: u32,
         begins_on: u16,
         ends_on: u16,
         parts: u16,
-    ) -> Result<Option<u16>, AllocError>
+    ) -> Result<u16, SegmentFault>
         requires few { AreFew self.old.segments.items }
         ensures few { AreFew self.new.segments.items }
         ensures of { self.new.of ≡ self.old.of }
         ensures edges { vec_len self.new.edges.beside ≡ vec_len self.old.edges.beside }
         ensures count { vec_len self.old.segments ≤ vec_len self.new.segments }
-        ensures added { IfOk result (λ found. IfSome found (λ segment. segment < vec_len self.new.segments)) }
+        ensures added { IfOk result (λ segment. segment < vec_len self.new.segments) }
     {
         let place = self.segments.len();
         if place >= MAX_SEGMENTS || coordinate > u32::from(MAX_COORDINATE) {
-            return Ok(None);
+            return Err(SegmentFault::TooLarge);
         }
         self.segments.push(Segment {
             coordinate: coordinate as u16,
@@ -143,12 +165,12 @@ impl Segments {
             next: 0,
             parts,
         })?;
-        Ok(Some(place as u16))
+        Ok(place as u16)
     }
 
     /// Adds the segment with this coordinate that begins at a vertex, with all to which straight edges lead from there;
-    /// none if such an edge leads to the vertex. Returns whether there is room, and an edge leads to no other vertex.
-    pub(crate) fn add_straight(&mut self, vertex: u16, coordinate: u32) -> Result<bool, AllocError>
+    /// none if such an edge leads to the vertex. `TooLarge` if there is no room, or an edge leads to a vertex with no place.
+    pub(crate) fn add_straight(&mut self, vertex: u16, coordinate: u32) -> Result<(), SegmentFault>
         requires vertex { 0 < vertex }
         requires place { vertex ≤ vec_len self.old.of }
         requires edges { vec_len self.old.of < vec_len self.old.edges.beside }
@@ -158,20 +180,16 @@ impl Segments {
         ensures edges { vec_len self.new.edges.beside ≡ vec_len self.old.edges.beside }
     {
         if self.edges.is_led_to(vertex) {
-            return Ok(true);
+            return Ok(());
         }
         let first = vertex - 1;
-        let Some(segment) = self.add(coordinate, first, first, 0)? else {
-            return Ok(false);
-        };
+        let segment = self.add(coordinate, first, first, 0)?;
         let mut last = vertex;
         let mut parts = 0;
         for steps in 0..MAX_VERTICES {
             // No invariant says that an edge leads to one of the vertices that have places.
-            let Some(of) = self.of.get_mut(usize::from(last) - 1) else {
-                return Ok(false);
-            };
-            *of = segment;
+            let of = self.of.get_mut(usize::from(last) - 1);
+            *of.ok_or(SegmentFault::TooLarge)? = segment;
             let ahead = self.edges.ahead(last);
             if ahead == 0 {
                 break;
@@ -182,12 +200,17 @@ impl Segments {
         let added = &mut self.segments[usize::from(segment)];
         added.ends_on = last - 1;
         added.parts = parts;
-        Ok(true)
+        Ok(())
     }
 
-    /// Makes a segment begin or end at the vertex or corner with this place, to which one part more leads; false if it has
-    /// 65,535 parts.
-    pub(crate) fn extend(&mut self, segment: u16, place: u16, is_end: bool) -> bool
+    /// Makes a segment begin or end at the vertex or corner with this place, to which one part more leads; `TooLarge` if
+    /// it has 65,535 parts.
+    pub(crate) fn extend(
+        &mut self,
+        segment: u16,
+        place: u16,
+        is_end: bool,
+    ) -> Result<(), SegmentFault>
         requires few { AreFew self.old.segments.items }
         requires segment { segment < vec_len self.old.segments }
         ensures few { AreFew self.new.segments.items }
@@ -196,16 +219,13 @@ impl Segments {
     {
         let segment = &mut self.segments[usize::from(segment)];
         // No invariant says how many parts there are.
-        let Some(parts) = segment.parts.checked_add(1) else {
-            return false;
-        };
-        segment.parts = parts;
+        segment.parts = segment.parts.checked_add(1).ok_or(SegmentFault::TooLarge)?;
         if is_end {
             segment.ends_on = place;
         } else {
             segment.begins_on = place;
         }
-        true
+        Ok(())
     }
 
     /// Whether each segment is as short as can be with these segments of the other axis.
@@ -304,18 +324,16 @@ impl Segments {
         Ok(())
     }
 
-    /// Gives each segment a coordinate of its own, in the order of those that they have; false if one is listed twice.
-    pub(crate) fn set_apart(&mut self) -> Result<bool, AllocError>
+    /// Gives each segment a coordinate of its own, in the order of those that they have; `TooLarge` if one is listed
+    /// twice.
+    pub(crate) fn set_apart(&mut self) -> Result<(), SegmentFault>
         requires listed { AreListed self.old.segments.items self.old.firsts.items }
-        ensures listed { IfOk result (λ apart. apart ≡ true → AreListed self.new.segments.items self.new.firsts.items) }
+        ensures listed { OnOk result (AreListed self.new.segments.items self.new.firsts.items) }
         ensures count { vec_len self.new.segments ≡ vec_len self.old.segments }
         ensures ends { KeepEnds self.old.segments.items self.new.segments.items }
     {
-        if !spread(self.segments.as_mut_slice(), self.firsts.as_slice()) {
-            return Ok(false);
-        }
-        self.list_anew()?;
-        Ok(true)
+        spread(self.segments.as_mut_slice(), self.firsts.as_slice())?;
+        Ok(self.list_anew()?)
     }
 
     /// The segment on which the vertex at this place lies, if it lies on one.
@@ -391,8 +409,8 @@ fn list_all(segments: &mut [Segment], firsts: &mut [u16])
     }
 }
 
-/// Gives each segment a coordinate of its own, in the order of those that they have; false if one is listed twice.
-fn spread(segments: &mut [Segment], firsts: &[u16]) -> bool
+/// Gives each segment a coordinate of its own, in the order of those that they have; `TooLarge` if one is listed twice.
+fn spread(segments: &mut [Segment], firsts: &[u16]) -> Result<(), SegmentFault>
     requires { AreListed segments.old firsts.now }
     ensures few { AreFew segments.new }
     ensures ends { KeepEnds segments.old segments.new }
@@ -405,14 +423,11 @@ fn spread(segments: &mut [Segment], firsts: &[u16]) -> bool
                 break;
             }
             // No invariant says that each segment is in one list only.
-            if free == 0 {
-                return false;
-            }
-            free -= 1;
+            free = free.checked_sub(1).ok_or(SegmentFault::TooLarge)?;
             let segment = &mut segments[usize::from(named) - 1];
             segment.coordinate = free;
             named = segment.next;
         }
     }
-    true
+    Ok(())
 }
