@@ -1,6 +1,6 @@
 -- Lines about what is lacking in files, one after another.
-use Rattle.std.proofs.Common.{◌≡◌, ◌≢◌, ◌++◌, ◌+◌, ◌<◌, ◌≤◌, ◌∙◌, if◌then◌else◌, ℕ, nat_eq, decimal, codes, Bool, true, false, List, [], ◌∷◌, Option, Result, Ok, Err, OnOk, OnErr, Bor, get_or, length, drop, map, refl, ap, sym, subst, append_assoc, append-nil}
-use Rattle.std.proofs.lemmas.List.{at_drop_more, at_drop_all, drop_all, drop_more}
+use Rattle.std.proofs.Common.{◌≡◌, ◌≢◌, ◌++◌, ◌+◌, ◌≤◌, ◌∙◌, if◌then◌else◌, ℕ, nat_eq, decimal, codes, Bool, true, false, List, [], ◌∷◌, Option, Result, Ok, Err, OnOk, OnErr, Bor, length, drop, map, refl, ap, sym, subst, append_assoc, append-nil}
+use Rattle.std.proofs.lemmas.List.{drop_all}
 use Rattle.std.specs.Io.KnownBytes.{Appends}
 use Rattle.std.specs.List.{concat}
 use Rattle.planar_code.specs.declared.partial_record.Ending.TheVariants as ending
@@ -13,23 +13,30 @@ use Rattle.streams.specs.Text.{word_of}
 use Rattle.streams.proofs.Sinks.{added_both}
 use Rattle.collector.specs.declared.find_facts.Flaws.{Flaws}
 use Rattle.named_sources.specs.Reasons.{IsWhy}
-use Rattle.commands.specs.FlawLines.{AreFlawLines, incomplete_line, lines_of_file, mark_line, memory_line, pieces_text}
+use Rattle.commands.specs.FlawLines.{AreFlawLines, incomplete_line, lines_of_file, mark_line, memory_line}
 
 -- a sink that refused a text has failed
 pub has_failed : (old new : Option (List ℕ)) (failed : Bool) (text : List ℕ) (fault : WriteFault) → Writes {A = Unit {0}} old new failed text (Err fault) → failed ≡ true
 has_failed old new failed text Write writes = writes.0
 has_failed old new failed text Memory writes = absurd writes
 
--- one more piece
-pub piece_next : (pieces : List (Bor (List ℕ))) (i : ℕ) (d : Bor (List ℕ)) (front : List ℕ) → i < length pieces
-    → pieces_text pieces ≡ front ++ pieces_text (drop i pieces) → pieces_text pieces ≡ (front ++ (get_or pieces i d).now) ++ pieces_text (drop (i + 1) pieces)
-piece_next pieces i d front inside split =
-    split ∙ ap (λ (t : List ℕ). front ++ t) (at_drop_more pieces_text pieces i d inside)
-    ∙ sym (append_assoc front (get_or pieces i d).now (pieces_text (drop (i + 1) pieces)))
+-- what the last of several writes added, and that the sink has failed if it was refused
+pub last_added : (old new : Option (List ℕ)) (failed : Bool) (text : List ℕ) (answer : Result (Unit {0}) WriteFault) → Writes old new failed text answer → OnOk answer (Appends old new text)
+last_added old new failed text (Ok x) writes = writes.1
+last_added old new failed text (Err fault) writes = tt
 
-pub pieces_end : (pieces : List (Bor (List ℕ))) (i : ℕ) (front : List ℕ) → length pieces ≤ i → pieces_text pieces ≡ front ++ pieces_text (drop i pieces) → front ≡ pieces_text pieces
-pieces_end pieces i front over split =
-    sym (append-nil front) ∙ ap (λ (t : List ℕ). front ++ t) (sym (at_drop_all pieces_text pieces i over)) ∙ sym split
+pub last_failed : (old new : Option (List ℕ)) (failed : Bool) (text : List ℕ) (answer : Result (Unit {0}) WriteFault) → Writes old new failed text answer → OnErr answer (failed ≡ true)
+last_failed old new failed text (Ok x) writes = tt
+last_failed old new failed text (Err fault) writes = has_failed old new failed text fault writes
+
+-- seven texts, the last of which was added if all went well
+pub seven_added : {A F : Type 0} (answer : Result A F) (o a b c d e f new : Option (List ℕ)) (p q r s t u v : List ℕ)
+    → Appends o a p → Appends a b q → Appends b c r → Appends c d s → Appends d e t → Appends e f u → OnOk answer (Appends f new v)
+    → OnOk answer (Appends o new (concat (p ∷ q ∷ r ∷ s ∷ t ∷ u ∷ v ∷ [])))
+seven_added (Ok x) o a b c d e f new p q r s t u v first second third fourth fifth sixth last =
+    added_both o a new p _ first (added_both a b new q _ second (added_both b c new r _ third (added_both c d new s _ fourth (added_both d e new t _ fifth
+    (added_both e f new u _ sixth (subst (Appends f new) (sym (append-nil v)) last))))))
+seven_added (Err fault) o a b c d e f new p q r s t u v first second third fourth fifth sixth last = tt
 
 -- the line about a file that does not end complete
 pub line_of_mark : (name : List ℕ) (mark : Mark) (word why : List ℕ) → mark ≢ Ended ending.Complete → word ≡ word_of mark → mark_line name word why ≡ incomplete_line name mark why

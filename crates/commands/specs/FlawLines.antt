@@ -1,7 +1,6 @@
 -- The lines on standard error about files of which something is lacking.
-use Rattle.std.specs.Prelude.{◌≡◌, ◌++◌, ◌+◌, ℕ, nat_eq, List, [], ◌∷◌, map, Option, if◌then◌else◌, codes, decimal}
+use Rattle.std.specs.Prelude.{◌≡◌, ◌++◌, ◌+◌, ℕ, nat_eq, List, [], ◌∷◌, Option, if◌then◌else◌, codes, decimal}
 use Rattle.std.specs.List.{concat}
-use Rattle.std.specs.Borrow.{Bor}
 use Rattle.std.specs.Io.KnownBytes.{Appends}
 use Rattle.planar_code.specs.declared.partial_record.Ending.{Ending}
 use Rattle.planar_code.specs.declared.partial_record.Ending.TheVariants.{Complete}
@@ -10,10 +9,6 @@ use Rattle.streams.specs.declared.frames.Mark.TheVariants.{Ended, Io}
 use Rattle.streams.specs.Text.{word_of}
 use Rattle.collector.specs.declared.find_facts.Flaws.{Flaws}
 use Rattle.named_sources.specs.Reasons.{IsWhy}
-
--- texts one after another
-abbrev pub pieces_text : List (Bor (List ℕ)) → List ℕ
-pieces_text pieces = concat (map (λ piece. piece.now) pieces)
 
 -- the line about a file with this name that does not end complete, but with this word, for this reason, which may be empty
 abbrev pub mark_line : List ℕ → List ℕ → List ℕ → List ℕ

@@ -6,7 +6,7 @@ ghost use Rattle.ruled_lanes.specs.declared.channel.TheConstants.{LANES};
 ghost use Rattle.command_line.specs.Refusals.{IsMisuse};
 ghost use Rattle.commands.specs.Statuses.{IsTooMuch};
 ghost use Rattle.std.specs.Io.KnownBytes.{Appends};
-ghost use Rattle.commands.specs.FlawLines.{IsTold, lines_of_file, memory_line, incomplete_line, mark_line, pieces_text};
+ghost use Rattle.commands.specs.FlawLines.{IsTold, lines_of_file, memory_line, incomplete_line};
 
 use collector::Flaws;
 use command_line::{Console, Fault, Meter, RunRequest};
@@ -200,31 +200,13 @@ fn write_incomplete<E: Sink>(
     if mark == Mark::Ended(Ending::Complete) {
         return Ok(());
     }
-    write_mark(name, mark_word(mark), why, err)
-}
-
-/// Writes the line about a file that ends with this word.
-fn write_mark<'a, E: Sink>(
-    name: &'a str,
-    word: &'a str,
-    why: &'a str,
-    err: &mut E,
-) -> Result<(), WriteFault>
-    requires { E.failed err.old ≡ false }
-    ensures added { OnOk result (Appends (E.taken err.old) (E.taken err.new) (mark_line name.now word.now why.now)) }
-    ensures stands { OnOk result (E.failed err.new ≡ false) }
-    ensures failed { OnErr result (E.failed err.new ≡ true) }
-{
-    let pieces: [&[u8]; 7] = [
-        b"planarbend: ",
-        name.as_bytes(),
-        b": not complete (",
-        word.as_bytes(),
-        b")",
-        why.as_bytes(),
-        b"\n",
-    ];
-    put_pieces(&pieces, err)
+    put_all(err, b"planarbend: ")?;
+    put_all(err, name.as_bytes())?;
+    put_all(err, b": not complete (")?;
+    put_all(err, mark_word(mark).as_bytes())?;
+    put_all(err, b")")?;
+    put_all(err, why.as_bytes())?;
+    put_all(err, b"\n")
 }
 
 /// Writes the line about the graphs of a file for which memory ran out, if there are any.
@@ -241,27 +223,11 @@ fn write_memory<E: Sink>(name: &str, flaws: &Flaws, err: &mut E) -> Result<(), W
     let mut first = Buffer::new();
     let count = count.format(flaws.unanswered);
     let first = first.format(u64::from(flaws.first) + 1);
-    let pieces: [&[u8]; 7] = [
-        b"planarbend: ",
-        name.as_bytes(),
-        b": graphs for which memory ran out: ",
-        count.as_bytes(),
-        b", the first is graph ",
-        first.as_bytes(),
-        b"\n",
-    ];
-    put_pieces(&pieces, err)
-}
-
-/// Writes texts one after another.
-fn put_pieces<E: Sink>(pieces: &[&[u8]], err: &mut E) -> Result<(), WriteFault>
-    requires { E.failed err.old ≡ false }
-    ensures added { OnOk result (Appends (E.taken err.old) (E.taken err.new) (pieces_text pieces.now)) }
-    ensures stands { OnOk result (E.failed err.new ≡ false) }
-    ensures failed { OnErr result (E.failed err.new ≡ true) }
-{
-    for piece in pieces {
-        put_all(err, piece)?;
-    }
-    Ok(())
+    put_all(err, b"planarbend: ")?;
+    put_all(err, name.as_bytes())?;
+    put_all(err, b": graphs for which memory ran out: ")?;
+    put_all(err, count.as_bytes())?;
+    put_all(err, b", the first is graph ")?;
+    put_all(err, first.as_bytes())?;
+    put_all(err, b"\n")
 }
