@@ -1,16 +1,12 @@
 //! The lines of a run in each format, and a line of text between the stage that makes it and the sink. Files and places
 //! in a file are counted from 0 here, and from 1 in the text.
-ghost use Rattle.std.specs.Prelude.{◌≡◌, IfOk, ◌+◌, ◌^◌, ◌≤◌, Ok as Drawn, OnErr};
-ghost use Rattle.ortho_rep.specs.Prices.{HasPrices};
+ghost use Rattle.std.specs.Prelude.{◌≡◌, IfOk, ◌+◌, ◌^◌, ◌≤◌, OnErr};
 ghost use Rattle.reports.specs.declared.answer.Answer.{Answer};
-ghost use Rattle.reports.specs.declared.answer.Answer.TheVariants.{Laid};
 ghost use Rattle.reports.specs.declared.answer.Entry.{Entry};
 ghost use Rattle.reports.specs.Answered.{IsAnswer};
 ghost use Rattle.collector.specs.FormLines.{line_in, preamble_in, end_in};
 
-use answers::ShapedPlane;
-use ortho_rep::Points;
-use reports::{Answer, Form, LaidGraph, ReportLine};
+use reports::{Answer, Form, ReportLine};
 use smallvec::SmallVec;
 use std::alloc::{AllocError, Global};
 use std::marker::Model;
@@ -83,40 +79,6 @@ pub(crate) fn answer_line(
     }
 }
 
-/// The output line of a record with this shaped plane and points that draw it, at this place of this file, in this
-/// format. A short line of a report is not allocated.
-pub(crate) fn drawn_line(
-    alloc: Global,
-    form: Form,
-    file: u32,
-    ordinal: u32,
-    shaped_plane: &ShapedPlane,
-    points: &Points,
-) -> Result<Line, AllocError>
-    requires { HasPrices shaped_plane.now.plane shaped_plane.now.prices }
-    ensures { IfOk result (λ line. (entry : Entry) → entry.file ≡ file → entry.ordinal ≡ ordinal
-        → entry.answer ≡ Laid shaped_plane.now.plane shaped_plane.now.shape shaped_plane.now.prices (Drawn points.now)
-        → line ≡ line_in form entry) }
-{
-    let graph = u64::from(ordinal) + 1;
-    match form {
-        Form::Report => {
-            let line = ReportLine::of_drawn(graph, &shaped_plane.plane, &shaped_plane.shape);
-            Line::copied(alloc, line.as_slice())
-        }
-        Form::Json => {
-            let laid = LaidGraph {
-                plane: &shaped_plane.plane,
-                shape: &shaped_plane.shape,
-                prices: &shaped_plane.prices,
-                drawing: Ok(points),
-            };
-            let text = reports::laid_line(alloc, number_of(file)?, graph, laid)?;
-            Ok(Line::of(text))
-        }
-    }
-}
-
 /// The output line of an entry that has no answer because memory ran out, with a newline (byte 0A) at its end.
 ///
 /// `file` and `ordinal` are the entry's file and its place there, from 0. It takes a few allocations.
@@ -181,7 +143,7 @@ pub fn end_text(
 /// # Errors
 ///
 /// `AllocError` if it does not fit. No file of a run has such a number.
-fn number_of(file: u32) -> Result<u32, AllocError>
+pub(crate) fn number_of(file: u32) -> Result<u32, AllocError>
     ensures number { IfOk result (λ number. number ≡ file + 1) }
     ensures fits { OnErr result (2 ^ 32 ≤ file + 1) }
 {

@@ -15,15 +15,15 @@ ghost use Rattle.common.specs.declared.parameters.DrawingKind.TheVariants.{Quick
 ghost use Rattle.reports.specs.Lengths.{IfDrawn, IsQuick};
 ghost use Rattle.answers.specs.Tasks.{about_in};
 
-use crate::lines::{Line, answer_line, drawn_line};
+use crate::lines::{Line, answer_line, number_of};
 use answers::{Answering, DrawScratch, PointsFound, Purpose, ShapedPlane, Task, find_points};
 use common::{Choice, DrawingKind};
 use embedding::ReadFault;
 use file_order::{KnownEnd, KnownFiles, known_end};
 use lanes::Numbered;
 use planar_code::Record;
-use reports::{Answer, Form, Style};
-use std::alloc::{AllocError, Global};
+use reports::{Answer, Form, LaidGraph, ReportLine, Style, laid_line};
+use std::alloc::Global;
 use std::marker::PhantomData;
 use std::snapshot::Snapshot;
 use streams::SourceEnd;
@@ -68,7 +68,8 @@ impl<J: KnownFiles + Send + Sync> Numbered for Printed<J> {
 
 /// Returns the output line of a record with the result `found`; `None` if memory ran out, for the points or the line.
 ///
-/// The record is number `ordinal`, from 0, of the file with index `file`. The line has the format `form`.
+/// The record is number `ordinal`, from 0, of the file with index `file`. The line has the format `form`. A short line
+/// of a report is not allocated.
 pub fn found_line(
     alloc: Global,
     form: Form,
@@ -80,18 +81,28 @@ pub fn found_line(
     ensures { (entry : Entry) → entry.file ≡ file → entry.ordinal ≡ ordinal → entry.answer ≡ answer_in found.now
         → IsLineOf form entry result }
 {
-    let line = match found {
-        Ok((shaped_plane, points)) => {
-            drawn_line(alloc, form, file, ordinal, shaped_plane, points)
-        }
+    let graph = u64::from(ordinal) + 1;
+    match found {
+        Ok((shaped_plane, points)) => match form {
+            Form::Report => {
+                let line = ReportLine::of_drawn(graph, &shaped_plane.plane, &shaped_plane.shape);
+                Line::copied(alloc, line.as_slice()).ok()
+            }
+            Form::Json => {
+                let laid = LaidGraph {
+                    plane: &shaped_plane.plane,
+                    shape: &shaped_plane.shape,
+                    prices: &shaped_plane.prices,
+                    drawing: Ok(points),
+                };
+                let text = laid_line(alloc, number_of(file).ok()?, graph, laid).ok()?;
+                Some(Line::of(text))
+            }
+        },
         Err(ReadFault::Rule(rule)) => {
-            answer_line(alloc, form, file, ordinal, &Answer::Refused(*rule))
+            answer_line(alloc, form, file, ordinal, &Answer::Refused(*rule)).ok()
         }
-        Err(ReadFault::Memory) => return None,
-    };
-    match line {
-        Ok(line) => Some(line),
-        Err(AllocError) => None,
+        Err(ReadFault::Memory) => None,
     }
 }
 
@@ -108,7 +119,10 @@ pub fn line_lanes<J: KnownFiles>(style: Style) -> Answering<PrintLines<J>>
         Form::Json => style.drawing_kind,
     };
     Answering {
-        purpose: PrintLines::new(style.form),
+        purpose: PrintLines {
+            form: style.form,
+            known_files: PhantomData,
+        },
         drawing_kind,
     }
 }
@@ -121,18 +135,6 @@ pub fn line_lanes<J: KnownFiles>(style: Style) -> Answering<PrintLines<J>>
 pub struct PrintLines<J: KnownFiles> {
     pub form: Form,
     pub known_files: PhantomData<J>,
-}
-
-impl<J: KnownFiles> PrintLines<J> {
-    /// The `Purpose` of runs whose lanes give output lines in this format.
-    pub(crate) fn new(form: Form) -> PrintLines<J>
-        ensures { result.form ≡ form }
-    {
-        PrintLines {
-            form,
-            known_files: PhantomData,
-        }
-    }
 }
 
 impl<J: KnownFiles + Send + Sync> Purpose for PrintLines<J> {
