@@ -6,7 +6,6 @@ ghost use Rattle.file_order.specs.Concatenated.{concatenated};
 ghost use Rattle.file_order.specs.Waits.{IsNothing};
 
 use lanes::RunFault;
-use reports::push_line;
 use std::alloc::{AllocError, Global};
 use std::marker::Model;
 use std::mem;
@@ -28,7 +27,7 @@ pub(crate) fn put<S: Sink>(
     ensures stands { TellsFailure (S.failed sink.new) result }
     ensures refused { IfErr result IsRefused }
 {
-    match push_line(buffer, sink, text) {
+    match buffer.put(sink, text) {
         Ok(()) => Ok(()),
         Err(_) => Err(RunFault::Refused(SinkFault)),
     }

@@ -1,9 +1,6 @@
--- Numbered texts in parts, and calls in a row that keep a text on its way to a sink.
-use Rattle.std.proofs.Common.{◌≡◌, ℕ, ◌+◌, ◌<◌, ◌≤◌, Bool, false, List, [], ◌∷◌, ◌++◌, Option, Result, Ok, Err, length, take, drop, get_or, subst, sym, ◌∙◌, ap, append_assoc, append-nil, arith}
+-- Numbered texts in parts.
+use Rattle.std.proofs.Common.{◌≡◌, ℕ, ◌+◌, ◌<◌, ◌≤◌, List, [], ◌∷◌, ◌++◌, length, take, drop, get_or, sym, ◌∙◌, ap, append_assoc, append-nil, arith}
 use Rattle.std.proofs.lemmas.List.{take-append-drop, take_more, length-take, take_all}
-use Rattle.streams.specs.declared.output.WriteFault.{WriteFault}
-use Rattle.streams.specs.declared.output.WriteFault.TheVariants.{Write, Memory}
-use Rattle.streams.specs.Sink.{IsInTransit, AppendsPrefix, StaysInTransit}
 use Rattle.streams.specs.declared.frames.Mark.{Mark}
 use Rattle.reports.specs.declared.answer.Entry.{Entry}
 use Rattle.reports.specs.Books.{BookModel}
@@ -42,31 +39,6 @@ module _ {A : Type 0} (text : ℕ → A → List ℕ) where
   -- past the last thing there are the texts of all
   pub texts-all : (xs : List A) (i : ℕ) → length xs ≤ i → numbered_texts text 1 (take i xs) ≡ numbered_texts text 1 xs
   texts-all xs i past = ap (numbered_texts text 1) (take_all i xs past)
-
--- one text was written whole, and then another
-pub stays_both : (old mid new : Option (List ℕ)) (waited between waits : List ℕ) (was failed : Bool) (more next whole : List ℕ) (a : Unit {0}) (r : Result (Unit {0}) WriteFault)
-    → StaysInTransit old waited mid between was more (Ok a) → StaysInTransit mid between new waits failed next r → more ++ next ≡ whole
-    → StaysInTransit old waited new waits failed whole r
-stays_both old mid new waited between waits was failed more next whole a (Ok b) p q joined = (
-  q.0,
-  λ start text way. subst (IsInTransit start new waits) (append_assoc text more next ∙ ap (λ l. text ++ l) joined) (q.1 start (text ++ more) (p.1 start text way)),
-)
-stays_both old mid new waited between waits was failed more next whole a (Err Write) p q joined = (
-  q.0,
-  λ start text way. subst (AppendsPrefix start new) (append_assoc text more next ∙ ap (λ l. text ++ l) joined) (q.1 start (text ++ more) (p.1 start text way)),
-)
-stays_both old mid new waited between waits was failed more next whole a (Err Memory) p q joined = q
-
--- a text was not written whole, and so no text that goes on from it
-pub stays_fails : (old new : Option (List ℕ)) (waited waits : List ℕ) (failed : Bool) (more rest whole : List ℕ) (e : WriteFault) (r : Result (Unit {0}) WriteFault)
-    → StaysInTransit {A = Unit {0}} old waited new waits failed more (Err e) → whole ≡ more ++ rest → r ≡ Err e → StaysInTransit old waited new waits failed whole r
-stays_fails old new waited waits failed more rest whole Write r stays split is =
-    subst (StaysInTransit {A = Unit {0}} old waited new waits failed whole) (sym is) (
-      stays.0,
-      λ start text way. let f = stays.1 start text way in
-          (f.0, f.1 ++ rest, ap (λ l. text ++ l) split ∙ sym (append_assoc text more rest) ∙ ap (λ l. l ++ rest) f.2 ∙ append_assoc f.0 f.1 rest, f.3),
-    )
-stays_fails old new waited waits failed more rest whole Memory r stays split is = absurd stays
 
 -- the text of a book, by its parts
 pub book_by_parts : (number : ℕ) (book : BookModel) (xs : List Entry) (mark : Mark) → xs ≡ book.entries → mark ≡ book.mark

@@ -1,12 +1,11 @@
 //! The lines of JSON output, and the text of a batch as such lines.
-ghost use Rattle.std.specs.Prelude.{◌≡◌, IfOk, ◌≤◌, false, length};
+ghost use Rattle.std.specs.Prelude.{◌≡◌, IfOk, false};
 ghost use Rattle.ortho_rep.specs.Representation.{HasDarts};
 ghost use Rattle.ortho_rep.specs.Prices.{HasPrices};
 ghost use Rattle.reports.specs.declared.answer.Answer.TheVariants.{NoMemory, Refused};
 ghost use Rattle.reports.specs.Json.{end_json, json_text, book_json, entry_json};
 ghost use Rattle.reports.specs.LineData.{answer_data, laid_data, line_of, points_in};
 ghost use Rattle.reports.specs.Answered.{IsAnswer};
-ghost use Rattle.streams.specs.Sink.{StaysInTransit};
 ghost use Rattle.reports.specs.Writing.{WritesOrLacks, StaysOrLacks};
 ghost use Rattle.reports.specs.Report.{numbered_texts};
 
@@ -20,7 +19,7 @@ use embedding::Rule;
 use faces::Plane;
 use ortho_rep::{Points, Prices, Shape};
 use std::alloc::{AllocError, Global};
-use streams::{LINE, Mark, Sink, TextBuffer, WriteFault, mark_word};
+use streams::{Mark, Sink, TextBuffer, WriteFault, mark_word};
 
 /// The initial capacity of a short line, in bytes.
 const SHORT_ROOM: usize = 96;
@@ -258,7 +257,7 @@ fn write_entry<S: Sink>(
         (S.failed sink.new) (entry_json file graph entry.now) result }
 {
     match entry_line(alloc, file, graph, entry) {
-        Ok(line) => push_line(lines, sink, line.as_slice()),
+        Ok(line) => lines.put(sink, line.as_slice()),
         Err(_) => Err(WriteFault::Memory),
     }
 }
@@ -277,31 +276,7 @@ fn write_end<S: Sink>(
         (S.failed sink.new) (end_json file mark count) result }
 {
     match end_line(alloc, file, mark, count) {
-        Ok(line) => push_line(lines, sink, line.as_slice()),
+        Ok(line) => lines.put(sink, line.as_slice()),
         Err(_) => Err(WriteFault::Memory),
     }
-}
-
-/// Writes a line of any length through the buffer, a piece at a time. It allocates nothing.
-///
-/// # Errors
-///
-/// `Write` exactly if the sink has then failed; it has then taken a prefix of the text. There is no other error.
-pub fn push_line<S: Sink>(
-    lines: &mut TextBuffer,
-    sink: &mut S,
-    line: &[u8],
-) -> Result<(), WriteFault>
-    requires { S.failed sink.old ≡ false }
-    ensures { StaysInTransit (S.taken sink.old) lines.old (S.taken sink.new) lines.new
-        (S.failed sink.new) line.now result }
-{
-    let mut at = 0;
-    while at < line.len() {
-        let end = line.len().min(at + LINE);
-        lines.make_room(sink)?;
-        lines.push(&line[at..end]);
-        at = end;
-    }
-    Ok(())
 }

@@ -265,8 +265,5 @@ fn write_line<S: Sink>(
     ensures { StaysInTransit (S.taken sink.old) lines.old (S.taken sink.new) lines.new
         (S.failed sink.new) line.now result }
 {
-    let text = line.as_slice();
-    lines.make_room(sink)?;
-    lines.push(text);
-    Ok(())
+    lines.put(sink, line.as_slice())
 }

@@ -1,5 +1,5 @@
 -- Texts that reach a sink in parts.
-use Rattle.std.proofs.Common.{◌≡◌, ℕ, ◌+◌, Bool, List, [], ◌++◌, Option, None, Some, Result, Ok, Err, take, drop, subst, sym, ◌∙◌, ap, append_assoc, append-nil, arith}
+use Rattle.std.proofs.Common.{◌≡◌, ℕ, ◌+◌, Bool, false, List, [], ◌++◌, Option, None, Some, Result, Ok, Err, take, drop, subst, sym, ◌∙◌, ap, append_assoc, append-nil, arith}
 use Rattle.std.proofs.lemmas.List.{drop-take, take-append-drop, take-take}
 use Rattle.std.specs.Io.KnownBytes.{Appends, Keeps}
 use Rattle.streams.specs.declared.output.WriteFault.{WriteFault}
@@ -33,6 +33,59 @@ sent_front start now after waiting text more w f =
     let spelt : text ++ more ≡ (w.sent ++ f.0) ++ (f.1 ++ more) =
     ap (λ l. l ++ more) (w.split ∙ ap (λ l. w.sent ++ l) f.2 ∙ sym (append_assoc w.sent f.0 f.1)) ∙ append_assoc (w.sent ++ f.0) f.1 more in
     (w.sent ++ f.0, f.1 ++ more, spelt, added_both start now after _ _ w.added f.3)
+
+-- one text was written whole, and then another
+pub stays_both : (old mid new : Option (List ℕ)) (waited between waits : List ℕ) (was failed : Bool) (more next whole : List ℕ) (a : Unit {0}) (r : Result (Unit {0}) WriteFault)
+    → StaysInTransit old waited mid between was more (Ok a) → StaysInTransit mid between new waits failed next r → more ++ next ≡ whole
+    → StaysInTransit old waited new waits failed whole r
+stays_both old mid new waited between waits was failed more next whole a (Ok b) p q joined = (
+  q.0,
+  λ start text way. subst (IsInTransit start new waits) (append_assoc text more next ∙ ap (λ l. text ++ l) joined) (q.1 start (text ++ more) (p.1 start text way)),
+)
+stays_both old mid new waited between waits was failed more next whole a (Err Write) p q joined = (
+  q.0,
+  λ start text way. subst (AppendsPrefix start new) (append_assoc text more next ∙ ap (λ l. text ++ l) joined) (q.1 start (text ++ more) (p.1 start text way)),
+)
+stays_both old mid new waited between waits was failed more next whole a (Err Memory) p q joined = q
+
+-- a text was not written whole, and so no text that goes on from it
+pub stays_fails : (old new : Option (List ℕ)) (waited waits : List ℕ) (failed : Bool) (more rest whole : List ℕ) (e : WriteFault) (r : Result (Unit {0}) WriteFault)
+    → StaysInTransit {A = Unit {0}} old waited new waits failed more (Err e) → whole ≡ more ++ rest → r ≡ Err e → StaysInTransit old waited new waits failed whole r
+stays_fails old new waited waits failed more rest whole Write r stays split is =
+    subst (StaysInTransit {A = Unit {0}} old waited new waits failed whole) (sym is) (
+      stays.0,
+      λ start text way. let f = stays.1 start text way in
+          (f.0, f.1 ++ rest, ap (λ l. text ++ l) split ∙ sym (append_assoc text more rest) ∙ ap (λ l. l ++ rest) f.2 ∙ append_assoc f.0 f.1 rest, f.3),
+    )
+stays_fails old new waited waits failed more rest whole Memory r stays split is = absurd stays
+
+-- what is in transit is written whole, and nothing is buffered
+pub flush_waits : (old new : Option (List ℕ)) (waited waits : List ℕ) (failed : Bool) (a b : Unit {0})
+    → Writes old new failed waited (Ok a) → waits ≡ [] → StaysInTransit old waited new waits failed [] (Ok b)
+flush_waits old new waited waits failed a b w none = (
+  w.0,
+  λ start text way. record {
+    sent = text;
+    split = ap (λ l. text ++ l) (sym none);
+    added = subst (Appends start new) (sym way.split) (added_both start old new way.sent waited way.added w.1);
+  },
+)
+
+-- nothing was written
+pub kept_waits : (now : Option (List ℕ)) (waits : List ℕ) (failed : Bool) (b : Unit {0}) → failed ≡ false → StaysInTransit now waits now waits failed [] (Ok b)
+kept_waits now waits failed b stands = (stands, λ start text way. subst (IsInTransit start now waits) (sym (append-nil text)) way)
+
+-- what is in transit was not written whole, and so no text that goes on from it
+pub flush_fails : (old mid new : Option (List ℕ)) (waited waiting waits : List ℕ) (was failed : Bool) (front rest whole : List ℕ) (a : Unit {0}) (e : WriteFault) (r : Result (Unit {0}) WriteFault)
+    → StaysInTransit old waited mid waiting was front (Ok a) → Writes {A = Unit {0}} mid new failed waiting (Err e) → whole ≡ front ++ rest → r ≡ Err e
+    → StaysInTransit old waited new waits failed whole r
+flush_fails old mid new waited waiting waits was failed front rest whole a Write r p w split is =
+    subst (StaysInTransit {A = Unit {0}} old waited new waits failed whole) (sym is) (
+      w.0,
+      λ start text way. subst (AppendsPrefix start new) (append_assoc text front rest ∙ ap (λ l. text ++ l) (sym split))
+          (sent_front start mid new waiting (text ++ front) rest (p.1 start text way) w.1),
+    )
+flush_fails old mid new waited waiting waits was failed front rest whole a Memory r p w split is = absurd w
 
 -- there was no room for a line
 pub room_fails : (old new : Option (List ℕ)) (waited waits : List ℕ) (failed : Bool) (more : List ℕ) (e : WriteFault) (r : Result (Unit {0}) WriteFault)

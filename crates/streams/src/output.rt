@@ -115,7 +115,7 @@ impl<W: Write> Sink for IoSink<W> {
 /// The capacity of a `TextBuffer`, in bytes.
 pub const ROOM: usize = 16_384;
 
-/// The minimum number of free bytes after `make_room`. A line that may be longer is added in pieces.
+/// The minimum number of free bytes after `make_room`, and the maximum length of the pieces that `put` appends.
 pub const LINE: usize = 512;
 
 /// A fixed-size buffer of text that is still to be written to a sink.
@@ -187,6 +187,30 @@ impl TextBuffer {
             return Ok(());
         }
         self.flush(sink)
+    }
+
+    /// Appends `text`, of any length, in pieces; if fewer than `LINE` bytes are free, writes the whole buffer to the
+    /// sink before a piece. It allocates nothing.
+    ///
+    /// # Errors
+    ///
+    /// `Write` exactly if the sink has then failed; a prefix of the text in transit was then added. There is no other
+    /// error.
+    pub fn put<S: Sink>(&mut self, sink: &mut S, text: &[u8]) -> Result<(), WriteFault>
+        requires { S.failed sink.old ≡ false }
+        ensures { StaysInTransit (S.taken sink.old) self.old (S.taken sink.new) self.new
+            (S.failed sink.new) text.now result }
+    {
+        let mut from = 0;
+        while from < text.len() {
+            if self.len > ROOM - LINE {
+                self.flush(sink)?;
+            }
+            let end = text.len().min(from + LINE);
+            self.push(&text[from..end]);
+            from = end;
+        }
+        Ok(())
     }
 
     /// Writes the whole buffer to the sink.

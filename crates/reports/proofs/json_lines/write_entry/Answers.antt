@@ -6,7 +6,7 @@ use Rattle.reports.proofs.json_lines.write_entry.Goals as goal
 pub returns-in-Ok : goal.returns-in-Ok
 returns-in-Ok g c =
     writes_made _ _ _ _ _ c.as_slice.result.now (entry_json c.args.file c.args.graph c.args.entry.now) _
-    (c.as_slice.ensures.value ∙ c.in-Ok.ensures) c.push_line.ensures
+    (c.as_slice.ensures.value ∙ c.in-Ok.ensures) c.put.ensures
 
 pub returns-in-Err : goal.returns-in-Err
 returns-in-Err g c =

@@ -3,7 +3,8 @@ use Rattle.std.proofs.lemmas.Result.{err_from_is_err_and}
 use Rattle.streams.specs.declared.output.WriteFault.{WriteFault}
 use Rattle.streams.specs.Sink.{StaysInTransit}
 use Rattle.reports.specs.Report.{file_line, entry_line, end_line, book_text, numbered_texts}
-use Rattle.reports.proofs.TextParts.{stays_both, stays_fails, book_by_parts}
+use Rattle.streams.proofs.Sinks.{stays_both, stays_fails}
+use Rattle.reports.proofs.TextParts.{book_by_parts}
 use Rattle.reports.proofs.report_line.write_book.Goals as goal
 
 pub returns-in_err-write_line : goal.returns-in_err-write_line

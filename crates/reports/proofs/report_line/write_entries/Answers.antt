@@ -3,7 +3,8 @@ use Rattle.std.proofs.lemmas.Result.{err_from_is_err_and}
 use Rattle.streams.specs.declared.output.WriteFault.{WriteFault}
 use Rattle.streams.specs.Sink.{StaysInTransit}
 use Rattle.reports.specs.Report.{entry_line, numbered_texts}
-use Rattle.reports.proofs.TextParts.{texts-next, texts-at, texts_rest, stays_both, stays_fails}
+use Rattle.streams.proofs.Sinks.{stays_both, stays_fails}
+use Rattle.reports.proofs.TextParts.{texts-next, texts-at, texts_rest}
 use Rattle.reports.proofs.report_line.write_entries.Goals as goal
 
 pub returns-in_err-write_line : goal.returns-in_err-write_line
