@@ -2,7 +2,6 @@
 //! written to a sink through a buffer.
 ghost use Rattle.std.specs.Prelude.{◌≡◌, false, IfErr, OnOk, OnErr, ◌++◌, [], IfOk, All, length};
 ghost use Rattle.file_order.specs.Writing.{GoesOn, IsPartlyAdded, IsRefused, TellsFailure};
-ghost use Rattle.file_order.specs.Concatenated.{concatenated};
 ghost use Rattle.file_order.specs.Waits.{IsNothing};
 
 use lanes::RunFault;
@@ -10,28 +9,6 @@ use std::alloc::{AllocError, Global};
 use std::marker::Model;
 use std::mem;
 use streams::{Mark, Sink, SinkFault, TextBuffer};
-
-/// Writes `text` to the sink through the buffer.
-///
-/// # Errors
-///
-/// `Refused` exactly if the sink has then failed. There is no other error.
-pub(crate) fn put<S: Sink>(
-    buffer: &mut TextBuffer,
-    sink: &mut S,
-    text: &[u8],
-) -> Result<(), RunFault<SinkFault>>
-    requires { S.failed sink.old ≡ false }
-    ensures put { OnOk result (GoesOn (S.taken sink.old) buffer.old (S.taken sink.new) buffer.new text.now) }
-    ensures partial { OnErr result (IsPartlyAdded (S.taken sink.old) buffer.old (S.taken sink.new) text.now) }
-    ensures stands { TellsFailure (S.failed sink.new) result }
-    ensures refused { IfErr result IsRefused }
-{
-    match buffer.put(sink, text) {
-        Ok(()) => Ok(()),
-        Err(_) => Err(RunFault::Refused(SinkFault)),
-    }
-}
 
 /// The minimum capacity of a chunk, in bytes.
 const CHUNK: usize = 16_384;
@@ -113,27 +90,11 @@ impl Chunks {
         ensures stands { TellsFailure (S.failed sink.new) result }
         ensures refused { IfErr result IsRefused }
     {
-        put_each(self.full.as_slice(), buffer, sink)?;
-        put(buffer, sink, self.last.as_slice())
+        for chunk in &self.full {
+            buffer.put(sink, chunk.as_slice())?;
+        }
+        Ok(buffer.put(sink, self.last.as_slice())?)
     }
-}
-
-/// Writes the text of these chunks to the buffer and the sink.
-fn put_each<S: Sink>(
-    chunks: &[Vec<u8>],
-    buffer: &mut TextBuffer,
-    sink: &mut S,
-) -> Result<(), RunFault<SinkFault>>
-    requires { S.failed sink.old ≡ false }
-    ensures put { OnOk result (GoesOn (S.taken sink.old) buffer.old (S.taken sink.new) buffer.new (concatenated chunks.now)) }
-    ensures partial { OnErr result (IsPartlyAdded (S.taken sink.old) buffer.old (S.taken sink.new) (concatenated chunks.now)) }
-    ensures stands { TellsFailure (S.failed sink.new) result }
-    ensures refused { IfErr result IsRefused }
-{
-    for chunk in chunks {
-        put(buffer, sink, chunk.as_slice())?;
-    }
-    Ok(())
 }
 
 /// The buffered lines and the state of a file that has not been written completely.

@@ -11,7 +11,7 @@ ghost use Rattle.file_order.specs.FileOrder.{HasEnd, IsAddFault, IsBegun, StaysA
 ghost use Rattle.file_order.specs.Waits.{ChangesAt, GetsMark, IsNext, IsTaken, IsUnmarked, TakesIn};
 ghost use Rattle.file_order.specs.Writing.{GoesOn, IsPartlyAdded, IsRefused, TellsFailure};
 
-use crate::chunks::{Chunks, Waiting, none_come, put};
+use crate::chunks::{Chunks, Waiting, none_come};
 use lanes::{Pauses, RunFault};
 use planar_code::MAX_RECORDS;
 use std::alloc::{AllocError, Global};
@@ -205,7 +205,7 @@ impl FileOrder {
         };
         here.count = count;
         if file == self.current {
-            return put(&mut self.buffer, sink, text);
+            return Ok(self.buffer.put(sink, text)?);
         }
         let more = here.lines.push(alloc, text)?;
         self.held = self.held.saturating_add(more);
@@ -315,7 +315,7 @@ impl FileOrder {
         ensures refused { IfErr result IsRefused }
         ensures same { self.new ≡ record self.old { buffer = self.new.buffer } }
     {
-        put(&mut self.buffer, sink, text)
+        Ok(self.buffer.put(sink, text)?)
     }
 
     /// Whether all text in transit has reached the sink.
@@ -340,9 +340,6 @@ impl FileOrder {
         ensures refused { IfErr result IsRefused }
         ensures same { StaysAt self.old self.new }
     {
-        match self.buffer.flush(sink) {
-            Ok(()) => Ok(()),
-            Err(_) => Err(RunFault::Refused(SinkFault)),
-        }
+        Ok(self.buffer.flush(sink)?)
     }
 }

@@ -20,7 +20,7 @@ use ruled_lanes::Gatherer;
 use std::alloc::{AllocError, Global};
 use std::convert::Infallible;
 use std::sync::Wait;
-use streams::Mark;
+use streams::{Mark, SinkFault, WriteFault};
 
 /// The reason why a run of lanes failed, or why a consumer refused one of their messages.
 #[derive(Clone, Copy, Debug, PartialEq, Eq, Drop)]
@@ -58,6 +58,20 @@ impl<F: Drop> From<AllocError> for RunFault<F> {
 
     fn from(_refused: AllocError) -> RunFault<F> {
         RunFault::Memory
+    }
+}
+
+impl From<WriteFault> for RunFault<SinkFault> {
+    ghost use Rattle.std.specs.Prelude.{◌≡◌};
+    ghost use Rattle.lanes.specs.Faults.{run_fault_of};
+
+    ghost from_gives = { λ fault run_fault. run_fault ≡ run_fault_of fault };
+
+    fn from(fault: WriteFault) -> RunFault<SinkFault> {
+        match fault {
+            WriteFault::Write => RunFault::Refused(SinkFault),
+            WriteFault::Memory => RunFault::Memory,
+        }
     }
 }
 
