@@ -6,7 +6,6 @@ pub mod Drafting
 pub mod Accepting
 pub mod Dealing
 pub mod Stopping
-pub mod Ending
 pub mod Telling
 pub mod Seats
 pub mod Merging

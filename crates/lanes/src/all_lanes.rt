@@ -1,16 +1,16 @@
 //! Running all lanes of a run: the fan to which they give is created, each lane runs in a thread of its own, and the
 //! calling thread joins them.
-ghost use Rattle.std.specs.Prelude.{◌≡◌, ◌≤◌, ◌+◌, [], IfOk, vec_len, ℕ, List, All, Ok, IfErr, true, ◌<◌, map};
+ghost use Rattle.std.specs.Prelude.{◌≡◌, ◌≤◌, ◌+◌, [], IfOk, OnOk, vec_len, ℕ, List, All, IfErr, true, ◌<◌, map};
 ghost use Rattle.ruled_lanes.specs.declared.channel.TheConstants.{LANES, MAX_CAPACITY, MAX_TICKETS};
 ghost use Rattle.ruled_lanes.specs.FanEnds.{gathered, capacity_of_fan, given_at};
-ghost use Rattle.lanes.specs.Running.{AreNumbered, IsIdle, AreMatched, IsRunning, HasEnded, StartsRun, LeavesRun};
+ghost use Rattle.lanes.specs.Running.{AreNumbered, IsIdle, AreMatched, HasEnded, StartsRun, LeavesRun};
 ghost use Rattle.lanes.specs.Lanes.{LeavesLane, StartsLane};
 ghost use Rattle.ruled_lanes.specs.TicketProtocol.{times};
 ghost use Rattle.ruled_lanes.specs.TicketSeats.{all_drawn, has_ended, IsSeatOf, IsUnused};
 ghost use Rattle.lanes.specs.Notes.{Note, notes};
 ghost use Rattle.lanes.specs.Files.{HasFile, AreToldWhole};
 ghost use Rattle.lanes.specs.Fans.{untagged, HaveStopped};
-ghost use Rattle.lanes.specs.Faults.{HoldsOnFault};
+ghost use Rattle.lanes.specs.Faults.{HoldsOnFault, IsOfLanes};
 ghost use Rattle.lanes.specs.Accepting.{AcceptsFiles, AcceptsAll};
 
 use crate::lane::Lane;
@@ -19,7 +19,7 @@ use crate::stage::LaneKind;
 use crate::{Consumer, Gate, Message, Numbered, Opener, RunFault, gather};
 use common::Choice;
 use ruled_lanes::{Closed, Gatherer, LaneGiver, Seat, Tickets, fan_in};
-use std::alloc::{AllocError, Global};
+use std::alloc::Global;
 use std::convert::Infallible;
 use std::snapshot::Snapshot;
 use std::sync::Wait;
@@ -41,7 +41,7 @@ pub fn new_fan<E: Numbered, M: Drop + Send>(
     alloc: Global,
     capacity: u32,
     lanes: u32,
-) -> Result<Fan<E, M>, AllocError>
+) -> Result<Fan<E, M>, LaneFault>
     requires least { 1 ≤ capacity }
     requires most { capacity ≤ MAX_CAPACITY }
     requires few { lanes ≤ LANES }
@@ -52,12 +52,8 @@ pub fn new_fan<E: Numbered, M: Drop + Send>(
     ensures idle { IfOk result (λ fan. AreNumbered (IsIdle fan.gatherer) (vec_len fan.givers) fan.idle.items) }
     ensures none_gathered { IfOk result (λ fan. gathered fan.gatherer ≡ []) }
 {
-    let Ok((mut givers, gatherer)) = fan_in(alloc, capacity) else {
-        return Err(AllocError);
-    };
-    let Ok(idle) = givers.split_off(lanes as usize) else {
-        return Err(AllocError);
-    };
+    let (mut givers, gatherer) = fan_in(alloc, capacity)?;
+    let idle = givers.split_off(lanes as usize)?;
     Ok(Fan {
         givers,
         idle,
@@ -107,36 +103,21 @@ pub fn drop_lanes<E: Numbered, M: Drop + Send, R: Threads, O: Opener>(
 
 /// Joins the threads of lanes; returns what they return, in order. `Memory` if there is no memory for that; they are
 /// joined all the same.
-fn join_lanes<E: Numbered, M: Drop + Send, R: Threads, O: Opener>(
+fn join_lanes<E: Numbered, M: Drop + Send, R: Threads, O: Opener, F: Drop>(
     rt: &R,
     running: Vec<Running<E, M, O>>,
-) -> Result<Vec<LaneReturn<E, M>>, LaneFault>
+) -> Result<Vec<LaneReturn<E, M>>, RunFault<F>>
     ensures count { IfOk result (λ ended. vec_len ended ≡ vec_len running) }
     ensures kept { IfOk result (λ ended. AreMatched (λ r end. LeavesLane E.about r.promise.choice (O.meaning r.promise.opener.value) r.promise.tickets.value
         r.promise.giver.value end.giver end.stop end.seat) running.items ended.items) }
+    ensures failed { IfErr result IsOfLanes }
 {
     match join_promised(rt, running) {
         Ok(ended) => Ok(ended),
         Err(refused) => {
             drop_lanes(rt, refused.value);
-            Err(LaneFault::Memory)
+            Err(RunFault::Memory)
         }
-    }
-}
-
-/// The seat and the end of the fan that a lane returned, if it gave its stop and lost nothing.
-fn lane_of<E: Numbered, M: Drop + Send>(end: LaneReturn<E, M>) -> Result<Lane<E, M>, LaneFault>
-    ensures giver { IfOk result (λ lane. lane.giver ≡ end.giver) }
-    ensures stop { IfOk result (λ lane. end.stop ≡ Ok tt) }
-    ensures seat { IfOk result (λ lane. end.seat ≡ Ok lane.seat) }
-{
-    let LaneReturn { giver, stop, seat } = end;
-    let Ok(()) = stop else {
-        return Err(LaneFault::LaneLost);
-    };
-    match seat {
-        Ok(seat) => Ok(Lane { seat, giver }),
-        Err(fault) => Err(fault),
     }
 }
 
@@ -160,58 +141,17 @@ impl<R: Threads + Wait + Sync, O: Opener, G: Gate, L> Shared<'_, R, O, G, L> {
         ensures told { IfOk result (λ seats. (file : ℕ) → times file (all_drawn seats.items) ≡ 1
             → HasFile self.now.run.now.choice (O.meaning self.now.run.now.opener.now file) file (notes E.about (untagged (gathered gatherer)))) }
     {
-        let Ok(mut seats) = Vec::with_capacity(self.run.alloc, ended.len()) else {
-            return Err(LaneFault::Memory);
-        };
-        let Ok(()) = givers.reserve(ended.len()) else {
-            return Err(LaneFault::Memory);
-        };
+        let mut seats = Vec::with_capacity(self.run.alloc, ended.len())?;
+        givers.reserve(ended.len())?;
         for end in ended {
-            let lane = lane_of(end)?;
-            let Lane { seat, giver } = lane;
+            let LaneReturn { giver, stop, seat } = end;
+            stop?;
+            let seat = seat?;
             seats.push_reserved(seat);
             givers.push_reserved(giver);
         }
         gatherer.settle(self.run.rt, givers);
         Ok(seats)
-    }
-
-    /// Passes all messages of the lanes to the consumer, and joins the lanes' threads, whatever happened; returns the
-    /// seats.
-    ///
-    /// The messages of a lane end with its stop. Then the consumer holds all of each file that one seat drew.
-    pub fn finish_lanes<E: Numbered, M: Drop + Send, C: Consumer<E, M>>(
-        &self,
-        gatherer: Gatherer<Message<E, M>>,
-        running: Vec<Running<E, M, O>>,
-        idle: Vec<LaneGiver<Message<E, M>>>,
-        consumer: &mut C,
-    ) -> Result<Vec<Seat>, RunFault<C::Refusal>>
-        requires some { 1 ≤ vec_len running }
-        requires lanes { vec_len running + vec_len idle ≡ LANES }
-        requires running { AreNumbered (λ lane r. IsRunning gatherer self.now.run.now.choice self.now.run.now.opener.now self.now.tickets.now lane
-            r.promise.choice r.promise.opener.value r.promise.tickets.value r.promise.giver.value) 0 running.items }
-        requires idle { AreNumbered (IsIdle gatherer) (vec_len running) idle.items }
-        requires none_gathered { gathered gatherer ≡ [] }
-        requires empty { C.holds consumer.old [] }
-        ensures count { IfOk result (λ seats. vec_len seats ≡ vec_len running) }
-        ensures seats { IfOk result (λ seats. All (λ s. IsSeatOf self.now.tickets.now s × (has_ended s ≡ true)) seats.items) }
-        ensures told { IfOk result (λ seats. (ns : List Note) × C.holds consumer.new ns
-            × ((file : ℕ) → times file (all_drawn seats.items) ≡ 1 → HasFile self.now.run.now.choice (O.meaning self.now.run.now.opener.now file) file ns)) }
-        ensures failed { IfErr result (HoldsOnFault (C.gave_up consumer.new) (C.holds consumer.new)) }
-        ensures stays { C.stays consumer.old consumer.new }
-    {
-        let lanes = running.len() as u32;
-        let taken = gather(self.run.rt, self.run.alloc, gatherer, lanes, consumer);
-        let ended = join_lanes(self.run.rt, running);
-        let gatherer = taken?;
-        match ended {
-            Ok(ended) => match self.settle_lanes(gatherer, ended, idle) {
-                Ok(seats) => Ok(seats),
-                Err(fault) => Err(fault.of_any_consumer()),
-            },
-            Err(fault) => Err(fault.of_any_consumer()),
-        }
     }
 }
 
@@ -219,6 +159,7 @@ impl<R: Threads + Wait + Sync, O: Opener, G: Gate, L> Shared<'_, R, O, G, L> {
 type RunningLanes<E, M, O> = Vec<Running<E, M, O>>;
 
 /// Runs the lanes of a run, each in threads of its own, and passes their messages to the consumer, which is returned.
+/// The result is stored in `ran`: in a pair with the consumer, what a reference in it refers to would not be known.
 ///
 /// The lanes draw the run's files as they become free, and give to one fan; this thread passes its messages on. `kind`
 /// says what they do. If the run ends well, the consumer holds all of each file under the run's choice of the outer
@@ -229,71 +170,71 @@ type RunningLanes<E, M, O> = Vec<Running<E, M, O>>;
 /// `Memory`: no memory for links, the fan, tickets, buffers, or the lists of lanes. `LaneLost`: an end of a link or of
 /// the fan was gone. `Thread`: a thread could not be started. Otherwise the fault is the consumer's.
 pub fn run_lanes<
+    'r,
     L: LaneKind,
     C: Consumer<L::Entry, L::End>,
     R: Threads + Wait + Sync,
     O: Opener,
     G: Gate,
->(run: &Run<'_, R, O, G>, kind: &L, consumer: C) -> (C, Result<(), RunFault<C::Refusal>>)
+>(
+    run: &'r Run<'r, R, O, G>,
+    kind: &'r L,
+    consumer: C,
+    ran: &mut Result<(), RunFault<C::Refusal>>,
+) -> C
     requires few_files { run.now.files ≤ MAX_TICKETS }
     requires some { 0 < run.now.lanes }
     requires few { run.now.lanes ≤ LANES }
     requires empty { C.holds consumer [] }
     requires accepts { AcceptsFiles L.accepts L.ends (O.meaning run.now.opener.now) }
-    ensures told { IfOk result.1 (λ _. (ns : List Note) × C.holds result.0 ns
-        × AreToldWhole run.now.choice (O.meaning run.now.opener.now) run.now.files ns) }
-    ensures failed { IfErr result.1 (HoldsOnFault (C.gave_up result.0) (C.holds result.0)) }
-    ensures stays { C.stays consumer result.0 }
+    ensures told { OnOk ran.new ((ns : List Note) × C.holds result ns × AreToldWhole run.now.choice (O.meaning run.now.opener.now) run.now.files ns) }
+    ensures failed { IfErr ran.new (HoldsOnFault (C.gave_up result) (C.holds result)) }
+    ensures stays { C.stays consumer result }
 {
     let Ok((tickets, seats)) = Tickets::new(run.alloc, run.files, run.lanes) else {
-        return (consumer, Err(RunFault::Memory));
+        *ran = Err(RunFault::Memory);
+        return consumer;
     };
     let Ok(fan) = new_fan::<L::Entry, L::End>(run.alloc, run.capacity, run.lanes) else {
-        return (consumer, Err(RunFault::Memory));
+        *ran = Err(RunFault::Memory);
+        return consumer;
     };
-    let shared = Shared {
+    let shared = &Shared {
         run,
         tickets: &tickets,
         kind,
     };
-    let (consumer, ran) = shared.gather_in_scope(seats, fan, consumer);
-    match ran {
+    let (consumer, ended) = thread::scope(
+        thread::scope_env(),
+        run.rt,
+        move |scope| -> (C, Result<Vec<Seat>, RunFault<C::Refusal>>)
+            requires { StartsRun C.holds shared.now.tickets.now seats fan.givers fan.idle fan.gatherer consumer
+                × AcceptsAll L.accepts L.ends (O.meaning shared.now.run.now.opener.now) }
+            ensures { LeavesRun C.holds C.gave_up C.stays shared.entry.now.run.now.choice (O.meaning shared.entry.now.run.now.opener.now) shared.entry.now.tickets.now (vec_len seats) consumer result.0 result.1 }
+        {
+            let mut consumer = consumer;
+            let ended = shared.start_and_gather(scope, seats, fan, &mut consumer);
+            (consumer, ended)
+        },
+    );
+    match ended {
         Ok(seats) => {
             tickets.close(seats);
-            (consumer, Ok(()))
+            *ran = Ok(());
+            consumer
         }
-        Err(fault) => (consumer, Err(fault)),
+        Err(fault) => {
+            *ran = Err(fault);
+            consumer
+        }
     }
 }
 
 impl<'s, R: Threads + Wait + Sync, O: Opener, G: Gate, L: LaneKind + 's> Shared<'s, R, O, G, L> {
-    /// Runs a lane for each seat, gathers their messages, and joins their threads. Returns the consumer and the seats.
-    fn gather_in_scope<C: Consumer<L::Entry, L::End>>(
-        &self,
-        seats: Vec<Seat>,
-        fan: Fan<L::Entry, L::End>,
-        consumer: C,
-    ) -> (C, Result<Vec<Seat>, RunFault<C::Refusal>>)
-        requires starts { StartsRun C.holds self.now.tickets.now seats fan.givers fan.idle fan.gatherer consumer }
-        requires accepts { AcceptsAll L.accepts L.ends (O.meaning self.now.run.now.opener.now) }
-        ensures { LeavesRun C.holds C.gave_up C.stays self.now.run.now.choice (O.meaning self.now.run.now.opener.now) self.now.tickets.now (vec_len seats) consumer result.0 result.1 }
-    {
-        thread::scope(
-            thread::scope_env(),
-            self.run.rt,
-            move |scope| -> (C, Result<Vec<Seat>, RunFault<C::Refusal>>)
-                requires { StartsRun C.holds self.now.tickets.now seats fan.givers fan.idle fan.gatherer consumer
-                    × AcceptsAll L.accepts L.ends (O.meaning self.now.run.now.opener.now) }
-                ensures { LeavesRun C.holds C.gave_up C.stays self.entry.now.run.now.choice (O.meaning self.entry.now.run.now.opener.now) self.entry.now.tickets.now (vec_len seats) consumer result.0 result.1 }
-            {
-                let mut consumer = consumer;
-                let ran = self.start_and_gather(scope, seats, fan, &mut consumer);
-                (consumer, ran)
-            },
-        )
-    }
-
-    /// Starts a lane for each seat and gathers their messages.
+    /// Runs a lane for each seat, passes all their messages to the consumer, and joins their threads, whatever happened;
+    /// returns the seats.
+    ///
+    /// The messages of a lane end with its stop. Then the consumer holds all of each file that one seat drew.
     fn start_and_gather<'e, C: Consumer<L::Entry, L::End>>(
         &'s self,
         scope: &'s Scope<'s, &'e ()>,
@@ -310,14 +251,23 @@ impl<'s, R: Threads + Wait + Sync, O: Opener, G: Gate, L: LaneKind + 's> Shared<
             idle,
             gatherer,
         } = fan;
-        match self.start_lanes(scope, seats, givers) {
-            Ok(running) => self.finish_lanes(gatherer, running, idle, consumer),
+        let running = match self.start_lanes(scope, seats, givers) {
+            Ok(running) => running,
             Err((running, fault)) => {
                 // Without the gatherer no lane waits for room in the fan.
                 drop(gatherer);
                 drop_lanes(self.run.rt, running);
-                Err(fault.of_any_consumer())
+                return Err(fault.of_any_consumer());
             }
+        };
+        let lanes = running.len() as u32;
+        let taken = gather(self.run.rt, self.run.alloc, gatherer, lanes, consumer);
+        let ended = join_lanes(self.run.rt, running);
+        let gatherer = taken?;
+        let ended = ended?;
+        match self.settle_lanes(gatherer, ended, idle) {
+            Ok(seats) => Ok(seats),
+            Err(fault) => Err(fault.of_any_consumer()),
         }
     }
 

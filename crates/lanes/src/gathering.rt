@@ -14,9 +14,9 @@ ghost use Rattle.ruled_lanes.specs.FanEnds.{gathered, TakesFromSameFan};
 ghost use Rattle.lanes.specs.Fans.{untagged, HaveStopped};
 ghost use Rattle.lanes.specs.Faults.{HoldsOnFault};
 
-use crate::message::{Batch, Message};
+use crate::message::{Batch, Gone, Message};
 use crate::stage::Numbered;
-use ruled_lanes::Gatherer;
+use ruled_lanes::{Closed, Gatherer, Memory};
 use std::alloc::{AllocError, Global};
 use std::convert::Infallible;
 use std::sync::Wait;
@@ -72,6 +72,28 @@ impl From<WriteFault> for RunFault<SinkFault> {
             WriteFault::Write => RunFault::Refused(SinkFault),
             WriteFault::Memory => RunFault::Memory,
         }
+    }
+}
+
+impl<F: Drop> From<Memory> for RunFault<F> {
+    fn from(_refused: Memory) -> RunFault<F> {
+        RunFault::Memory
+    }
+}
+
+impl<T: Drop, F: Drop> From<Closed<T>> for RunFault<F> {
+    ghost use Rattle.lanes.specs.Faults.{IsOfLanes};
+
+    ghost from_gives = { λ _ fault. IsOfLanes fault };
+
+    fn from(_refused: Closed<T>) -> RunFault<F> {
+        RunFault::LaneLost
+    }
+}
+
+impl<F: Drop> From<Gone> for RunFault<F> {
+    fn from(_gone: Gone) -> RunFault<F> {
+        RunFault::LaneLost
     }
 }
 
@@ -253,18 +275,13 @@ fn next_message<E: Numbered, M: Drop, C: Consumer<E, M>, R: Wait>(
     ensures stays { C.stays consumer.old consumer.new }
 {
     if !consumer.is_flushed() {
-        match gatherer.take_within(rt, patience) {
-            Ok(Some(message)) => return Ok(message),
-            Ok(None) => {}
-            Err(_) => return Err(RunFault::LaneLost),
+        if let Some(message) = gatherer.take_within(rt, patience)? {
+            return Ok(message);
         }
         consumer.flush()?;
     }
     *patience = PATIENCE;
-    match gatherer.take(rt) {
-        Ok(message) => Ok(message),
-        Err(_) => Err(RunFault::LaneLost),
-    }
+    Ok(gatherer.take(rt)?)
 }
 
 /// Passes several items to the consumer, in order, until it refuses one. Their list goes back.
@@ -309,31 +326,19 @@ pub fn gather<E: Numbered, M: Drop, C: Consumer<E, M>, R: Wait>(
     ensures failed { IfErr result (HoldsOnFault (C.gave_up consumer.new) (C.holds consumer.new)) }
     ensures stays { C.stays consumer.old consumer.new }
 {
-    let Ok(mut stops) = Vec::from_elem(alloc, false, lanes as usize) else {
-        return Err(RunFault::Memory);
-    };
+    let mut stops = Vec::from_elem(alloc, false, lanes as usize)?;
     let mut patience = PATIENCE;
     for _ in rt.forever() {
-        match next_message(rt, &mut gatherer, consumer, &mut patience) {
-            Ok((_, Message::Item(item))) => match consumer.item(item) {
-                Ok(()) => {}
-                Err(fault) => return Err(fault),
-            },
-            Ok((_, Message::Items(batch))) => match take_in(rt, batch, consumer) {
-                Ok(()) => {}
-                Err(fault) => return Err(fault),
-            },
-            Ok((_, Message::End(file, mark, known))) => match consumer.end(file, mark, known) {
-                Ok(()) => {}
-                Err(fault) => return Err(fault),
-            },
-            Ok((lane, Message::Stop)) => {
+        match next_message(rt, &mut gatherer, consumer, &mut patience)? {
+            (_, Message::Item(item)) => consumer.item(item)?,
+            (_, Message::Items(batch)) => take_in(rt, batch, consumer)?,
+            (_, Message::End(file, mark, known)) => consumer.end(file, mark, known)?,
+            (lane, Message::Stop) => {
                 set_stopped(&mut stops, lane);
                 if !stops.contains(&false) {
                     return Ok(gatherer);
                 }
             }
-            Err(fault) => return Err(fault),
         }
     }
     unreachable!()

@@ -1,12 +1,6 @@
 //! One lane: a pipeline of four stages. The last one runs on the lane's own thread, which starts a thread for each
 //! other one and settles the links between them at the end.
-ghost use Rattle.std.specs.Prelude.{ℕ, List, ◌≡◌, ◌∷◌, ◌++◌, [], IfOk, IfSome, Some};
-ghost use Rattle.ruled_lanes.specs.LinkEnds.{given, taken, AreEnds};
-ghost use Rattle.common.specs.declared.parameters.Choice.{Choice};
-ghost use Rattle.lanes.specs.declared.message.Message.{Message as AnyMessage};
-ghost use Rattle.lanes.specs.Opening.{Meaning};
-ghost use Rattle.lanes.specs.Stages.{IsHandedOn};
-ghost use Rattle.lanes.specs.Files.{TellsDrawn};
+ghost use Rattle.std.specs.Prelude.{◌∷◌, ◌++◌, [], IfOk};
 ghost use Rattle.ruled_lanes.specs.FanEnds.{given_at, GivesToSameLane};
 ghost use Rattle.lanes.specs.declared.message.Message.TheVariants.{Stop};
 ghost use Rattle.lanes.specs.Notes.{notes, GoOn};
@@ -16,44 +10,11 @@ ghost use Rattle.lanes.specs.Accepting.{AcceptsAll};
 use crate::all_lanes::{LaneFault, LaneReturn};
 use crate::run::Shared;
 use crate::stage::LaneKind;
-use crate::starting::{LastStage, Stages, Started, StartedRead, new_stages, start_stage};
+use crate::starting::{LastStage, Stages, new_stages, start_stage};
 use crate::{Gate, Message, Numbered, Opener, StageWork, run_until_stop};
-use ruled_lanes::{Giver, LaneGiver, Seat, Taker};
+use ruled_lanes::{LaneGiver, Seat};
 use std::sync::Wait;
 use std::thread::{Scope, Threads};
-
-/// Consumes the links of a lane; proves that the messages of the last stage say all that those of the first do.
-///
-/// It takes the ends that the stages returned.
-pub fn settle_links<L: LaneKind, R: Wait>(
-    rt: &R,
-    read: Giver<Message<L::Framed, L::End>>,
-    embed: (
-        Taker<Message<L::Framed, L::End>>,
-        Giver<Message<L::Embedded, L::End>>,
-    ),
-    shape: (
-        Taker<Message<L::Embedded, L::End>>,
-        Giver<Message<L::Shaped, L::End>>,
-    ),
-    draw: Taker<Message<L::Shaped, L::End>>,
-)
-    requires framed { AreEnds read embed.0 }
-    requires embedded { AreEnds embed.1 shape.0 }
-    requires shaped { AreEnds shape.1 draw }
-    requires embeds { IsHandedOn L.Framed.about L.Embedded.about (taken embed.0) (given embed.1) }
-    requires shapes { IsHandedOn L.Embedded.about L.Shaped.about (taken shape.0) (given shape.1) }
-    ensures { (choice : Choice) (meaning : ℕ → Meaning) (drawn : List ℕ) (gave : List (AnyMessage L.Entry L.End))
-        → IsHandedOn L.Shaped.about L.Entry.about (taken draw) gave
-        → TellsDrawn L.Framed.about choice meaning drawn (given read)
-        → TellsDrawn L.Entry.about choice meaning drawn gave }
-{
-    let (framed_taker, embedded_giver) = embed;
-    let (embedded_taker, shaped_giver) = shape;
-    framed_taker.settle(rt, read);
-    embedded_taker.settle(rt, embedded_giver);
-    draw.settle(rt, shaped_giver);
-}
 
 /// A lane that does not run: the seat by which it draws files, and its end of the fan.
 #[derive(Drop)]
@@ -83,8 +44,11 @@ impl<'s, R: Threads + Wait + Sync, O: Opener, G: Gate, L: LaneKind + 's> Shared<
         LaneReturn { giver, stop, seat }
     }
 
-    /// Makes the stages of a lane, starts the first three, each in a thread of its own, and runs the last one; returns
-    /// the lane's seat. It does not give the stop: that is left to the caller.
+    /// Makes the stages of a lane, starts the first three, each in a thread of its own, runs the last one, and joins the
+    /// others; returns the lane's seat. It does not give the stop: that is left to the caller.
+    ///
+    /// It settles the links between the stages by the ends that they returned. This proves that the last stage gave all
+    /// that the first one read.
     fn work_through_files<'e>(
         &'s self,
         scope: &'s Scope<'s, &'e ()>,
@@ -100,15 +64,12 @@ impl<'s, R: Threads + Wait + Sync, O: Opener, G: Gate, L: LaneKind + 's> Shared<
     {
         let run = self.run;
         let lane = giver.lane();
-        let Ok(stages) = new_stages(self.kind, run.alloc, run.capacity, lane, seat) else {
-            return Err(LaneFault::Memory);
-        };
         let Stages {
             read,
             embed,
             shape,
             draw: LastStage { scratch, taker },
-        } = stages;
+        } = new_stages(self.kind, run.alloc, run.capacity, lane, seat)?;
         // The first stage comes last: a lane that could not be started has drawn no file.
         let Some(embed) = start_stage(scope, run.rt, run.alloc, run.gate, lane, embed) else {
             return Err(LaneFault::Thread);
@@ -124,68 +85,18 @@ impl<'s, R: Threads + Wait + Sync, O: Opener, G: Gate, L: LaneKind + 's> Shared<
             let _shaped = shape.join(run.rt);
             return Err(LaneFault::Thread);
         };
-        let started = StartedStages::<L, O> { read, embed, shape };
         let work = StageWork { lane, scratch };
         let drew = run_until_stop(run.rt, run.alloc, run.gate, work, taker, giver);
-        match started.join(run.rt, drew) {
-            Some(seat) => Ok(seat),
-            None => Err(LaneFault::LaneLost),
-        }
+        let read = read.join(run.rt);
+        let embed = embed.join(run.rt);
+        let shape = shape.join(run.rt);
+        let (framed_giver, seat) = read?;
+        let (framed, embedded_giver) = embed?;
+        let (embedded, shaped_giver) = shape?;
+        let shaped = drew?;
+        framed.settle(run.rt, framed_giver);
+        embedded.settle(run.rt, embedded_giver);
+        shaped.settle(run.rt, shaped_giver);
+        Ok(seat)
     }
-}
-
-/// The first three stages of a lane, each in a thread of its own.
-#[derive(Drop)]
-struct StartedStages<L: LaneKind, O: Opener> {
-    read: StartedRead<L::Framed, L::End, O>,
-    embed: Started<L::Framed, L::End>,
-    shape: Started<L::Embedded, L::End>,
-}
-
-impl<L: LaneKind, O: Opener> StartedStages<L, O> {
-    /// Joins the threads, and settles the links of the lane by the ends that all its stages returned. Returns the
-    /// lane's seat, or `None` if an end of a link was gone.
-    fn join<R: Threads + Wait>(
-        self,
-        rt: &R,
-        drew: Option<Taker<Message<L::Shaped, L::End>>>,
-    ) -> Option<Seat>
-        requires framed { AreEnds self.read.promise.giver.value self.embed.promise.taker.value }
-        requires embedded { AreEnds self.embed.promise.giver.value self.shape.promise.taker.value }
-        requires shaped { IfSome drew (AreEnds self.shape.promise.giver.value) }
-        ensures { IfSome result (λ seat. (gave : List (AnyMessage L.Entry L.End))
-            → IfSome drew (λ took. IsHandedOn L.Shaped.about L.Entry.about (taken took) gave)
-            → TellsSeat L.Entry.about self.read.promise.choice (O.meaning self.read.promise.opener.value)
-            self.read.promise.tickets.value seat gave) }
-    {
-        let StartedStages { read, embed, shape } = self;
-        let read = read.join(rt);
-        let embed = embed.join(rt);
-        let shape = shape.join(rt);
-        let Some((ends, embed, shape, draw)) = all_of(read, embed, shape, drew) else {
-            return None;
-        };
-        let (read, seat) = ends;
-        settle_links::<L, _>(rt, read, embed, shape, draw);
-        Some(seat)
-    }
-}
-
-/// All four values, or `None` if one is missing.
-fn all_of<A: Drop, B: Drop, C: Drop, D: Drop>(
-    first: Option<A>,
-    second: Option<B>,
-    third: Option<C>,
-    fourth: Option<D>,
-) -> Option<(A, B, C, D)>
-    ensures first { IfSome result (λ all. first ≡ Some all.0) }
-    ensures second { IfSome result (λ all. second ≡ Some all.1) }
-    ensures third { IfSome result (λ all. third ≡ Some all.2) }
-    ensures fourth { IfSome result (λ all. fourth ≡ Some all.3) }
-{
-    let Some(first) = first else { return None };
-    let Some(second) = second else { return None };
-    let Some(third) = third else { return None };
-    let Some(fourth) = fourth else { return None };
-    Some((first, second, third, fourth))
 }

@@ -1,6 +1,6 @@
 //! The first stage of a lane. It draws files and reads them. The receiver of a file's records passes them to a sink,
 //! which collects them in messages and gives these on.
-ghost use Rattle.std.specs.Prelude.{◌≡◌, ℕ, List, [], ◌∷◌, ◌++◌, OnOk, ⊤, ◌<◌, length, IfOk, IfSome, vec_len};
+ghost use Rattle.std.specs.Prelude.{◌≡◌, ℕ, List, [], ◌∷◌, ◌++◌, OnOk, ⊤, ◌<◌, length, IfOk, vec_len};
 ghost use Rattle.lanes.specs.Notes.{Note, Item, notes, notes_of_items};
 ghost use Rattle.std.proofs.Common.{refl, ◌∙◌};
 ghost use Rattle.lanes.specs.Numbering.{KeepsRecords, keeps_none, keeps_on, AreOfSame, same_itself, same_on, accepts_same};
@@ -104,16 +104,10 @@ impl<K: RecordSink> Receiver for FileReceiver<'_, K> {
     ) -> Result<(), K::Refusal> {
         let mut ordinal = first;
         for rec in records.drain(..) {
-            match self.sink.keep(alloc, self.file, ordinal, rec, self.choice) {
-                Ok(()) => {}
-                Err(refusal) => return Err(refusal),
-            }
+            self.sink.keep(alloc, self.file, ordinal, rec, self.choice)?;
             ordinal += 1;
         }
-        match self.sink.pass_on(self.file) {
-            Ok(()) => Ok(()),
-            Err(refusal) => Err(refusal),
-        }
+        self.sink.pass_on(self.file)
     }
 
     ghost received_none = { λ x. (same_itself x.choice x.file, keeps_none x.choice x.file (K.kept x.sink.now)) };
@@ -273,14 +267,14 @@ impl<R: Wait, O: Opener, G: Gate, L: LaneKind> Shared<'_, R, O, G, L> {
     /// Reads the files that its seat draws, and gives their messages and a stop; returns its giver and its seat.
     ///
     /// It draws until none is left. For each file it gives its records and one end, and after the last file one stop.
-    /// `None` if the other end of its link was gone.
+    /// `Gone` if the other end of its link was gone.
     pub fn read_stage(
         &self,
         reading: FirstStage<L::Framed, L::End>,
-    ) -> Option<(Giver<Message<L::Framed, L::End>>, Seat)>
+    ) -> Result<(Giver<Message<L::Framed, L::End>>, Seat), Gone>
         requires { StartsToRead self.now.tickets.now reading.seat (vec_len reading.buffer) reading.giver
             × AcceptsAll L.accepts L.ends (O.meaning self.now.run.now.opener.now) }
-        ensures { IfSome result (λ ends.
+        ensures { IfOk result (λ ends.
             ReadsSeat L.Framed.about self.now.run.now.choice (O.meaning self.now.run.now.opener.now) self.now.tickets.now reading.giver ends.0 ends.1) }
     {
         let FirstStage {
@@ -302,15 +296,10 @@ impl<R: Wait, O: Opener, G: Gate, L: LaneKind> Shared<'_, R, O, G, L> {
         };
         for _ in self.run.rt.forever() {
             let Some(file) = self.tickets.draw(&mut seat) else {
-                return match gives.giver.give(self.run.rt, Message::Stop) {
-                    Ok(()) => Some((gives.giver, seat)),
-                    Err(_) => None,
-                };
+                gives.giver.give(self.run.rt, Message::Stop)?;
+                return Ok((gives.giver, seat));
             };
-            match self.read_drawn(file, buffer.as_mut_slice(), &mut gives) {
-                Ok(()) => {}
-                Err(_) => return None,
-            }
+            self.read_drawn(file, buffer.as_mut_slice(), &mut gives)?;
         }
         unreachable!()
     }

@@ -1,6 +1,6 @@
 //! The stages of a lane, which is a pipeline: the states of a record on its way through it, the kinds of lanes with the
 //! items of each stage, the scratches of a lane, and the work of a stage on the records of its messages.
-ghost use Rattle.std.specs.Prelude.{◌≡◌, ◌≤◌, ℕ, List, ◌++◌, [], OnOk, ◌∷◌, IfSome};
+ghost use Rattle.std.specs.Prelude.{◌≡◌, ◌≤◌, ℕ, List, ◌++◌, [], OnOk, ◌∷◌, IfOk};
 ghost use Rattle.lanes.specs.Notes.{About, notes_of_items, GoOn, notes, Stop};
 ghost use Rattle.streams.specs.declared.frames.Mark.{Mark};
 ghost use Rattle.ruled_lanes.specs.LinkEnds.{given, taken, TakesFromSame};
@@ -164,7 +164,7 @@ pub struct StageWork<A: Staged> {
     pub scratch: A::Scratch,
 }
 
-/// Runs a middle stage of a lane until the stop; returns both its ends, or `None` if another end was gone.
+/// Runs a middle stage of a lane until the stop; returns both its ends, or `Gone` if another end was gone.
 ///
 /// It gives all that `run_until_stop` gives, and then the stop.
 pub fn run_stage<A: Staged, M: Drop, R: Wait, G: Gate>(
@@ -174,24 +174,22 @@ pub fn run_stage<A: Staged, M: Drop, R: Wait, G: Gate>(
     work: StageWork<A>,
     taker: Taker<Message<A, M>>,
     mut giver: Giver<Message<A::Next, M>>,
-) -> Option<(Taker<Message<A, M>>, Giver<Message<A::Next, M>>)>
+) -> Result<(Taker<Message<A, M>>, Giver<Message<A::Next, M>>), Gone>
     requires none_taken { taken taker ≡ [] }
     requires none_given { given giver ≡ [] }
-    ensures { IfSome result (λ ends. HandedOnAll A.about A.Next.about taker giver ends.0 ends.1) }
+    ensures { IfOk result (λ ends. HandedOnAll A.about A.Next.about taker giver ends.0 ends.1) }
 {
     let taker = run_until_stop(rt, alloc, gate, work, taker, &mut giver)?;
-    match giver.tell(rt, Message::Stop) {
-        Ok(()) => Some((taker, giver)),
-        Err(_) => None,
-    }
+    giver.tell(rt, Message::Stop)?;
+    Ok((taker, giver))
 }
 
-/// Runs a stage of a lane until the stop; returns the receiving end, or `None` if another end was gone.
+/// Runs a stage of a lane until the stop; returns the receiving end, or `Gone` if another end was gone.
 ///
 /// It gives what the stage before gives, in order: records with the work of this stage done, and ends unchanged. The
 /// records of a message are given once the work is done on all of them. It does not give the stop: that is left to the
 /// caller. Before it works on a record it passes the gate and exchanges lists with other stages; all records use one
-/// scratch. `None` if the other end of its link or of its outlet was gone.
+/// scratch. `Gone` if the other end of its link or of its outlet was gone.
 pub fn run_until_stop<A: Staged, M: Drop, R: Wait, G: Gate, O: Outlet<A::Next, M>>(
     rt: &R,
     alloc: Global,
@@ -199,14 +197,14 @@ pub fn run_until_stop<A: Staged, M: Drop, R: Wait, G: Gate, O: Outlet<A::Next, M
     work: StageWork<A>,
     mut taker: Taker<Message<A, M>>,
     to: &mut O,
-) -> Option<Taker<Message<A, M>>>
+) -> Result<Taker<Message<A, M>>, Gone>
     requires about { O.about ≡ A.Next.about }
     requires none_taken { taken taker ≡ [] }
     requires none_told { O.told to.old ≡ [] }
     ensures stays { O.stays to.old to.new }
     ensures goes_on { GoOn (O.told to.new) }
-    ensures same_link { IfSome result (λ took. TakesFromSame taker took) }
-    ensures told { IfSome result (λ took. notes A.about (taken took) ≡ O.told to.new ++ Stop ∷ []) }
+    ensures same_link { IfOk result (λ took. TakesFromSame taker took) }
+    ensures told { IfOk result (λ took. notes A.about (taken took) ≡ O.told to.new ++ Stop ∷ []) }
 {
     let StageWork { lane, scratch } = work;
     let mut running = RunningStage::<A, R, G> {
@@ -218,27 +216,14 @@ pub fn run_until_stop<A: Staged, M: Drop, R: Wait, G: Gate, O: Outlet<A::Next, M
         filling: Filling::new(alloc),
     };
     for _ in rt.forever() {
-        match taker.take(rt) {
-            Ok(Message::Item(item)) => {
+        match taker.take(rt)? {
+            Message::Item(item) => {
                 let next = running.work_on(item);
-                match to.tell(rt, Message::Item(next)) {
-                    Ok(()) => {}
-                    Err(_) => return None,
-                }
+                to.tell(rt, Message::Item(next))?;
             }
-            Ok(Message::Items(batch)) => match running.pass_on(batch, to) {
-                Ok(()) => {}
-                Err(_) => return None,
-            },
-            Ok(Message::End(file, mark, known)) => match to.tell(
-                rt,
-                Message::End(file, mark, known),
-            ) {
-                Ok(()) => {}
-                Err(_) => return None,
-            },
-            Ok(Message::Stop) => return Some(taker),
-            Err(_) => return None,
+            Message::Items(batch) => running.pass_on(batch, to)?,
+            Message::End(file, mark, known) => to.tell(rt, Message::End(file, mark, known))?,
+            Message::Stop => return Ok(taker),
         }
     }
     unreachable!()

@@ -7,13 +7,14 @@ ghost use Rattle.ruled_lanes.specs.LinkEnds.{given, taken};
 ghost use Rattle.lanes.specs.Stages.{HandedOnAll};
 ghost use Rattle.lanes.specs.Accepting.{AcceptsAll};
 
+use crate::all_lanes::LaneFault;
 use crate::reading::FirstStage;
 use crate::run::Shared;
 use crate::stage::LaneKind;
-use crate::{Gate, LaneScratch, Message, Numbered, Opener, StageWork, Staged, run_stage};
+use crate::{Gate, Gone, LaneScratch, Message, Numbered, Opener, StageWork, Staged, run_stage};
 use common::Choice;
 use ruled_lanes::{Giver, Seat, Taker, Tickets, link};
-use std::alloc::{AllocError, Global};
+use std::alloc::Global;
 use std::snapshot::Snapshot;
 use std::sync::Wait;
 use std::thread::{Promise, PromisedHandle, Scope, Threads};
@@ -50,7 +51,7 @@ pub fn new_stages<L: LaneKind>(
     capacity: u32,
     lane: u32,
     seat: Seat,
-) -> Result<Stages<L>, AllocError>
+) -> Result<Stages<L>, LaneFault>
     requires least { 1 ≤ capacity }
     requires most { capacity ≤ MAX_CAPACITY }
     ensures seat { IfOk result (λ stages. stages.read.seat ≡ seat) }
@@ -59,21 +60,11 @@ pub fn new_stages<L: LaneKind>(
     ensures embedded { IfOk result (λ stages. IsNewLink capacity stages.embed.giver stages.shape.taker) }
     ensures shaped { IfOk result (λ stages. IsNewLink capacity stages.shape.giver stages.draw.taker) }
 {
-    let Ok(buffer) = piece_buffer(alloc) else {
-        return Err(AllocError);
-    };
-    let Ok(LaneScratch { embed, shape, draw }) = kind.scratch(alloc, capacity) else {
-        return Err(AllocError);
-    };
-    let Ok((giver, framed)) = link(alloc, capacity) else {
-        return Err(AllocError);
-    };
-    let Ok((embedded_giver, embedded)) = link(alloc, capacity) else {
-        return Err(AllocError);
-    };
-    let Ok((shaped_giver, shaped)) = link(alloc, capacity) else {
-        return Err(AllocError);
-    };
+    let buffer = piece_buffer(alloc)?;
+    let LaneScratch { embed, shape, draw } = kind.scratch(alloc, capacity)?;
+    let (giver, framed) = link(alloc, capacity)?;
+    let (embedded_giver, embedded) = link(alloc, capacity)?;
+    let (shaped_giver, shaped) = link(alloc, capacity)?;
     let read = FirstStage {
         lane,
         seat,
@@ -110,15 +101,15 @@ pub struct ReadPromise<A: Numbered, M: Drop + Send, O: Opener> {
     pub giver: Snapshot<Giver<Message<A, M>>>,
 }
 
-impl<A: Numbered, M: Drop + Send, O: Opener> Promise<Option<(Giver<Message<A, M>>, Seat)>>
+impl<A: Numbered, M: Drop + Send, O: Opener> Promise<Result<(Giver<Message<A, M>>, Seat), Gone>>
     for ReadPromise<A, M, O> {
-    ghost kept_by = { λ p result. IfSome result (λ ends.
+    ghost kept_by = { λ p result. IfOk result (λ ends.
         ReadsSeat A.about p.choice (O.meaning p.opener.value) p.tickets.value p.giver.value ends.0 ends.1) };
 }
 
 /// The handle of a first stage that runs in a thread of its own.
 pub type StartedRead<A, M, O> = PromisedHandle<
-    Option<(Giver<Message<A, M>>, Seat)>,
+    Result<(Giver<Message<A, M>>, Seat), Gone>,
     ReadPromise<A, M, O>,
 >;
 
@@ -129,15 +120,16 @@ pub struct StagePromise<A: Staged, M: Drop + Send> {
     pub giver: Snapshot<Giver<Message<A::Next, M>>>,
 }
 
-impl<A: Staged, M: Drop + Send> Promise<Option<(Taker<Message<A, M>>, Giver<Message<A::Next, M>>)>>
-    for StagePromise<A, M> {
-    ghost kept_by = { λ p result. IfSome result (λ ends.
+impl<A: Staged, M: Drop + Send> Promise<
+    Result<(Taker<Message<A, M>>, Giver<Message<A::Next, M>>), Gone>,
+> for StagePromise<A, M> {
+    ghost kept_by = { λ p result. IfOk result (λ ends.
         HandedOnAll A.about A.Next.about p.taker.value p.giver.value ends.0 ends.1) };
 }
 
 /// The handle of a stage that runs in a thread of its own.
 pub type Started<A, M> = PromisedHandle<
-    Option<(Taker<Message<A, M>>, Giver<Message<<A as Staged>::Next, M>>)>,
+    Result<(Taker<Message<A, M>>, Giver<Message<<A as Staged>::Next, M>>), Gone>,
     StagePromise<A, M>,
 >;
 
@@ -163,7 +155,7 @@ impl<'s, R: Threads + Wait + Sync, O: Opener, G: Gate, L: LaneKind + 's> Shared<
         };
         match scope.spawn_with(
             promise,
-            move || -> Option<(Giver<Message<L::Framed, L::End>>, Seat)>
+            move || -> Result<(Giver<Message<L::Framed, L::End>>, Seat), Gone>
                 requires { StartsToRead self.now.tickets.now reading.seat (vec_len reading.buffer) reading.giver
                     × AcceptsAll L.accepts L.ends (O.meaning self.now.run.now.opener.now) }
             { self.read_stage(reading) },
@@ -200,7 +192,7 @@ pub fn start_stage<'s, 'e, R: Wait + Sync, G: Gate, A: Staged + 's, M: Drop + Se
     let work = StageWork { lane, scratch };
     match scope.spawn_with(
         promise,
-        move || -> Option<(Taker<Message<A, M>>, Giver<Message<A::Next, M>>)>
+        move || -> Result<(Taker<Message<A, M>>, Giver<Message<A::Next, M>>), Gone>
             requires { (taken taker ≡ []) × (given giver ≡ []) }
         { run_stage(rt, alloc, gate, work, taker, giver) },
     ) {

@@ -56,7 +56,7 @@ fn a_stage_ends_where_the_one_before_is_gone(rt: HostRuntime) {
     let (giver, mut next) = link::<Message<Embedded, ()>>(rt.alloc(), 1).expect(&rt, "memory");
     let work = work_of_embedding(rt.alloc());
     let ends = run_stage(&rt, rt.alloc(), &OpenGate, work, taker, giver);
-    assert!(rt; ends.is_none());
+    assert!(rt; ends.is_err());
     assert!(rt; next.take(&rt).is_err());
 }
 
@@ -68,7 +68,7 @@ fn a_stage_ends_where_the_next_one_is_gone(rt: HostRuntime) {
     assert!(rt; before.give(&rt, Message::End(0, Mark::Io, ())).is_ok());
     let work = work_of_embedding(rt.alloc());
     let ends = run_stage(&rt, rt.alloc(), &OpenGate, work, taker, giver);
-    assert!(rt; ends.is_none());
+    assert!(rt; ends.is_err());
     assert!(rt; before.give(&rt, Message::Stop).is_err());
 }
 
@@ -98,7 +98,7 @@ fn lose_the_stage_before<R: AllocGlobal + Wait + Abort>(
         scratch: <Shaped as Staged>::scratch(rt.alloc()),
     };
     let end = run_until_stop(rt, rt.alloc(), &OpenGate, work, taker, giver);
-    assert!(rt; end.is_none());
+    assert!(rt; end.is_err());
     assert!(rt; giver.give(rt, Message::Stop).is_ok());
 }
 

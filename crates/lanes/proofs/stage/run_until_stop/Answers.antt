@@ -3,29 +3,29 @@ use Rattle.lanes.specs.Notes.{notes_of, notes_of_items, Item, End}
 use Rattle.lanes.proofs.Passing.{going_told, passed_on}
 use Rattle.lanes.proofs.stage.run_until_stop.Goals as goal
 
-pub loop-preserved-in-Ok : goal.loop-preserved-in-Ok
-loop-preserved-in-Ok g c =
+pub loop-preserved-in-Continue-branch-3 : goal.loop-preserved-in-Continue-branch-3
+loop-preserved-in-Continue-branch-3 g c =
     let about = g.A.Numbered.about in
-    let told = c.in-Ok.ensures.more ∙ ap (λ a. g.O.Outlet.told c.loop.to ++ Item (a c.work_on-next.result) ∷ []) c.requires.about in
+    let told = c.in_ok-tell-in-Item.ensures.more ∙ ap (λ a. g.O.Outlet.told c.loop.to ++ Item (a c.work_on-next.result) ∷ []) c.requires.about in
     record {
       from_same = c.take.ensures.link ∙ c.loop.invariant.from_same;
       stays = g.met.O.Outlet.stays_on _ _ _ c.loop.invariant.stays c.tell.ensures.stays;
-      same = passed_on about _ _ (g.O.Outlet.told c.loop.to) (g.O.Outlet.told c.tell.new.self) c.in-Ok-Item.field-0 (Item (g.A.Next.Numbered.about c.work_on-next.result) ∷ [])
-          c.loop.invariant.same c.in-Ok-Item.ensures.ok told
-          (ap (λ a. Item a ∷ []) c.work_on-next.ensures.told ∙ ap (notes_of about) (sym c.in-Ok-Item.field-0-is));
+      same = passed_on about _ _ (g.O.Outlet.told c.loop.to) (g.O.Outlet.told c.tell.new.self) _ (Item (g.A.Next.Numbered.about c.work_on-next.result) ∷ [])
+          c.loop.invariant.same c.in_ok-item.ensures.ok told
+          (ap (λ a. Item a ∷ []) c.work_on-next.ensures.told ∙ ap (notes_of about) (sym c.in-Item.is));
       none = c.work_on-next.ensures.same ∙ c.loop.invariant.none;
       going = going_told (g.O.Outlet.told c.loop.to) (g.O.Outlet.told c.tell.new.self) (Item (g.A.Next.Numbered.about c.work_on-next.result) ∷ []) told tt c.loop.invariant.going;
     }
 
-pub loop-preserved-in-Ok-pass_on : goal.loop-preserved-in-Ok-pass_on
-loop-preserved-in-Ok-pass_on g c =
+pub loop-preserved-in-Continue-branch-4 : goal.loop-preserved-in-Continue-branch-4
+loop-preserved-in-Continue-branch-4 g c =
     let about = g.A.Numbered.about in
     record {
       from_same = c.take.ensures.link ∙ c.loop.invariant.from_same;
       stays = g.met.O.Outlet.stays_on _ _ _ c.loop.invariant.stays c.pass_on.ensures.stays;
-      same = passed_on about _ _ (g.O.Outlet.told c.loop.to) (g.O.Outlet.told c.pass_on.new.to) c.in-Ok-Items.field-0 (notes_of_items about c.in-Ok-Items.batch.items.items)
-          c.loop.invariant.same c.in-Ok-Items.ensures.ok c.in-Ok-pass_on.ensures.told (ap (notes_of about) (sym c.in-Ok-Items.field-0-is));
-      none = c.in-Ok-pass_on.ensures.none;
+      same = passed_on about _ _ (g.O.Outlet.told c.loop.to) (g.O.Outlet.told c.pass_on.new.to) _ (notes_of_items about c.in-Items.batch.items.items)
+          c.loop.invariant.same c.in_ok-item.ensures.ok c.in_ok-pass_on-in-Items.ensures.told (ap (notes_of about) (sym c.in-Items.is));
+      none = c.in_ok-pass_on-in-Items.ensures.none;
       going = c.pass_on.ensures.going c.loop.invariant.going;
     }
 
@@ -34,18 +34,18 @@ loop-preserved g c =
     let about = g.A.Numbered.about in
     record {
       from_same = c.take.ensures.link ∙ c.loop.invariant.from_same;
-      stays = g.met.O.Outlet.stays_on _ _ _ c.loop.invariant.stays c.tell-in-Ok-End.ensures.stays;
-      same = passed_on about _ _ (g.O.Outlet.told c.loop.to) (g.O.Outlet.told c.tell-in-Ok-End.new.self) c.in-Ok-End.field-0 (End c.in-Ok-End.file c.in-Ok-End.mark ∷ [])
-          c.loop.invariant.same c.in-Ok-End.ensures.ok c.in-Ok-tell.ensures.more (ap (notes_of about) (sym c.in-Ok-End.field-0-is));
+      stays = g.met.O.Outlet.stays_on _ _ _ c.loop.invariant.stays c.tell-in-End.ensures.stays;
+      same = passed_on about _ _ (g.O.Outlet.told c.loop.to) (g.O.Outlet.told c.tell-in-End.new.self) _ (End c.in-End.file c.in-End.mark ∷ [])
+          c.loop.invariant.same c.in_ok-item.ensures.ok c.in_ok-tell-in-End.ensures.more (ap (notes_of about) (sym c.in-End.is));
       none = c.loop.invariant.none;
-      going = going_told (g.O.Outlet.told c.loop.to) (g.O.Outlet.told c.tell-in-Ok-End.new.self) (End c.in-Ok-End.file c.in-Ok-End.mark ∷ []) c.in-Ok-tell.ensures.more tt c.loop.invariant.going;
+      going = going_told (g.O.Outlet.told c.loop.to) (g.O.Outlet.told c.tell-in-End.new.self) (End c.in-End.file c.in-End.mark ∷ []) c.in_ok-tell-in-End.ensures.more tt c.loop.invariant.going;
     }
 
-pub returns-in-Err-tell-clause-stays : goal.returns-in-Err-tell-clause-stays
-returns-in-Err-tell-clause-stays g c = g.met.O.Outlet.stays_on _ _ _ c.loop.invariant.stays c.tell.ensures.stays
+pub returns-in_err-tell-in-Item-clause-stays : goal.returns-in_err-tell-in-Item-clause-stays
+returns-in_err-tell-in-Item-clause-stays g c = g.met.O.Outlet.stays_on _ _ _ c.loop.invariant.stays c.tell.ensures.stays
 
-pub returns-in-Err-pass_on-clause-stays : goal.returns-in-Err-pass_on-clause-stays
-returns-in-Err-pass_on-clause-stays g c = g.met.O.Outlet.stays_on _ _ _ c.loop.invariant.stays c.pass_on.ensures.stays
+pub returns-in_err-pass_on-in-Items-clause-stays : goal.returns-in_err-pass_on-in-Items-clause-stays
+returns-in_err-pass_on-in-Items-clause-stays g c = g.met.O.Outlet.stays_on _ _ _ c.loop.invariant.stays c.pass_on.ensures.stays
 
-pub returns-in-Err-tell-2-clause-stays : goal.returns-in-Err-tell-2-clause-stays
-returns-in-Err-tell-2-clause-stays g c = g.met.O.Outlet.stays_on _ _ _ c.loop.invariant.stays c.tell-in-Ok-End.ensures.stays
+pub returns-in_err-tell-in-End-clause-stays : goal.returns-in_err-tell-in-End-clause-stays
+returns-in_err-tell-in-End-clause-stays g c = g.met.O.Outlet.stays_on _ _ _ c.loop.invariant.stays c.tell-in-End.ensures.stays

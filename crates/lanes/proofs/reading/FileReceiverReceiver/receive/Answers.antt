@@ -24,7 +24,7 @@ loop-rec-preserved g c =
       left = inv.left ∙ ap (λ l. c.loop-rec.yielded ++ l) c.in-Some.ensures.steps.0 ∙ sym (append_assoc c.loop-rec.yielded (c.in-Some.rec ∷ []) _);
       next = omega (arith, inv.next, length-append c.loop-rec.yielded (c.in-Some.rec ∷ []));
       same = search rules;
-      kept = kept_next _ _ _ _ _ _ _ _ _ inv.next inv.kept (kept_as _ _ _ _ _ _ _ _ inv.same c.in-Ok.ensures.kept);
+      kept = kept_next _ _ _ _ _ _ _ _ _ inv.next inv.kept (kept_as _ _ _ _ _ _ _ _ inv.same c.in_ok-keep.ensures.kept);
       name = search rules;
-      stays = g.met.K.RecordSink.stays_on _ _ _ inv.stays c.in-Ok.ensures.stays;
+      stays = g.met.K.RecordSink.stays_on _ _ _ inv.stays c.in_ok-keep.ensures.stays;
     }

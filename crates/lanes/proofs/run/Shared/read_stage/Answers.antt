@@ -14,11 +14,11 @@ loop-init g c = record {
   told = told_none _ _ _ _ c.requires.0.unused.0 (ap (notes g.L.Framed.Numbered.about) c.requires.0.none_given);
 }
 
-pub returns-in-Ok : goal.returns-in-Ok
-returns-in-Ok g c =
+pub returns-in_default : goal.returns-in_default
+returns-in_default g c =
     let about = g.L.Framed.Numbered.about in
     let all = told_all c.args.self.now.run.now.choice (g.O.Opener.meaning c.args.self.now.run.now.opener.now) _ _ _ _ c.loop.invariant.told c.in_default.ensures.none.0
-    (notes-after about _ _ Stop c.in-Ok.ensures.ok) in
+    (notes-after about _ _ Stop c.in_ok-give.ensures.ok) in
     record {
       to_same = c.give.ensures.link ∙ c.loop.invariant.to_same;
       tells = record {
@@ -33,7 +33,7 @@ loop-preserved g c = record {
   room = c.loop.invariant.room;
   seat = c.draw.ensures.seat;
   to_same = c.read_drawn.ensures.same ∙ c.loop.invariant.to_same;
-  none = c.in-Ok-read_drawn.ensures.none;
+  none = c.in_ok-read_drawn.ensures.none;
   told = told_more c.args.self.now.run.now.choice (g.O.Opener.meaning c.args.self.now.run.now.opener.now) c.in-Some-draw.file _ _ _ _ c.loop.invariant.told
-      c.in-Some-draw.ensures.some c.in-Ok-read_drawn.ensures.told;
+      c.in-Some-draw.ensures.some c.in_ok-read_drawn.ensures.told;
 }

@@ -11,21 +11,20 @@ pub loop-end-init : goal.loop-end-init
 loop-end-init g c = record {
   ran = [];
   all = c.reserve.ensures.items ∙ sym (append-nil _);
-  run = subst (HaveRun g.E.Numbered.about c.args.self.now.run.now.choice (g.O.Opener.meaning c.args.self.now.run.now.opener.now) c.args.self.now.tickets.now c.args.gatherer 0 []) (sym c.in-Ok.ensures.items) tt;
-  rest = numbered_as _ 0 _ _ _ (omega (arith, c.in-Ok.ensures.len)) (sym c.into_iter-end-iterator.ensures.into_iter_gives.0) c.requires.ended;
-  room = omega (arith, c.in-Ok.ensures.capacity);
-  room_of_givers = omega (arith, c.in-Ok-reserve.ensures.ok, ap length c.into_iter-end-iterator.ensures.into_iter_gives.0);
-  count = omega (arith, c.in-Ok.ensures.len, ap length c.into_iter-end-iterator.ensures.into_iter_gives.0);
-  seats = subst (All (λ s. IsSeatOf c.args.self.now.tickets.now s × (has_ended s ≡ true))) (sym c.in-Ok.ensures.items) (All-nil (λ s. IsSeatOf c.args.self.now.tickets.now s × (has_ended s ≡ true)));
+  run = subst (HaveRun g.E.Numbered.about c.args.self.now.run.now.choice (g.O.Opener.meaning c.args.self.now.run.now.opener.now) c.args.self.now.tickets.now c.args.gatherer 0 []) (sym c.in_ok-seats.ensures.items) tt;
+  rest = numbered_as _ 0 _ _ _ (omega (arith, c.in_ok-seats.ensures.len)) (sym c.into_iter-end-iterator.ensures.into_iter_gives.0) c.requires.ended;
+  room = omega (arith, c.in_ok-seats.ensures.capacity);
+  room_of_givers = omega (arith, c.in_ok-reserve.ensures.ok, ap length c.into_iter-end-iterator.ensures.into_iter_gives.0);
+  count = omega (arith, c.in_ok-seats.ensures.len, ap length c.into_iter-end-iterator.ensures.into_iter_gives.0);
+  seats = subst (All (λ s. IsSeatOf c.args.self.now.tickets.now s × (has_ended s ≡ true))) (sym c.in_ok-seats.ensures.items) (All-nil (λ s. IsSeatOf c.args.self.now.tickets.now s × (has_ended s ≡ true)));
 }
 
 pub loop-end-preserved : goal.loop-end-preserved
 loop-end-preserved g c =
     let about = g.E.Numbered.about in
     let meaning = g.O.Opener.meaning in
-    let lane = c.in_ok-lane.ensures in
-    let seat = c.in_ok-lane.lane.seat in
-    let giver = c.in_ok-lane.lane.giver in
+    let seat = c.in_ok-seat.seat in
+    let giver = c.in-Some.end.giver in
     let seats = c.push_reserved.ensures in
     let givers = c.push_reserved-in-loop-end.ensures in
     let inv = c.loop-end.invariant in
@@ -33,7 +32,7 @@ loop-end-preserved g c =
     let many : vec_len c.loop-end.seats ≡ 0 + length before = omega arith in
     let rest = numbered_as _ (vec_len c.loop-end.seats) (0 + length before) _ _ many c.in-Some.ensures.steps.0 inv.rest in
     let has : HasRun about c.args.self.now.run.now.choice (meaning c.args.self.now.run.now.opener.now) c.args.self.now.tickets.now c.args.gatherer (0 + length before) giver seat =
-    ended_run about _ _ _ _ _ c.in-Some.end.giver giver c.in-Some.end.stop c.in-Some.end.seat tt seat rest.0 lane.giver lane.stop lane.seat in
+    ended_run about _ _ _ _ _ c.in-Some.end.giver giver c.in-Some.end.stop c.in-Some.end.seat tt seat rest.0 refl c.in_ok-stop.was c.in_ok-seat.was in
     record {
       ran = inv.ran ++ giver ∷ [];
       all = givers.items ∙ ap (λ l. l ++ giver ∷ []) inv.all ∙ append_assoc c.args.givers.items inv.ran (giver ∷ []);
