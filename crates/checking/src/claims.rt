@@ -1,5 +1,5 @@
 //! What a line claims of its points. A claim that is not made is `None`.
-ghost use Rattle.std.specs.Prelude.{◌≡◌, ◌≢◌, ◌^◌, ◌<◌, ◌≤◌, ℕ, ℤ, List, IfOk, IfErr, IfNone, IfSome, All, MatchOption, None, Some, option_map, codes, map};
+ghost use Rattle.std.specs.Prelude.{◌≡◌, ◌≢◌, ◌^◌, ◌<◌, ◌≤◌, ℕ, ℤ, List, IfOk, IfErr, All, MatchOption, None, Some, option_map, codes, map};
 ghost use Rattle.serde_json.specs.Find.{get};
 ghost use Rattle.serde_json.specs.View.{view};
 ghost use Rattle.ortho_rep.specs.declared.turn_strings.Turn.{Turn};
@@ -9,7 +9,7 @@ ghost use Rattle.checking.specs.Values.{natural, array_of, letter_of, turns_data
 ghost use Rattle.checking.specs.Wrong.{IsWrongField, IsWrongAngles, IsWrongTurns, IsWrongPriceList, IsWrongPrices, IsWrongPriceValue};
 ghost use Rattle.checking.specs.declared.json.LineFault.TheVariants.{Number, Turns, Memory};
 
-use crate::json::{LineFault, integer_in, list_in, number_in, text_in};
+use crate::json::{LineFault, integer_in, list_in, number_in};
 use ortho_rep::{Prices, Turn};
 use serde_json::Value;
 use std::alloc::Global;
@@ -78,8 +78,7 @@ fn angle_list(alloc: Global, value: &Value) -> Result<Vec<u8>, LineFault>
     let mut angles = Vec::new(alloc);
     let elements = list_in(value, LineFault::Angles)?;
     for element in elements {
-        let angle = number_in(element, 255)?;
-        angles.push(angle as u8)?;
+        angles.push(number_in(element, 255)? as u8)?;
     }
     Ok(angles)
 }
@@ -141,8 +140,7 @@ fn price_list(alloc: Global, value: &Value) -> Result<Vec<i32>, LineFault>
     let mut prices = Vec::new(alloc);
     let elements = list_in(value, LineFault::Prices)?;
     for element in elements {
-        let price = integer_in(element)?;
-        prices.push(price)?;
+        prices.push(integer_in(element)?)?;
     }
     Ok(prices)
 }
@@ -176,8 +174,7 @@ fn string_list(alloc: Global, value: &Value) -> Result<Vec<Vec<Turn>>, LineFault
     let mut strings = Vec::new(alloc);
     let elements = list_in(value, LineFault::Turns)?;
     for element in elements {
-        let turns = turns_of(alloc, element)?;
-        strings.push(turns)?;
+        strings.push(turns_of(alloc, element)?)?;
     }
     Ok(strings)
 }
@@ -189,7 +186,7 @@ fn turns_of(alloc: Global, value: &Value) -> Result<Vec<Turn>, LineFault>
         → (turns : List Turn) → view value.now ≢ turns_data turns) }
     ensures fault { IfErr result (λ fault. fault ≢ Memory → fault ≡ Turns) }
 {
-    let text = text_in(value, LineFault::Turns)?;
+    let text = value.as_str().ok_or(LineFault::Turns)?;
     letters_of(alloc, text.as_bytes())
 }
 
@@ -201,23 +198,12 @@ fn letters_of(alloc: Global, letters: &[u8]) -> Result<Vec<Turn>, LineFault>
 {
     let mut turns = Vec::new(alloc);
     for letter in letters {
-        let turn = match turn_of(*letter) {
-            Some(turn) => turn,
-            None => return Err(LineFault::Turns),
+        let turn = match *letter {
+            b'L' => Turn::Left,
+            b'R' => Turn::Right,
+            _ => return Err(LineFault::Turns),
         };
         turns.push(turn)?;
     }
     Ok(turns)
-}
-
-/// The turn of a letter.
-fn turn_of(letter: u8) -> Option<Turn>
-    ensures some { IfSome result (λ turn. letter ≡ letter_of turn) }
-    ensures none { IfNone result ((turn : Turn) → letter ≢ letter_of turn) }
-{
-    match letter {
-        b'L' => Some(Turn::Left),
-        b'R' => Some(Turn::Right),
-        _ => None,
-    }
 }

@@ -46,8 +46,7 @@ fn corner_lists(alloc: Global, value: &Value) -> Result<Vec<Vec<Point>>, LineFau
     let mut lists = Vec::new(alloc);
     let elements = list_in(value, LineFault::Points)?;
     for element in elements {
-        let points = point_list(alloc, element)?;
-        lists.push(points)?;
+        lists.push(point_list(alloc, element)?)?;
     }
     Ok(lists)
 }
@@ -63,8 +62,7 @@ fn point_list(alloc: Global, value: &Value) -> Result<Vec<Point>, LineFault>
     let mut points = Vec::new(alloc);
     let elements = list_in(value, LineFault::Points)?;
     for element in elements {
-        let point = point_in(element)?;
-        points.push(point)?;
+        points.push(point_in(element)?)?;
     }
     Ok(points)
 }
