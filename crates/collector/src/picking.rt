@@ -12,8 +12,6 @@ ghost use Rattle.collector.specs.PicksHolding.{ArePicksOf, IsPartOfPicked, Picks
 ghost use Rattle.std.proofs.Common.{refl, ◌∙◌};
 ghost use Rattle.ruled_lanes.specs.declared.channel.TheConstants.{LANES};
 ghost use Rattle.reports.specs.declared.book.TheConstants.{MAX_FILES};
-ghost use Rattle.lanes.specs.Faults.{HoldsOnFault};
-ghost use Rattle.lanes.specs.Accepting.{AcceptsFiles};
 ghost use Rattle.collector.specs.PicksStops.{held_stop};
 
 use crate::find_facts::{Flaws, FoundFacts, add_flaw, fact_lanes, no_flaws, set_mark};
@@ -21,10 +19,9 @@ use crate::texts::Texts;
 use common::Choice;
 use file_order::{FileOrder, KnownEnd, KnownFiles, Pace};
 use graph_facts::Selection;
-use lanes::{Consumer, Gate, LaneKind, Opener, Run, RunFault, run_lanes};
+use lanes::{Consumer, Gate, Opener, Run, RunFault, run_lanes};
 use planar_code::HEADER;
 use std::alloc::{AllocError, Global};
-use std::marker::Brand;
 use std::sync::Wait;
 use std::thread::Threads;
 use streams::{Mark, Sink, SinkFault};
@@ -173,7 +170,8 @@ impl Picks {
 ///
 /// Each record is written as it is decided whether it is chosen: those of the first file that has not ended go to the
 /// sink, and those of later files are buffered. If the buffered records hold `waiting` bytes of memory or more, the
-/// reading of later files pauses until there is room again or they become first.
+/// reading of later files pauses until there is room again or they become first. The type `J` represents what the files
+/// mean.
 ///
 /// # Errors
 ///
@@ -181,35 +179,16 @@ impl Picks {
 /// lanes or buffered records. `LaneLost`: an end of a link or of the fan was gone, or a message came that no lane gives.
 /// `Thread`: a thread could not be started. In each case a prefix is written of what would be, if each file may end
 /// `memory`.
-pub fn pick_files<R: Threads + Wait + Sync, O: Opener, G: Gate, S: Sink>(
+pub fn pick_files<
+    J: KnownFiles + Send + Sync,
+    R: Threads + Wait + Sync,
+    O: Opener,
+    G: Gate,
+    S: Sink,
+>(
     run: &Run<'_, R, O, G>,
     selection: Selection,
     waiting: usize,
-    sink: &mut S,
-) -> Result<Vec<Flaws>, RunFault<SinkFault>>
-    requires stands { S.failed sink.old ≡ false }
-    requires few_files { run.now.files ≤ MAX_FILES }
-    requires some { 0 < run.now.lanes }
-    requires few { run.now.lanes ≤ LANES }
-    ensures written { IfOk result (λ flaws. IsAllPicked selection run.now.choice (O.meaning run.now.opener.now) run.now.files
-        (S.taken sink.old) (S.taken sink.new) flaws.items) }
-    ensures begun { OnErr result ∥ IsPickBegun selection run.now.choice (O.meaning run.now.opener.now) run.now.files
-        (S.taken sink.old) (S.taken sink.new) ∥₁ }
-    ensures stands { OnOk result (S.failed sink.new ≡ false) }
-    ensures failed { IfErr result (HasFailedBy (S.failed sink.new)) }
-{
-    let pace = Pace {
-        pauses: run.pauses,
-        most: waiting,
-    };
-    pick_known::<Brand, _, _, _, _>(run, selection, pace, sink)
-}
-
-/// Writes the chosen records of a run at this pace. The type `J` represents what the files mean.
-fn pick_known<J: KnownFiles + Send + Sync, R: Threads + Wait + Sync, O: Opener, G: Gate, S: Sink>(
-    run: &Run<'_, R, O, G>,
-    selection: Selection,
-    pace: Pace<'_>,
     sink: &mut S,
 ) -> Result<Vec<Flaws>, RunFault<SinkFault>>
     requires stands { S.failed sink.old ≡ false }
@@ -225,10 +204,13 @@ fn pick_known<J: KnownFiles + Send + Sync, R: Threads + Wait + Sync, O: Opener, 
     ensures failed { IfErr result (HasFailedBy (S.failed sink.new)) }
 {
     let picks = Picks::new(run.alloc, selection, run.choice, run.files)?;
+    let pace = Pace {
+        pauses: run.pauses,
+        most: waiting,
+    };
     let texts = Texts::new(run.alloc, sink, picks, pace);
-    let lanes = fact_lanes::<J>();
     let mut ran = Ok(());
-    let texts = gather_into(run, &lanes, texts, &mut ran);
+    let texts = run_lanes(run, &fact_lanes::<J>(), texts, &mut ran);
     match ran {
         Ok(()) => texts.finish(),
         Err(fault) => {
@@ -312,27 +294,4 @@ impl<S: Sink, J: KnownFiles + Send + Sync> Consumer<FoundFacts<J>, KnownEnd<J>>
     ghost stays_itself = { λ t. (refl, refl, record { selection = refl; choice = refl; files = refl }) };
 
     ghost stays_on = { λ a b c p q. (p.0 ∙ q.0, p.1 ∙ q.1, record { selection = q.2.selection ∙ p.2.selection; choice = q.2.choice ∙ p.2.choice; files = q.2.files ∙ p.2.files }) };
-}
-
-/// Runs lanes of this kind, and stores the result in `ran`: returned beside it in a pair, the state of the sink that
-/// the consumer holds would not be known.
-pub(crate) fn gather_into<
-    L: LaneKind,
-    C: Consumer<L::Entry, L::End>,
-    R: Threads + Wait + Sync,
-    O: Opener,
-    G: Gate,
->(run: &Run<'_, R, O, G>, kind: &L, consumer: C, ran: &mut Result<(), RunFault<C::Refusal>>) -> C
-    requires few_files { run.now.files ≤ MAX_FILES }
-    requires some { 0 < run.now.lanes }
-    requires few { run.now.lanes ≤ LANES }
-    requires empty { C.holds consumer [] }
-    requires accepts { AcceptsFiles L.accepts L.ends (O.meaning run.now.opener.now) }
-    ensures told { OnOk ran.new ((ns : List Note) × C.holds result ns × AreToldWhole run.now.choice (O.meaning run.now.opener.now) run.now.files ns) }
-    ensures failed { IfErr ran.new (HoldsOnFault (C.gave_up result) (C.holds result)) }
-    ensures stays { C.stays consumer result }
-{
-    let (consumer, end) = run_lanes(run, kind, consumer);
-    *ran = end;
-    consumer
 }

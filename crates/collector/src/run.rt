@@ -192,7 +192,8 @@ pub fn run_batch<R: Threads + Wait + Sync, O: Opener, G: Gate>(
         purpose: KeepEntries,
         drawing_kind: DrawingKind::Quick,
     };
-    let (drafts, ran) = run_lanes(&run, &kind, drafts);
+    let mut ran = Ok(());
+    let drafts = run_lanes(&run, &kind, drafts, &mut ran);
     match ran {
         Ok(()) => {}
         Err(RunFault::Memory) => return Err(BatchFault::Memory),

@@ -1,11 +1,7 @@
 //! The command `layout`: a run whose output is streamed.
-ghost use Rattle.std.specs.Prelude.{◌≡◌, ◌<◌, ◌≤◌, ◌⊎◌, List, [], false, IfOk, IfErr, OnOk, OnErr, ◌↔◌, Err, vec_len};
+ghost use Rattle.std.specs.Prelude.{◌≡◌, ◌<◌, ◌≤◌, ◌⊎◌, false, IfOk, IfErr, OnOk, OnErr, ◌↔◌, Err, vec_len};
 ghost use Rattle.ruled_lanes.specs.declared.channel.TheConstants.{LANES, MAX_CAPACITY};
 ghost use Rattle.reports.specs.declared.book.TheConstants.{MAX_FILES};
-ghost use Rattle.lanes.specs.Notes.{Note};
-ghost use Rattle.lanes.specs.Files.{AreToldWhole};
-ghost use Rattle.lanes.specs.Faults.{HoldsOnFault};
-ghost use Rattle.lanes.specs.Accepting.{AcceptsFiles};
 ghost use Rattle.collector.specs.Whole.{IsAllWritten, IsBegun};
 ghost use Rattle.commands.specs.TextRuns.{HasFailedBy, IsStreamed};
 ghost use Rattle.streams.specs.declared.output.BatchFault.{BatchFault};
@@ -18,7 +14,7 @@ use collector::{Lines, Texts, line_lanes};
 use command_line::{Console, Fault, LayoutRequest};
 use common::Choice;
 use file_order::{KnownFiles, Pace};
-use lanes::{Consumer, Gate, LaneKind, Opener, Pauses, Run, RunFault, run_lanes};
+use lanes::{Gate, Opener, Pauses, Run, RunFault, run_lanes};
 use named_sources::NamedFiles;
 use reports::Style;
 use std::alloc::Global;
@@ -80,38 +76,21 @@ pub fn write_batch<'r, R: Threads + Wait + Sync, O: Opener, G: Gate, S: Sink>(
         capacity,
         choice,
     };
-    Ok(write_text(&run, style, waiting, sink)?)
+    Ok(write_text::<Brand, _, _, _, _>(&run, style, waiting, sink)?)
 }
 
-/// Writes the text of a run in this style; the reading of later files pauses from `waiting` buffered bytes on.
-pub(crate) fn write_text<R: Threads + Wait + Sync, O: Opener, G: Gate, S: Sink>(
+/// Writes the text of a run in this style; the reading of later files pauses from `waiting` buffered bytes on. The type
+/// `J` represents what the files mean.
+pub(crate) fn write_text<
+    J: KnownFiles + Send + Sync,
+    R: Threads + Wait + Sync,
+    O: Opener,
+    G: Gate,
+    S: Sink,
+>(
     run: &Run<'_, R, O, G>,
     style: Style,
     waiting: usize,
-    sink: &mut S,
-) -> Result<u8, RunFault<SinkFault>>
-    requires stands { S.failed sink.old ≡ false }
-    requires few_files { run.now.files ≤ MAX_FILES }
-    requires some { 0 < run.now.lanes }
-    requires few { run.now.lanes ≤ LANES }
-    ensures written { IfOk result (IsAllWritten run.now.choice (O.meaning run.now.opener.now) style.form run.now.files (S.taken sink.old) (S.taken sink.new)) }
-    ensures begun { OnErr result ∥ IsBegun run.now.choice (O.meaning run.now.opener.now) style.form run.now.files (S.taken sink.old) (S.taken sink.new) ∥₁ }
-    ensures status { IfOk result (λ status. (status ≡ 0) ⊎ (status ≡ 3)) }
-    ensures stands { OnOk result (S.failed sink.new ≡ false) }
-    ensures failed { IfErr result (HasFailedBy (S.failed sink.new)) }
-{
-    let pace = Pace {
-        pauses: run.pauses,
-        most: waiting,
-    };
-    write_files::<Brand, _, _, _, _>(run, style, pace, sink)
-}
-
-/// Writes the text of a run in this style and at this pace. The type `J` represents what the files mean.
-fn write_files<J: KnownFiles + Send + Sync, R: Threads + Wait + Sync, O: Opener, G: Gate, S: Sink>(
-    run: &Run<'_, R, O, G>,
-    style: Style,
-    pace: Pace<'_>,
     sink: &mut S,
 ) -> Result<u8, RunFault<SinkFault>>
     requires stands { S.failed sink.old ≡ false }
@@ -126,10 +105,13 @@ fn write_files<J: KnownFiles + Send + Sync, R: Threads + Wait + Sync, O: Opener,
     ensures failed { IfErr result (HasFailedBy (S.failed sink.new)) }
 {
     let lines = Lines::new(run.alloc, style.form, run.choice, run.files)?;
+    let pace = Pace {
+        pauses: run.pauses,
+        most: waiting,
+    };
     let texts = Texts::new(run.alloc, sink, lines, pace);
-    let lanes = line_lanes::<J>(style);
     let mut ran = Ok(());
-    let texts = gather_into(run, &lanes, texts, &mut ran);
+    let texts = run_lanes(run, &line_lanes::<J>(style), texts, &mut ran);
     match ran {
         Ok(()) => match texts.finish() {
             Ok(status) => Ok(status),
@@ -147,29 +129,6 @@ fn let_go<S: Sink>(texts: Texts<'_, S, Lines>)
     ensures { texts.exit.0.now ≡ texts.entry.sink.now }
 {
     let Texts { .. } = texts;
-}
-
-/// Runs lanes of this kind, and stores the result in `ran`: returned beside it in a pair, the state of the sink that
-/// the consumer holds would not be known.
-fn gather_into<
-    L: LaneKind,
-    C: Consumer<L::Entry, L::End>,
-    R: Threads + Wait + Sync,
-    O: Opener,
-    G: Gate,
->(run: &Run<'_, R, O, G>, kind: &L, consumer: C, ran: &mut Result<(), RunFault<C::Refusal>>) -> C
-    requires few_files { run.now.files ≤ MAX_FILES }
-    requires some { 0 < run.now.lanes }
-    requires few { run.now.lanes ≤ LANES }
-    requires empty { C.holds consumer [] }
-    requires accepts { AcceptsFiles L.accepts L.ends (O.meaning run.now.opener.now) }
-    ensures told { OnOk ran.new ((ns : List Note) × C.holds result ns × AreToldWhole run.now.choice (O.meaning run.now.opener.now) run.now.files ns) }
-    ensures failed { IfErr ran.new (HoldsOnFault (C.gave_up result) (C.holds result)) }
-    ensures stays { C.stays consumer result }
-{
-    let (consumer, end) = run_lanes(run, kind, consumer);
-    *ran = end;
-    consumer
 }
 
 /// Writes the answers that a `layout` request asks for, the progress, and the lines about files; returns the exit status
@@ -215,7 +174,8 @@ pub(crate) fn layout<
     let named = NamedRun::new(rt, &asked.run, files, console)?;
     let opener = named.opener();
     let run = named.over(&opener);
-    let outcome = write_text(&run, asked.style, bytes_of(asked.waiting), out);
+    let waiting = bytes_of(asked.waiting);
+    let outcome = write_text::<Brand, _, _, _, _>(&run, asked.style, waiting, out);
     named.meter.finish();
     let status = outcome?;
     named.notes.write(rt.alloc(), named.names, err);

@@ -14,17 +14,17 @@ use Rattle.commands.proofs.Accepting.{accepts_known}
 use Rattle.commands.proofs.ReportBegun.{on_err}
 use Rattle.commands.specs.TextRuns.{HasFailedBy}
 use Rattle.commands.proofs.FaultStatus.{text_failed, lanes_failed}
-use Rattle.commands.proofs.layout.write_files.Goals as goal
+use Rattle.commands.proofs.layout.write_text.Goals as goal
 
 pub returns-in-Ok-finish-clause-written : goal.returns-in-Ok-finish-clause-written
 returns-in-Ok-finish-clause-written g c =
     let taken = g.S.Sink.taken in
     let meaning = g.O.Opener.meaning c.args.run.now.opener.now in
-    let texts = c.gather_into-texts.result in
-    let stays = c.gather_into-texts.ensures.stays in
+    let texts = c.run_lanes-texts.result in
+    let stays = c.run_lanes-texts.ensures.stays in
     let told = subst (λ r. OnOk r ((ns : List Note)
     × ((g.S.Sink.failed texts.sink.now ≡ false) × LinesHold g.J.KnownFiles.meaning (taken texts.start.value) (taken texts.sink.now) texts.lines ns)
-    × AreToldWhole c.args.run.now.choice meaning c.args.run.now.files ns)) c.in-Ok.is c.gather_into-texts.ensures.told in
+    × AreToldWhole c.args.run.now.choice meaning c.args.run.now.files ns)) c.in-Ok.is c.run_lanes-texts.ensures.told in
     let form : form_of texts.lines ≡ c.args.style.form = stays.2.form ∙ ap form_of c.new-texts.ensures.lines ∙ c.in_ok-lines.ensures.form in
     let files : files_of texts.lines ≡ c.args.run.now.files = stays.2.files ∙ ap files_of c.new-texts.ensures.lines ∙ c.in_ok-lines.ensures.files in
     let start : texts.start.value ≡ c.args.sink.now = sym stays.1 ∙ c.new-texts.ensures.start in
@@ -43,11 +43,11 @@ pub returns-in-Err-finish-clause-begun : goal.returns-in-Err-finish-clause-begun
 returns-in-Err-finish-clause-begun g c =
     let taken = g.S.Sink.taken in
     let meaning = g.O.Opener.meaning c.args.run.now.opener.now in
-    let texts = c.gather_into-texts.result in
-    let stays = c.gather_into-texts.ensures.stays in
+    let texts = c.run_lanes-texts.result in
+    let stays = c.run_lanes-texts.ensures.stays in
     let told = subst (λ r. OnOk r ((ns : List Note)
     × ((g.S.Sink.failed texts.sink.now ≡ false) × LinesHold g.J.KnownFiles.meaning (taken texts.start.value) (taken texts.sink.now) texts.lines ns)
-    × AreToldWhole c.args.run.now.choice meaning c.args.run.now.files ns)) c.in-Ok.is c.gather_into-texts.ensures.told in
+    × AreToldWhole c.args.run.now.choice meaning c.args.run.now.files ns)) c.in-Ok.is c.run_lanes-texts.ensures.told in
     let choice : choice_of texts.lines ≡ c.args.run.now.choice = stays.2.choice ∙ ap choice_of c.new-texts.ensures.lines ∙ c.in_ok-lines.ensures.choice in
     let form : form_of texts.lines ≡ c.args.style.form = stays.2.form ∙ ap form_of c.new-texts.ensures.lines ∙ c.in_ok-lines.ensures.form in
     let files : files_of texts.lines ≡ c.args.run.now.files = stays.2.files ∙ ap files_of c.new-texts.ensures.lines ∙ c.in_ok-lines.ensures.files in
@@ -61,12 +61,12 @@ returns-in-Err-finish-clause-begun g c =
 pub returns-in-Err-clause-begun : goal.returns-in-Err-clause-begun
 returns-in-Err-clause-begun g c =
     let taken = g.S.Sink.taken in
-    let texts = c.gather_into-texts.result in
-    let stays = c.gather_into-texts.ensures.stays in
+    let texts = c.run_lanes-texts.result in
+    let stays = c.run_lanes-texts.ensures.stays in
     let Left : Type 0 = (ns : List Note) × ArePartialLines g.J.KnownFiles.meaning (taken texts.start.value) (taken texts.sink.now) texts.lines ns in
     let gave_up : RunFault SinkFault → Type 0 = λ fault. GivesUp (g.S.Sink.failed texts.sink.now) fault × Left in
     let holds : List Note → Type 0 = λ ns. (g.S.Sink.failed texts.sink.now ≡ false) × LinesHold g.J.KnownFiles.meaning (taken texts.start.value) (taken texts.sink.now) texts.lines ns in
-    let failed = subst (λ r. IfErr r (HoldsOnFault gave_up holds)) c.in-Err.is c.gather_into-texts.ensures.failed in
+    let failed = subst (λ r. IfErr r (HoldsOnFault gave_up holds)) c.in-Err.is c.run_lanes-texts.ensures.failed in
     let choice : choice_of texts.lines ≡ c.args.run.now.choice = stays.2.choice ∙ ap choice_of c.new-texts.ensures.lines ∙ c.in_ok-lines.ensures.choice in
     let form : form_of texts.lines ≡ c.args.style.form = stays.2.form ∙ ap form_of c.new-texts.ensures.lines ∙ c.in_ok-lines.ensures.form in
     let files : files_of texts.lines ≡ c.args.run.now.files = stays.2.files ∙ ap files_of c.new-texts.ensures.lines ∙ c.in_ok-lines.ensures.files in
@@ -82,14 +82,14 @@ returns-in-Err-clause-begun g c =
 pub returns-in-Err-clause-failed : goal.returns-in-Err-clause-failed
 returns-in-Err-clause-failed g c =
     let taken = g.S.Sink.taken in
-    let texts = c.gather_into-texts.result in
+    let texts = c.run_lanes-texts.result in
     let fails = g.S.Sink.failed texts.sink.now in
     let Left : Type 0 = (ns : List Note) × ArePartialLines g.J.KnownFiles.meaning (taken texts.start.value) (taken texts.sink.now) texts.lines ns in
     let gave_up : RunFault SinkFault → Type 0 = λ fault. GivesUp fails fault × Left in
     let holds : List Note → Type 0 = λ ns. (fails ≡ false) × LinesHold g.J.KnownFiles.meaning (taken texts.start.value) (taken texts.sink.now) texts.lines ns in
-    let failed = subst (λ r. IfErr r (HoldsOnFault gave_up holds)) c.in-Err.is c.gather_into-texts.ensures.failed in
+    let failed = subst (λ r. IfErr r (HoldsOnFault gave_up holds)) c.in-Err.is c.run_lanes-texts.ensures.failed in
     let now : HasFailedBy fails c.in-Err.fault = ended_with gave_up holds c.in-Err.fault (λ gave. text_failed fails c.in-Err.fault gave.0) (λ of ns held. lanes_failed fails c.in-Err.fault of held.0) failed in
     subst (λ s. HasFailedBy (g.S.Sink.failed s) c.in-Err.fault) (search rules) now
 
-pub gather_into-texts-requires-clause-accepts : goal.gather_into-texts-requires-clause-accepts
-gather_into-texts-requires-clause-accepts g c κs within = accepts_known _ _ c.requires.same_meaning
+pub run_lanes-texts-requires-clause-accepts : goal.run_lanes-texts-requires-clause-accepts
+run_lanes-texts-requires-clause-accepts g c κs within = accepts_known _ _ c.requires.same_meaning

@@ -13,10 +13,10 @@ use Rattle.collector.proofs.CountedGraphs.{accepts_known, ended_with}
 use Rattle.collector.proofs.PicksFinishing.{begun_none}
 use Rattle.collector.proofs.PicksHeld.{left_off_here}
 use Rattle.collector.proofs.PickRuns.{begun_picks, text_failed, lanes_failed, told_failed}
-use Rattle.collector.proofs.picking.pick_known.Goals as goal
+use Rattle.collector.proofs.picking.pick_files.Goals as goal
 
-pub gather_into-texts-requires-clause-accepts : goal.gather_into-texts-requires-clause-accepts
-gather_into-texts-requires-clause-accepts g c κs within = accepts_known _ _ c.requires.same_meaning
+pub run_lanes-texts-requires-clause-accepts : goal.run_lanes-texts-requires-clause-accepts
+run_lanes-texts-requires-clause-accepts g c κs within = accepts_known _ _ c.requires.same_meaning
 
 pub returns-in_err-picks-clause-begun : goal.returns-in_err-picks-clause-begun
 returns-in_err-picks-clause-begun g c =
@@ -28,11 +28,11 @@ returns-in-Ok-clause-written g c =
     let taken = g.S.Sink.taken in
     let run = c.args.run.now in
     let meaning = g.O.Opener.meaning run.opener.now in
-    let texts = c.gather_into-texts.result in
-    let stays = c.gather_into-texts.ensures.stays in
+    let texts = c.run_lanes-texts.result in
+    let stays = c.run_lanes-texts.ensures.stays in
     let told = subst (λ r. OnOk r ((ns : List Note)
     × ((g.S.Sink.failed texts.sink.now ≡ false) × PicksHold g.J.KnownFiles.meaning (taken texts.start.value) (taken texts.sink.now) texts.lines ns)
-    × AreToldWhole run.choice meaning run.files ns)) c.in-Ok.is c.gather_into-texts.ensures.told in
+    × AreToldWhole run.choice meaning run.files ns)) c.in-Ok.is c.run_lanes-texts.ensures.told in
     let made = c.new-texts.ensures.lines in
     let selection : texts.lines.selection ≡ c.args.selection = stays.2.selection ∙ ap (λ p. p.selection) made ∙ c.in_ok-picks.ensures.selection in
     let files : files_of texts.lines ≡ run.files = stays.2.files ∙ ap files_of made ∙ c.in_ok-picks.ensures.files in
@@ -49,11 +49,11 @@ returns-in-Ok-clause-begun g c =
     let taken = g.S.Sink.taken in
     let run = c.args.run.now in
     let meaning = g.O.Opener.meaning run.opener.now in
-    let texts = c.gather_into-texts.result in
-    let stays = c.gather_into-texts.ensures.stays in
+    let texts = c.run_lanes-texts.result in
+    let stays = c.run_lanes-texts.ensures.stays in
     let told = subst (λ r. OnOk r ((ns : List Note)
     × ((g.S.Sink.failed texts.sink.now ≡ false) × PicksHold g.J.KnownFiles.meaning (taken texts.start.value) (taken texts.sink.now) texts.lines ns)
-    × AreToldWhole run.choice meaning run.files ns)) c.in-Ok.is c.gather_into-texts.ensures.told in
+    × AreToldWhole run.choice meaning run.files ns)) c.in-Ok.is c.run_lanes-texts.ensures.told in
     let made = c.new-texts.ensures.lines in
     let selection : texts.lines.selection ≡ c.args.selection = stays.2.selection ∙ ap (λ p. p.selection) made ∙ c.in_ok-picks.ensures.selection in
     let choice : texts.lines.choice ≡ run.choice = stays.2.choice ∙ ap (λ p. p.choice) made ∙ c.in_ok-picks.ensures.choice in
@@ -78,12 +78,12 @@ returns-in-Err-clause-begun g c =
     let taken = g.S.Sink.taken in
     let run = c.args.run.now in
     let meaning = g.O.Opener.meaning run.opener.now in
-    let texts = c.gather_into-texts.result in
-    let stays = c.gather_into-texts.ensures.stays in
+    let texts = c.run_lanes-texts.result in
+    let stays = c.run_lanes-texts.ensures.stays in
     let Left : Type 0 = PicksPartly g.J.KnownFiles.meaning (taken texts.start.value) (taken texts.sink.now) texts.lines in
     let gave_up : RunFault SinkFault → Type 0 = λ fault. GivesUp (g.S.Sink.failed texts.sink.now) fault × Left in
     let holds : List Note → Type 0 = λ ns. (g.S.Sink.failed texts.sink.now ≡ false) × PicksHold g.J.KnownFiles.meaning (taken texts.start.value) (taken texts.sink.now) texts.lines ns in
-    let failed = subst (λ r. IfErr r (HoldsOnFault gave_up holds)) c.in-Err.is c.gather_into-texts.ensures.failed in
+    let failed = subst (λ r. IfErr r (HoldsOnFault gave_up holds)) c.in-Err.is c.run_lanes-texts.ensures.failed in
     let made = c.new-texts.ensures.lines in
     let selection : texts.lines.selection ≡ c.args.selection = stays.2.selection ∙ ap (λ p. p.selection) made ∙ c.in_ok-picks.ensures.selection in
     let choice : texts.lines.choice ≡ run.choice = stays.2.choice ∙ ap (λ p. p.choice) made ∙ c.in_ok-picks.ensures.choice in
@@ -100,11 +100,11 @@ returns-in-Err-clause-begun g c =
 pub returns-in-Err-clause-failed : goal.returns-in-Err-clause-failed
 returns-in-Err-clause-failed g c =
     let taken = g.S.Sink.taken in
-    let texts = c.gather_into-texts.result in
+    let texts = c.run_lanes-texts.result in
     let fails = g.S.Sink.failed texts.sink.now in
     let Left : Type 0 = PicksPartly g.J.KnownFiles.meaning (taken texts.start.value) (taken texts.sink.now) texts.lines in
     let gave_up : RunFault SinkFault → Type 0 = λ fault. GivesUp fails fault × Left in
     let holds : List Note → Type 0 = λ ns. (fails ≡ false) × PicksHold g.J.KnownFiles.meaning (taken texts.start.value) (taken texts.sink.now) texts.lines ns in
-    let failed = subst (λ r. IfErr r (HoldsOnFault gave_up holds)) c.in-Err.is c.gather_into-texts.ensures.failed in
+    let failed = subst (λ r. IfErr r (HoldsOnFault gave_up holds)) c.in-Err.is c.run_lanes-texts.ensures.failed in
     let now : HasFailedBy fails c.in-Err.fault = ended_with gave_up holds c.in-Err.fault (λ gave. text_failed fails c.in-Err.fault gave.0) (λ of ns held. lanes_failed fails c.in-Err.fault of held.0) failed in
     subst (λ s. HasFailedBy (g.S.Sink.failed s) c.in-Err.fault) (search rules) now
