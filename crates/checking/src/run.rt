@@ -118,7 +118,7 @@ pub(crate) struct Checker<L> {
 }
 
 impl<L: Tap> Checker<L> {
-    /// A checker before the first line, without a verdict.
+    /// A checker that has read no line and judged no record yet. It allocates the buffers of the reader of lines.
     ///
     /// # Errors
     ///

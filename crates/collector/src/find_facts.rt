@@ -169,7 +169,7 @@ impl<J: KnownFiles> FoundFacts<J> {
     }
 }
 
-/// The lanes that find what is known of graphs. They draw nothing.
+/// The kind of lanes that find facts of graphs and draw nothing. No lane is started.
 pub(crate) fn fact_lanes<J: KnownFiles>() -> Answering<FindFacts<J>> {
     Answering {
         purpose: FindFacts {

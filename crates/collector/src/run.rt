@@ -88,7 +88,7 @@ pub fn run_plain<O: Opener>(
     }
 }
 
-/// The books of the first files.
+/// Reads the first `files` files on this thread, and answers their records; returns a book for each file.
 fn plain_books<O: Opener>(
     alloc: Global,
     opener: &O,

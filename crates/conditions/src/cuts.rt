@@ -110,7 +110,7 @@ fn lies_in_cut(plane: &Plane, given: &Given<'_>, faces: &[bool], vertex: u16) ->
     has_faces_in(plane, given, faces, vertex)
 }
 
-/// Whether the face of each angle of a vertex that is not given is marked.
+/// Whether all faces at a vertex are marked in which its angle is not given. It looks at all darts of the plane.
 fn has_faces_in(plane: &Plane, given: &Given<'_>, faces: &[bool], vertex: u16) -> bool
     ensures inside { result ≡ true → HasFacesIn plane.now given.now faces.now vertex }
     ensures outside { result ≡ false → HasFaceOut plane.now given.now faces.now vertex }

@@ -146,8 +146,10 @@ impl Graph {
         Graph::of(alloc, scratch, &lists)
     }
 
-    /// The graph of a wide record. The time is linear in its entries if no list has more than four or there are at most
-    /// 255 lists, and otherwise at most in proportion to the entries times the length of the longest list.
+    /// The graph of a wide record, which breaks none of rules 1 to 7.
+    ///
+    /// The time is linear in the record's entries if no list has more than four or there are at most 255 lists, and
+    /// otherwise at most in proportion to the entries times the length of the longest list.
     ///
     /// # Errors
     ///

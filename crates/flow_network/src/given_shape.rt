@@ -114,7 +114,7 @@ impl<'a> Given<'a> {
         }
     }
 
-    /// What stands at a dart in the list of turns.
+    /// The entry of this dart, not of its edge, in the list of turns; `None` after the end of the list.
     fn turns_in_list(&self, dart: u16) -> Option<i32>
         ensures value { result ≡ slice_index_or self.now.turns dart None }
         ensures few { nat_abs (lefts_given result) ≤ MAX_GIVEN_TURNS }

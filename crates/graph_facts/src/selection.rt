@@ -279,7 +279,7 @@ impl Selection {
     }
 }
 
-/// Whether a number meets a condition on it, if there is one.
+/// Whether a number meets a condition on it: true without a condition, otherwise false without a number.
 fn meets_range(condition: Option<Range>, number: Option<u32>) -> bool
     ensures { result ≡ meets_range condition number }
 {

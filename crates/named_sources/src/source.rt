@@ -289,7 +289,7 @@ pub struct OutputSink<W> {
 }
 
 impl<W: Write> OutputSink<W> {
-    /// A sink over this writer. The bytes taken are those that the writer already contains, and it has not failed.
+    /// A sink over this writer, which has not failed yet. What the writer contains already counts as taken.
     pub fn new(writer: W) -> OutputSink<W>
         ensures taken { ⟦<OutputSink<W> as Sink>⟧.taken result ≡ W.contents writer }
         ensures intact { ⟦<OutputSink<W> as Sink>⟧.failed result ≡ false }

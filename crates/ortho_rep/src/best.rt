@@ -232,8 +232,8 @@ fn tour(
     moving
 }
 
-/// The dart to look at after one, and the face across if it has not been seen yet. Then the edge
-/// becomes a door: both of its darts lead on to what comes after their reverse.
+/// Takes one step of the tour of all faces: returns the next dart, and the face across this one if it is new. Then the
+/// edge becomes a door: both of its darts lead on to what comes after their reverse.
 fn next_of_tour(plane: &Plane, dart: u16, walk: &mut Walk) -> (u16, Option<u16>)
     requires dart { dart < darts plane.now }
     requires walk { HasRoom plane.now walk.old }

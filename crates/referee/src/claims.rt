@@ -46,7 +46,7 @@ pub enum FalseClaim {
     Outer,
 }
 
-/// The first claim about the drawing with this shape that does not hold; `None` if all hold.
+/// The first claim, in the order of `FalseClaim`, that does not hold of this plane and shape; `None` if all hold.
 ///
 /// If prices are claimed and all claims hold, the drawing has the fewest bends that its outer face allows.
 pub fn false_claim(plane: &Plane, shape: &Shape, claims: &Claims) -> Option<FalseClaim>

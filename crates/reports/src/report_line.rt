@@ -188,7 +188,7 @@ impl ReportLine {
         }
     }
 
-    /// Appends the end of the line of a graph that has no drawing, with the word of its cause.
+    /// Appends ` drawn=no cause=WORD`, with the word of this cause.
     pub fn push_cause(&mut self, cause: Cause)
         requires { length self.old + DRAWN ≤ LONGEST }
         ensures text { self.new ≡ self.old ++ cause_text cause }

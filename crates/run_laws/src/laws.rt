@@ -103,7 +103,7 @@ pub fn record_limits()
     ensures bytes { (bytes : List ℕ) → IsRecord bytes → length bytes ≤ 65026 }
 {}
 
-/// A wide record has 1 to 1,200 lists, and at most 65,535 entries.
+/// A wide record has 1 to 1,200 lists, and at most 65,535 numbers, with its count and the zero after each list.
 pub fn wide_record_limits()
     ensures some { (entries : List ℕ) → IsWideRecord entries → 1 ≤ length (lists_of entries) }
     ensures vertices { (entries : List ℕ) → IsWideRecord entries → length (lists_of entries) ≤ 1200 }

@@ -127,7 +127,7 @@ fn set_ends(
     Ok(())
 }
 
-/// The segments on which the places lie where this one begins and ends; `None` if one of them is on none of this many.
+/// The two segments on which this one begins and ends; `None` if one of them is not among the first `count`.
 fn ends_of(segment: &Segment, of: &[u16], count: usize) -> Option<(u16, u16)>
     ensures { IfSome result (λ ends. (ends.0 < count) × (ends.1 < count)) }
 {

@@ -14,7 +14,7 @@ loop-preserved-in-Continue-branch-4 g c =
       stops = stops_more about _ _ _ _ c.in_ok-item.ensures.ok c.loop.invariant.stops;
       told = subst (g.C.Consumer.holds c.item.new.self)
           (sym (told_more about _ _ _ _ c.in_ok-item.ensures.ok
-              (ap (notes_of about) c.in_default-Item.is-1 ∙ ap (λ i. Item (about i) ∷ []) (sym c.in_default-Item.item-is))))
+          (ap (notes_of about) c.in_default-Item.is-1 ∙ ap (λ i. Item (about i) ∷ []) (sym c.in_default-Item.item-is))))
           (c.in_ok-item-in_default-Item.ensures.taken _ (c.in_ok-item.ensures.kept _ c.loop.invariant.told));
       stays = g.met.C.Consumer.stays_on _ _ _ (g.met.C.Consumer.stays_on _ _ _ c.loop.invariant.stays c.next_message.ensures.stays) c.item.ensures.stays;
     }
@@ -28,7 +28,7 @@ loop-preserved-in-Continue-branch-5 g c =
       stops = stops_more about _ _ _ _ c.in_ok-item.ensures.ok c.loop.invariant.stops;
       told = subst (g.C.Consumer.holds c.take_in.new.consumer)
           (sym (told_more about _ _ _ _ c.in_ok-item.ensures.ok
-              (ap (notes_of about) c.in_default-Items.is-1 ∙ ap (λ b. notes_of_items about b.items.items) (sym c.in_default-Items.batch-is))))
+          (ap (notes_of about) c.in_default-Items.is-1 ∙ ap (λ b. notes_of_items about b.items.items) (sym c.in_default-Items.batch-is))))
           (c.in_ok-take_in-in_default-Items.ensures.taken _ (c.in_ok-item.ensures.kept _ c.loop.invariant.told));
       stays = g.met.C.Consumer.stays_on _ _ _ (g.met.C.Consumer.stays_on _ _ _ c.loop.invariant.stays c.next_message.ensures.stays) c.take_in.ensures.stays;
     }
