@@ -14,6 +14,7 @@ use crate::find_facts::{Flaws, FoundFacts, add_flaw, fact_lanes, no_flaws, set_m
 use file_order::{KnownEnd, KnownFiles};
 use graph_facts::{Columns, Counts, Facts, Selection};
 use lanes::{Consumer, Gate, Opener, Run, RunFault, run_lanes};
+use std::marker::Brand;
 use std::sync::Wait;
 use std::thread::Threads;
 use streams::{Mark, SinkFault};
@@ -31,13 +32,29 @@ pub struct Counted {
 
 /// Counts the chosen graphs of the files of a run, in these columns.
 ///
-/// Memory grows with the number of different combinations alone. The type `J` represents what the files mean.
+/// Memory grows with the number of different combinations alone.
 ///
 /// # Errors
 ///
 /// `Memory`: no memory for links, the fan, tickets, buffers, lists of lanes or combinations. `LaneLost`: an end of a link
 /// or of the fan was gone, or a message came that no lane gives. `Thread`: a thread could not be started.
-pub fn count_files<J: KnownFiles + Send + Sync, R: Threads + Wait + Sync, O: Opener, G: Gate>(
+pub fn count_files<R: Threads + Wait + Sync, O: Opener, G: Gate>(
+    run: &Run<'_, R, O, G>,
+    selection: Selection,
+    columns: Columns,
+) -> Result<Counted, RunFault<SinkFault>>
+    requires few_files { run.now.files ≤ MAX_FILES }
+    requires some { 0 < run.now.lanes }
+    requires few { run.now.lanes ≤ LANES }
+    ensures counted { IfOk result (λ c. IsAllCounted selection columns run.now.choice (O.meaning run.now.opener.now) run.now.files
+        c.flaws.items c.counts) }
+    ensures failed { IfErr result IsOfLanes }
+{
+    count_known::<Brand, _, _, _>(run, selection, columns)
+}
+
+/// Counts the chosen graphs of the files of a run. The type `J` represents what the files mean.
+fn count_known<J: KnownFiles + Send + Sync, R: Threads + Wait + Sync, O: Opener, G: Gate>(
     run: &Run<'_, R, O, G>,
     selection: Selection,
     columns: Columns,
@@ -57,8 +74,9 @@ pub fn count_files<J: KnownFiles + Send + Sync, R: Threads + Wait + Sync, O: Ope
         counts,
         flaws,
     };
+    let lanes = fact_lanes::<J>();
     let mut ran = Ok(());
-    let counted = run_lanes(run, &fact_lanes::<J>(), counted, &mut ran);
+    let counted = run_lanes(run, &lanes, counted, &mut ran);
     match ran {
         Ok(()) => Ok(counted),
         Err(fault) => Err(fault),

@@ -22,6 +22,7 @@ use graph_facts::Selection;
 use lanes::{Consumer, Gate, Opener, Run, RunFault, run_lanes};
 use planar_code::HEADER;
 use std::alloc::{AllocError, Global};
+use std::marker::Brand;
 use std::sync::Wait;
 use std::thread::Threads;
 use streams::{Mark, Sink, SinkFault};
@@ -170,8 +171,7 @@ impl Picks {
 ///
 /// Each record is written as it is decided whether it is chosen: those of the first file that has not ended go to the
 /// sink, and those of later files are buffered. If the buffered records hold `waiting` bytes of memory or more, the
-/// reading of later files pauses until there is room again or they become first. The type `J` represents what the files
-/// mean.
+/// reading of later files pauses until there is room again or they become first.
 ///
 /// # Errors
 ///
@@ -179,16 +179,35 @@ impl Picks {
 /// lanes or buffered records. `LaneLost`: an end of a link or of the fan was gone, or a message came that no lane gives.
 /// `Thread`: a thread could not be started. In each case a prefix is written of what would be, if each file may end
 /// `memory`.
-pub fn pick_files<
-    J: KnownFiles + Send + Sync,
-    R: Threads + Wait + Sync,
-    O: Opener,
-    G: Gate,
-    S: Sink,
->(
+pub fn pick_files<R: Threads + Wait + Sync, O: Opener, G: Gate, S: Sink>(
     run: &Run<'_, R, O, G>,
     selection: Selection,
     waiting: usize,
+    sink: &mut S,
+) -> Result<Vec<Flaws>, RunFault<SinkFault>>
+    requires stands { S.failed sink.old ≡ false }
+    requires few_files { run.now.files ≤ MAX_FILES }
+    requires some { 0 < run.now.lanes }
+    requires few { run.now.lanes ≤ LANES }
+    ensures written { IfOk result (λ flaws. IsAllPicked selection run.now.choice (O.meaning run.now.opener.now) run.now.files
+        (S.taken sink.old) (S.taken sink.new) flaws.items) }
+    ensures begun { OnErr result ∥ IsPickBegun selection run.now.choice (O.meaning run.now.opener.now) run.now.files
+        (S.taken sink.old) (S.taken sink.new) ∥₁ }
+    ensures stands { OnOk result (S.failed sink.new ≡ false) }
+    ensures failed { IfErr result (HasFailedBy (S.failed sink.new)) }
+{
+    let pace = Pace {
+        pauses: run.pauses,
+        most: waiting,
+    };
+    pick_known::<Brand, _, _, _, _>(run, selection, pace, sink)
+}
+
+/// Writes the chosen records of a run at this pace. The type `J` represents what the files mean.
+fn pick_known<J: KnownFiles + Send + Sync, R: Threads + Wait + Sync, O: Opener, G: Gate, S: Sink>(
+    run: &Run<'_, R, O, G>,
+    selection: Selection,
+    pace: Pace<'_>,
     sink: &mut S,
 ) -> Result<Vec<Flaws>, RunFault<SinkFault>>
     requires stands { S.failed sink.old ≡ false }
@@ -204,13 +223,10 @@ pub fn pick_files<
     ensures failed { IfErr result (HasFailedBy (S.failed sink.new)) }
 {
     let picks = Picks::new(run.alloc, selection, run.choice, run.files)?;
-    let pace = Pace {
-        pauses: run.pauses,
-        most: waiting,
-    };
     let texts = Texts::new(run.alloc, sink, picks, pace);
+    let lanes = fact_lanes::<J>();
     let mut ran = Ok(());
-    let texts = run_lanes(run, &fact_lanes::<J>(), texts, &mut ran);
+    let texts = run_lanes(run, &lanes, texts, &mut ran);
     match ran {
         Ok(()) => texts.finish(),
         Err(fault) => {

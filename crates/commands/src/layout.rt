@@ -76,21 +76,38 @@ pub fn write_batch<'r, R: Threads + Wait + Sync, O: Opener, G: Gate, S: Sink>(
         capacity,
         choice,
     };
-    Ok(write_text::<Brand, _, _, _, _>(&run, style, waiting, sink)?)
+    Ok(write_text(&run, style, waiting, sink)?)
 }
 
-/// Writes the text of a run in this style; the reading of later files pauses from `waiting` buffered bytes on. The type
-/// `J` represents what the files mean.
-pub(crate) fn write_text<
-    J: KnownFiles + Send + Sync,
-    R: Threads + Wait + Sync,
-    O: Opener,
-    G: Gate,
-    S: Sink,
->(
+/// Writes the text of a run in this style; the reading of later files pauses from `waiting` buffered bytes on.
+pub(crate) fn write_text<R: Threads + Wait + Sync, O: Opener, G: Gate, S: Sink>(
     run: &Run<'_, R, O, G>,
     style: Style,
     waiting: usize,
+    sink: &mut S,
+) -> Result<u8, RunFault<SinkFault>>
+    requires stands { S.failed sink.old ≡ false }
+    requires few_files { run.now.files ≤ MAX_FILES }
+    requires some { 0 < run.now.lanes }
+    requires few { run.now.lanes ≤ LANES }
+    ensures written { IfOk result (IsAllWritten run.now.choice (O.meaning run.now.opener.now) style.form run.now.files (S.taken sink.old) (S.taken sink.new)) }
+    ensures begun { OnErr result ∥ IsBegun run.now.choice (O.meaning run.now.opener.now) style.form run.now.files (S.taken sink.old) (S.taken sink.new) ∥₁ }
+    ensures status { IfOk result (λ status. (status ≡ 0) ⊎ (status ≡ 3)) }
+    ensures stands { OnOk result (S.failed sink.new ≡ false) }
+    ensures failed { IfErr result (HasFailedBy (S.failed sink.new)) }
+{
+    let pace = Pace {
+        pauses: run.pauses,
+        most: waiting,
+    };
+    write_files::<Brand, _, _, _, _>(run, style, pace, sink)
+}
+
+/// Writes the text of a run in this style and at this pace. The type `J` represents what the files mean.
+fn write_files<J: KnownFiles + Send + Sync, R: Threads + Wait + Sync, O: Opener, G: Gate, S: Sink>(
+    run: &Run<'_, R, O, G>,
+    style: Style,
+    pace: Pace<'_>,
     sink: &mut S,
 ) -> Result<u8, RunFault<SinkFault>>
     requires stands { S.failed sink.old ≡ false }
@@ -105,13 +122,10 @@ pub(crate) fn write_text<
     ensures failed { IfErr result (HasFailedBy (S.failed sink.new)) }
 {
     let lines = Lines::new(run.alloc, style.form, run.choice, run.files)?;
-    let pace = Pace {
-        pauses: run.pauses,
-        most: waiting,
-    };
     let texts = Texts::new(run.alloc, sink, lines, pace);
+    let lanes = line_lanes::<J>(style);
     let mut ran = Ok(());
-    let texts = run_lanes(run, &line_lanes::<J>(style), texts, &mut ran);
+    let texts = run_lanes(run, &lanes, texts, &mut ran);
     match ran {
         Ok(()) => match texts.finish() {
             Ok(status) => Ok(status),
@@ -174,8 +188,7 @@ pub(crate) fn layout<
     let named = NamedRun::new(rt, &asked.run, files, console)?;
     let opener = named.opener();
     let run = named.over(&opener);
-    let waiting = bytes_of(asked.waiting);
-    let outcome = write_text::<Brand, _, _, _, _>(&run, asked.style, waiting, out);
+    let outcome = write_text(&run, asked.style, bytes_of(asked.waiting), out);
     named.meter.finish();
     let status = outcome?;
     named.notes.write(rt.alloc(), named.names, err);

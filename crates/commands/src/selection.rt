@@ -12,7 +12,6 @@ use command_line::{Console, CountRequest, Fault, PickRequest};
 use graph_facts::write_counts;
 use lanes::{Gate, Opener, Run};
 use named_sources::NamedFiles;
-use std::marker::Brand;
 use std::sync::Wait;
 use std::thread::Threads;
 use streams::Sink;
@@ -66,8 +65,7 @@ pub(crate) fn pick<
     let named = NamedRun::new(rt, &asked.run, files, console)?;
     let opener = named.opener();
     let run = named.over(&opener);
-    let waiting = bytes_of(asked.waiting);
-    let outcome = pick_files::<Brand, _, _, _, _>(&run, asked.selection, waiting, out);
+    let outcome = pick_files(&run, asked.selection, bytes_of(asked.waiting), out);
     named.meter.finish();
     let flaws = outcome?;
     let flaws = flaws.as_slice();
@@ -141,7 +139,7 @@ fn write_table<R: Threads + Wait + Sync, O: Opener, G: Gate, S: Sink>(
     ensures unwritten { OnErr result (S.failed out.new ≡ false → out.new ≡ out.old) }
     ensures asked_well { IfErr result (λ fault. ¬ IsMisuse fault) }
 {
-    let counted = count_files::<Brand, _, _, _>(run, asked.selection, asked.columns)?;
+    let counted = count_files(run, asked.selection, asked.columns)?;
     write_counts(&counted.counts, out)?;
     Ok(counted.flaws)
 }

@@ -13,7 +13,7 @@ use Rattle.collector.proofs.CountedGraphs.{accepts_known, ended_with}
 use Rattle.collector.proofs.PicksFinishing.{begun_none}
 use Rattle.collector.proofs.PicksHeld.{left_off_here}
 use Rattle.collector.proofs.PickRuns.{begun_picks, text_failed, lanes_failed, told_failed}
-use Rattle.collector.proofs.picking.pick_files.Goals as goal
+use Rattle.collector.proofs.picking.pick_known.Goals as goal
 
 pub run_lanes-texts-requires-clause-accepts : goal.run_lanes-texts-requires-clause-accepts
 run_lanes-texts-requires-clause-accepts g c κs within = accepts_known _ _ c.requires.same_meaning

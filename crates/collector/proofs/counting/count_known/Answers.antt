@@ -6,7 +6,7 @@ use Rattle.lanes.specs.declared.gathering.RunFault.{RunFault}
 use Rattle.streams.specs.declared.output.SinkFault.{SinkFault}
 use Rattle.collector.specs.CountsHeld.{CountsHold}
 use Rattle.collector.proofs.CountedGraphs.{accepts_known, all_counted, counts_none, ended_with}
-use Rattle.collector.proofs.counting.count_files.Goals as goal
+use Rattle.collector.proofs.counting.count_known.Goals as goal
 
 pub run_lanes-counted-requires-clause-empty : goal.run_lanes-counted-requires-clause-empty
 run_lanes-counted-requires-clause-empty g c κs within =

@@ -14,7 +14,7 @@ use Rattle.commands.proofs.Accepting.{accepts_known}
 use Rattle.commands.proofs.ReportBegun.{on_err}
 use Rattle.commands.specs.TextRuns.{HasFailedBy}
 use Rattle.commands.proofs.FaultStatus.{text_failed, lanes_failed}
-use Rattle.commands.proofs.layout.write_text.Goals as goal
+use Rattle.commands.proofs.layout.write_files.Goals as goal
 
 pub returns-in-Ok-finish-clause-written : goal.returns-in-Ok-finish-clause-written
 returns-in-Ok-finish-clause-written g c =
