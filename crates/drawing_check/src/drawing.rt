@@ -143,7 +143,8 @@ pub fn check_in(
     }
 }
 
-/// The first condition that fails, or that memory ran out. The directions of darts are in a short list if that is enough.
+/// The first condition that fails, or that memory ran out. The directions of darts are in a short list if that is
+/// enough, and the scratch is reused; `None` means that the points draw the shape.
 fn find_fault(
     alloc: Global,
     scratch: &mut Scratch,
@@ -165,8 +166,8 @@ fn find_fault(
     first_fault(alloc, scratch, plane, shape, points, &mut directions)
 }
 
-/// The first condition that fails, or that memory ran out, for a plane with more than `FEW_DARTS` darts. It is a
-/// function of its own, since a function pays at entry for the size of its lists.
+/// The first condition that fails, or `Memory`, for a plane with more than `FEW_DARTS` darts; `None` if the points draw
+/// the shape. It is a function of its own, since a function pays at entry for the size of its lists.
 #[inline(never)]
 fn fault_of_many(
     alloc: Global,
@@ -188,7 +189,8 @@ fn fault_of_many(
     first_fault(alloc, scratch, plane, shape, points, &mut directions)
 }
 
-/// The first condition that fails, or that memory ran out. Writes the directions of the darts over a list.
+/// The first condition that fails, or `Memory`; `None` if the points draw the shape. Reuses the scratch, and overwrites
+/// `directions` with the direction in which each dart leaves its tail.
 fn first_fault(
     alloc: Global,
     scratch: &mut Scratch,

@@ -18,8 +18,8 @@ use geometry::{Direction, Rectangle};
 use ortho_rep::{Point, Points, Shape, Turn};
 use std::alloc::AllocError;
 
-/// Lists the vertices as rectangles of one point, in place of what the list held. It also reserves room for this many
-/// edges, a rectangle for each.
+/// Replaces the contents of `rectangles` by a rectangle of one point for each vertex, and reserves room for `edges`
+/// more.
 pub(crate) fn list_vertices(
     rectangles: &mut Vec<Rectangle>,
     points: &Points,
@@ -52,7 +52,7 @@ pub(crate) fn add_route(
     add_last(rectangles, from, route.end)
 }
 
-/// Adds what the last part of a path covers without its end: nothing where it is one step.
+/// Appends the rectangle that covers the last part of a path without its two ends; nothing if the part is one step.
 pub(crate) fn add_last(
     rectangles: &mut Vec<Rectangle>,
     from: Point,
@@ -118,7 +118,7 @@ pub(crate) struct PathSeen {
     pub(crate) back: Direction,
 }
 
-/// Whether both hold. It is no branch.
+/// Whether both are true, computed without a branch.
 pub(crate) fn both(one: bool, other: bool) -> bool
     ensures { IsTrue result ↔ (IsTrue one × IsTrue other) }
 {
@@ -143,8 +143,8 @@ fn list_straight(rectangles: &mut Vec<Rectangle>, listed: bool, start: Point, en
     listed && add_last(rectangles, start, end).is_ok()
 }
 
-/// What is seen of a path; adds its rectangles, if those of all before it are listed. Most paths have no corner, and
-/// need no walk.
+/// The results of the tests of a path, and the directions in which it leaves its ends. Appends its rectangles to
+/// `rectangles`, if those of all paths before it are listed.
 pub(crate) fn examine_route(
     route: &Route<'_>,
     turns: &[Turn],
@@ -175,7 +175,8 @@ pub(crate) fn examine_route(
     }
 }
 
-/// What is seen of a path without corners; adds its rectangles, if those of all before it are listed.
+/// The results of the tests of a path without corners, and the directions in which it leaves its ends. Appends its
+/// rectangles to `rectangles`, if those of all paths before it are listed.
 fn examine_straight(
     route: &Route<'_>,
     turns: &[Turn],
@@ -216,9 +217,9 @@ pub(crate) struct EdgesSeen {
     pub(crate) listed: bool,
 }
 
-/// Walks over all edges once. All three tests are made of each edge, so that it is known which fails first; and the
-/// rectangles of all vertices and all paths are listed, as far as there is memory. The direction in which each dart
-/// leaves its tail is written over the list `directions`.
+/// Makes all three tests of each edge in one walk, and returns which hold everywhere, and whether memory sufficed.
+/// Replaces the contents of `rectangles` by those of all vertices and paths, and overwrites `directions` with the
+/// direction in which each dart leaves its tail.
 pub(crate) fn scan_edges(
     plane: &Plane,
     shape: &Shape,

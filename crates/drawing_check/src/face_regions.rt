@@ -59,7 +59,7 @@ fn westmost_face(plane: &Plane, points: &Points) -> u16
     }
 }
 
-/// The westmost upright part of all edges, the first one met if several lie furthest west.
+/// The westmost upright part of all edges, the first one met if several lie furthest west; `None` if all are level.
 fn westmost(plane: &Plane, points: &Points) -> Option<Upright>
     requires points { HasPoints plane.now points.now }
     ensures { result ≡ westmost_below plane.now points.now (darts plane.now) }
@@ -77,7 +77,8 @@ fn westmost(plane: &Plane, points: &Points) -> Option<Upright>
     west
 }
 
-/// The westmost of a part and those of the edge with this number, whose lesser dart and its reverse are given.
+/// The westmost of `west` and the upright parts of an edge, given by its lesser dart, that dart's reverse and its
+/// number; `None` if there is none.
 fn with_edge(
     west: Option<Upright>,
     plane: &Plane,
@@ -103,7 +104,7 @@ fn with_edge(
     with_path(west, &route, &sides)
 }
 
-/// The westmost of a part and those of a path.
+/// The westmost of `west` and the upright parts of a path between the faces `sides`; `None` if there is none.
 fn with_path(west: Option<Upright>, route: &Route<'_>, sides: &Sides) -> Option<Upright>
     ensures { result ≡ with_path sides.now.left sides.now.right west (path_of route.now) }
 {
@@ -116,7 +117,7 @@ fn with_path(west: Option<Upright>, route: &Route<'_>, sides: &Sides) -> Option<
     with_part(so_far, from, route.end, sides)
 }
 
-/// The westmost of a part and that from one point to another, if it is upright.
+/// The westmost of `west` and the part from one point to another, if that is upright, and otherwise `west`.
 fn with_part(west: Option<Upright>, from: Point, to: Point, sides: &Sides) -> Option<Upright>
     ensures { result ≡ with_part sides.now.left sides.now.right west from to }
 {
@@ -131,7 +132,7 @@ fn with_part(west: Option<Upright>, from: Point, to: Point, sides: &Sides) -> Op
     further_west(west, Upright { line: from.x, face })
 }
 
-/// The one further west of two parts, the first of them if both lie on one line.
+/// The part that lies further west, `west` if both lie on one line, and `part` if `west` is `None`.
 fn further_west(west: Option<Upright>, part: Upright) -> Option<Upright>
     ensures { result ≡ further_west west part }
 {
@@ -162,7 +163,8 @@ fn further_west(west: Option<Upright>, part: Upright) -> Option<Upright>
 // West of all edges the level is 1 for the outer face alone, so it is right at the first dart in a row from the west,
 // just where that dart has the outer face on the west.
 
-/// The regions of a drawing of a shape are its faces if and only if a certain dart has the outer face on its left.
+/// Theorem: the regions of a drawing of a shape are its faces if and only if a certain dart has the outer face on its
+/// left.
 ///
 /// It is any dart that goes north with no dart to the west of it in some row that it crosses. If all parts of
 /// edges are level, it is any dart at all.

@@ -15,7 +15,7 @@ use faces::Plane;
 use geometry::Direction;
 use ortho_rep::{MAX_COORDINATE, Point, Points, Shape, Turn};
 
-/// How many steps lead from one point to another, along both axes.
+/// The Manhattan distance between two points: how many steps lead from one to the other, along both axes.
 pub fn distance(from: Point, to: Point) -> u64
     ensures { result ≡ distance from to }
 {
@@ -31,7 +31,7 @@ pub struct Route<'a> {
 }
 
 impl Route<'_> {
-    /// Point k of the path.
+    /// Point k of the path: its start for 0, then its corners, and then its end.
     #[inline]
     pub fn point_at(&self, k: usize) -> Point
         requires { k < length (path_of self.now) }
@@ -100,8 +100,8 @@ pub(crate) fn all_in_grid(points: &[Point]) -> bool
         .all(|p| p.x <= MAX_COORDINATE && p.y <= MAX_COORDINATE)
 }
 
-/// Whether each corner is the shape's, as a walk over the edges has found, and each angle, if the darts leave their
-/// tails in these directions.
+/// Whether all corners are the shape's, as `seen` says, and all angles, if the darts leave their tails in these
+/// directions.
 pub(crate) fn turn_as_said(
     plane: &Plane,
     shape: &Shape,
@@ -152,8 +152,8 @@ fn heads_turn(plane: &Plane, shape: &Shape, directions: &[Direction]) -> bool
     true
 }
 
-/// Where `to` lies from `from`, if the two differ in one coordinate. Both answers are made before one is taken, so
-/// that no branch hangs on a direction, which cannot be foreseen.
+/// The direction in which `to` lies from `from`, if the two differ in exactly one coordinate. Both candidates are
+/// computed before one is selected, since a branch on a direction cannot be predicted.
 #[inline]
 pub fn direction_from(from: Point, to: Point) -> Direction
     ensures { result ≡ direction_between from to }

@@ -27,7 +27,7 @@ impl Pairs {
         Pairs { words: [0; 1024] }
     }
 
-    /// Adds a pair.
+    /// Adds the ordered pair (`first`, `second`) of numbers below 256.
     pub(crate) fn insert(&mut self, first: u16, second: u16)
         requires first { first < 256 }
         requires second { second < 256 }
@@ -53,7 +53,7 @@ impl Pairs {
 /// The maximum number of vertices of a small graph: a `u64` has a bit for each, and two more.
 const FEW: u16 = 62;
 
-/// Whether an entry may be that of another vertex, of n.
+/// Whether `entry` is at most `n` and is not `vertex`.
 fn is_other(entry: u16, vertex: u16, n: u16) -> bool
     ensures { IsTrue result → (entry ≤ n) × (entry ≢ vertex) }
 {
@@ -85,8 +85,8 @@ fn row_of(list: &[u16], vertex: u16, n: u16, columns: &mut [u64; 64]) -> Option<
     Some(row)
 }
 
-/// Makes the row of each vertex, and its column: a bit for each vertex whose list names it. False where a list has no
-/// row.
+/// Sets the row of each vertex to its list's entries, as bits, and adds the vertex's bit to the columns of these
+/// entries. False, with both arrays partly filled, if `row_of` returns `None` for some list.
 fn fill_rows(rows: &mut [u64; 64], columns: &mut [u64; 64], lists: &Lists<'_>) -> bool
     requires empty { (u v : ℕ) → ¬ HasBit (slice_index rows.old u) v }
     requires few { length lists.now ≤ FEW }
@@ -126,7 +126,7 @@ fn reaches_all(rows: &[u64; 64], n: u16) -> bool
     reached == (1u64 << (n + 1)) - 2
 }
 
-/// Whether the lists are those of a small graph that keeps the first seven rules. False says nothing.
+/// True only if there are at most 62 lists and they keep rules 1 to 7. False says nothing.
 pub(crate) fn is_small_graph(lists: &Lists<'_>) -> bool
     ensures { IsTrue result → KeepsBefore lists.now 8 }
 {
@@ -149,7 +149,7 @@ struct ReachedVertices {
     found: usize,
 }
 
-/// Flags a vertex as reached.
+/// Flags a vertex as reached and appends it to the queue, unless it is flagged already.
 fn reach(vertices: &mut ReachedVertices, vertex: u16)
     requires small { vertex < VERTEX_NUMBERS }
     requires queue { IsQueue vertices.old.reached vertices.old.queue vertices.old.found }
@@ -169,7 +169,7 @@ fn reach(vertices: &mut ReachedVertices, vertex: u16)
     }
 }
 
-/// Flags each entry of a list as reached.
+/// Flags each vertex of a list as reached and appends it to the queue, unless it is flagged already.
 fn reach_all(vertices: &mut ReachedVertices, list: &[u16])
     requires small { All (λ v. v < VERTEX_NUMBERS) list.now }
     requires queue { IsQueue vertices.old.reached vertices.old.queue vertices.old.found }
@@ -187,7 +187,8 @@ fn reach_all(vertices: &mut ReachedVertices, list: &[u16])
     }
 }
 
-/// The vertices that are reached from vertex 1 along the lists, each list read once.
+/// A flag for each vertex number: whether that vertex is reached from vertex 1 along the lists. Each list is read at
+/// most once.
 fn reached_from_first(lists: &Lists<'_>) -> [bool; VERTEX_NUMBERS]
     requires { ¬ Breaks lists.now Rule.Range }
     ensures { IsReached lists.now result }

@@ -90,8 +90,8 @@ fn holds(list: &[u16], vertex: u16) -> bool
     list.iter().any(|v| *v == vertex)
 }
 
-/// Whether the list names a neighbour twice. `last` has for each number the last list that named
-/// it, and no list has named one for this vertex yet.
+/// Whether the list of `vertex` names a neighbour twice. `last` has for each number the last vertex before this one
+/// whose list named it, or 0, and is updated.
 fn names_twice(list: &[u16], vertex: u16, last: &mut [u16; VERTEX_NUMBERS]) -> bool
     requires small { All (λ v. v < VERTEX_NUMBERS) list.now }
     requires unnamed { (v : ℕ) → v < VERTEX_NUMBERS → slice_index last.old v < vertex }
@@ -120,7 +120,7 @@ fn add_pairs(pairs: &mut Pairs, vertex: u16, list: &[u16])
     }
 }
 
-/// Whether some entry of the vertex's list lacks the pair the other way.
+/// Whether `pairs` lacks, for some entry of the vertex's list, the ordered pair of that entry and the vertex.
 fn lacks_pair(pairs: &Pairs, vertex: u16, list: &[u16]) -> bool
     requires vertex { vertex < 256 }
     requires small { All (λ v. v < 256) list.now }
@@ -168,7 +168,8 @@ fn breaks_multi(lists: &Lists<'_>) -> bool
     false
 }
 
-/// Whether some entry lacks its pair the other way (rule 4), for up to 255 lists, by a bit for each pair of vertices.
+/// Whether some list names a vertex whose list does not name it in turn (rule 4), for up to 255 lists, by a bit for
+/// each pair of vertices.
 fn lacks_any_pair(lists: &Lists<'_>) -> bool
     requires few { length lists.now < 256 }
     requires range { ¬ Breaks lists.now Rule.Range }
@@ -197,7 +198,8 @@ fn lacks_return(lists: &Lists<'_>, vertex: u16) -> bool
         .any(|v| !holds(lists.of_vertex(*v), vertex))
 }
 
-/// Whether some entry has a list that does not name its vertex (rule 4), by a search in the list of each entry.
+/// Whether some list names a vertex whose list does not name it in turn (rule 4), by a search of that list for each
+/// entry.
 fn lacks_any_return(lists: &Lists<'_>) -> bool
     ensures { IsTrue result ↔ Breaks lists.now Rule.Asymmetric }
 {
@@ -245,7 +247,7 @@ fn breaks_degree(lists: &Lists<'_>) -> bool
     false
 }
 
-/// The first of rules 1 to 7 that the lists break, found by a test of each.
+/// The first of rules 1 to 7 that the lists break, found by a test of each; `None` if they break none.
 #[inline(never)]
 fn first_broken_of_all(lists: &Lists<'_>) -> Option<Rule>
     ensures { MatchOption result (KeepsBefore lists.now 8)
@@ -270,8 +272,8 @@ fn first_broken_of_all(lists: &Lists<'_>) -> Option<Rule>
     }
 }
 
-/// The first of rules 1 to 7 that the lists break. The tests take time in proportion to the entries, whatever they are,
-/// except of more than 255 lists, of which some have more than four entries.
+/// The first of rules 1 to 7 that the lists break; `None` if they break none. The time is linear in the entries, unless
+/// there are more than 255 lists and some have more than four entries.
 pub(crate) fn first_broken(lists: &Lists<'_>) -> Option<Rule>
     ensures { MatchOption result (KeepsBefore lists.now 8)
         (λ rule. FirstBroken lists.now rule × (rule_number rule < 8)) }

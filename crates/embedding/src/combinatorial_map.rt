@@ -25,8 +25,8 @@ fn reverse_between(lists: &Lists<'_>, tail: u16, head: u16) -> u16
     lists.first_dart(head - 1) + lists.place_in(head - 1, tail)
 }
 
-/// The dart after the one whose number is `next` less one, in a list whose first dart is `first` and whose darts end
-/// before `end`.
+/// The dart that follows dart `next` - 1 around its tail, whose darts are `first` to `end` - 1: `next`, or `first`
+/// after the last of them.
 fn after_in(next: u16, first: u16, end: u16) -> u16
     ensures inside { next < end → result ≡ next }
     ensures last { end ≤ next → result ≡ first }
@@ -34,7 +34,8 @@ fn after_in(next: u16, first: u16, end: u16) -> u16
     if next < end { next } else { first }
 }
 
-/// Adds the heads of the darts of the list at a place.
+/// Appends the heads of the darts of the list at a place to `heads`, which must have room for them. It allocates
+/// nothing.
 pub(crate) fn add_heads(heads: &mut Vec<u16>, lists: &Lists<'_>, place: u16)
     requires within { place < length lists.now }
     requires heads { IsTable (first_dart lists.now place) (head_of lists.now) heads.old.items }
@@ -48,8 +49,8 @@ pub(crate) fn add_heads(heads: &mut Vec<u16>, lists: &Lists<'_>, place: u16)
     }
 }
 
-/// Writes the rotation of the darts of the list at a place. Each list has at most four entries, so to search one for a
-/// reverse takes constant time.
+/// Writes for each dart of the list at a place its reverse and the dart after it into `rotation`, from twice the dart's
+/// number on. Each list has at most four entries, so to search one for a reverse takes constant time.
 fn write_list_rotation(rotation: &mut [u16], lists: &Lists<'_>, place: u16)
     requires rules { KeepsBefore lists.now 8 }
     requires within { place < length lists.now }
@@ -71,8 +72,8 @@ fn write_list_rotation(rotation: &mut [u16], lists: &Lists<'_>, place: u16)
     }
 }
 
-/// Writes the rotation of all darts: of each its reverse, and the dart after it, which is the next one, but of the last
-/// dart of a list its first one.
+/// Overwrites `rotation` with two numbers for each dart: its reverse, and the dart after it, which is the next one of
+/// its list or, after the last one, the first.
 pub(crate) fn write_rotation(rotation: &mut [u16], lists: &Lists<'_>)
     requires rules { KeepsBefore lists.now 8 }
     requires size { length rotation.old ≡ 2 * dart_count lists.now }
@@ -83,7 +84,7 @@ pub(crate) fn write_rotation(rotation: &mut [u16], lists: &Lists<'_>)
     }
 }
 
-/// Makes a table the rotation of all darts.
+/// Replaces the contents of `table` by two numbers for each dart: its reverse, and the dart after it.
 pub(crate) fn make_rotation(table: &mut Vec<u16>, lists: &Lists<'_>) -> Result<(), AllocError>
     requires rules { KeepsBefore lists.now 8 }
     ensures { OnOk result (IsRotation lists.now (dart_count lists.now) table.new.items) }

@@ -43,8 +43,8 @@ fn walk_face(rotation: &[u16], faces: &mut [u16], start: u16, face: u16)
     }
 }
 
-/// Numbers the faces from 0 in the order of their least darts, gives each dart its face, and says how
-/// many faces there are. Each dart is walked over once.
+/// Numbers the faces from 0 in the order of their least darts, writes the face of each dart into `faces`, which must be
+/// all `UNSET`, and returns the number of faces. Each dart is walked over once.
 fn number_faces(rotation: &[u16], faces: &mut [u16]) -> u16
     requires tied { AreRotations (length faces.old) rotation.now }
     requires few { length faces.old ≤ MAX_DARTS }
@@ -62,7 +62,7 @@ fn number_faces(rotation: &[u16], faces: &mut [u16]) -> u16
     count
 }
 
-/// Counts how many darts each face has.
+/// Counts into `degrees`, which must be all 0, how many darts each face has.
 fn count_degrees(faces: &[u16], degrees: &mut [u16])
     requires few { length faces.now ≤ MAX_DARTS }
     requires named { (d : ℕ) → d < length faces.now → slice_index faces.now d < length degrees.old }
@@ -76,7 +76,8 @@ fn count_degrees(faces: &[u16], degrees: &mut [u16])
     }
 }
 
-/// Numbers the faces in the part of the table after the rotation of this many darts; returns how many there are.
+/// Numbers the faces, writes the face of each dart into the end of the table, after the rotation of `darts` darts, and
+/// returns the number of faces. That end must be all `UNSET`.
 fn number_behind(table: &mut [u16], darts: usize) -> u16
     requires tied { AreRotations darts (take (2 * darts) table.old) }
     requires few { darts ≤ MAX_DARTS }
@@ -91,7 +92,8 @@ fn number_behind(table: &mut [u16], darts: usize) -> u16
     number_faces(rotation, faces)
 }
 
-/// Counts the degrees of the faces in the part of the table after the faces of this many darts.
+/// Counts the darts of each face into the end of the table, after the rotation and the faces of `darts` darts. That end
+/// must be all 0.
 fn count_behind(table: &mut [u16], darts: usize)
     requires few { darts ≤ MAX_DARTS }
     requires size { 3 * darts ≤ length table.old }
@@ -107,8 +109,8 @@ fn count_behind(table: &mut [u16], darts: usize)
     count_degrees(&front[2 * darts..], degrees);
 }
 
-/// Appends the face of each dart and the degree of each face after the rotation of this many darts; returns the number
-/// of faces. They are numbered where they stand.
+/// Appends the face of each dart and the degree of each face to a table that has the rotation of `darts` darts; returns
+/// the number of faces.
 pub(crate) fn add_faces(table: &mut Vec<u16>, darts: usize) -> Result<u16, AllocError>
     requires tied { AreRotations darts table.old.items }
     requires few { darts ≤ MAX_DARTS }
@@ -121,7 +123,7 @@ pub(crate) fn add_faces(table: &mut Vec<u16>, darts: usize) -> Result<u16, Alloc
     Ok(count)
 }
 
-/// The number of faces of a rotation of this many darts. It allocates nothing.
+/// The number of faces of a rotation of `darts` darts. It allocates nothing.
 pub(crate) fn count_faces(rotation: &[u16], darts: usize) -> u16
     requires tied { AreRotations darts rotation.now }
     requires few { darts ≤ MAX_DARTS }
@@ -166,8 +168,8 @@ fn broken_by_lists(lists: &Lists<'_>) -> Option<Rule>
     }
 }
 
-/// The first rule that a record breaks, whose entries have room in an array of this length, and the starts of its lists
-/// in one of that.
+/// The first of the eight rules that a record breaks, or `None` if it breaks none. Arrays of `ENTRIES` and `STARTS`
+/// numbers must have room for its entries and for the starts of its lists.
 #[inline(never)]
 fn broken_within<const ENTRIES: usize, const STARTS: usize>(rec: &Record) -> Option<Rule>
     requires fits_entries { ENTRIES < MAX_ENTRIES }

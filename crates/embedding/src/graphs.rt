@@ -81,7 +81,7 @@ impl Model for Graph {
 }
 
 impl Graph {
-    /// The graph of a record. The time is linear in the record's bytes.
+    /// The graph of a record, if it breaks none of rules 1 to 7. The time is linear in the record's bytes.
     ///
     /// # Errors
     ///
@@ -122,8 +122,8 @@ impl Graph {
         }
     }
 
-    /// The graph of a record, whose entries have room in an array of this length, and the starts of its lists in one of
-    /// that.
+    /// The graph of a record, as [`Graph::read_in`]. Arrays of `ENTRIES` and `STARTS` numbers must have room for its
+    /// entries and for the starts of its lists.
     #[inline(never)]
     fn read_within<const ENTRIES: usize, const STARTS: usize>(
         alloc: Global,
@@ -186,7 +186,8 @@ impl Graph {
         }
     }
 
-    /// The graph of a wide record, the starts of whose lists have room in an array of this length.
+    /// The graph of a wide record, as [`Graph::read_wide_in`]. An array of `STARTS` numbers must have room for the
+    /// starts of its lists.
     #[inline(never)]
     fn read_wide_within<const STARTS: usize>(
         alloc: Global,
@@ -206,7 +207,8 @@ impl Graph {
         Graph::of(alloc, scratch, &lists)
     }
 
-    /// The graph of lists, in the buffers of the scratch if these are large enough. The room is just what a plane needs.
+    /// The graph of lists, or the first of rules 1 to 7 that they break. Unless one is broken, it takes both buffers
+    /// out of the scratch, and enlarges each that is too small, to just what a plane needs.
     fn of(alloc: Global, scratch: &mut Scratch, lists: &Lists<'_>) -> Result<Graph, ReadFault>
         requires { length lists.now ≤ MAX_VERTICES }
         ensures lists { IfOk result (λ graph. graph ≡ lists.now) }

@@ -37,7 +37,8 @@ impl<'a> Model for Lists<'a> {
 }
 
 impl<'a> Lists<'a> {
-    /// The lists that the entries hold, where the starts say where each begins.
+    /// The `count` lists that `entries` holds, each ended by a 0; `starts` says where each begins and where the last
+    /// one ends. Nothing is copied.
     pub(crate) fn new(entries: &'a [u16], starts: &'a [u16], count: u16) -> Lists<'a>
         requires { HoldsLists entries.now starts.now count }
         ensures { result ≡ lists_in entries.now }
@@ -79,7 +80,8 @@ impl<'a> Lists<'a> {
         &self.entries[from..to - 1]
     }
 
-    /// The first three entries from where the list at a place begins. Past the last entry of all it is that entry again.
+    /// The first three numbers from where the list at a place begins, also if it is shorter; it must not be empty. If
+    /// only two numbers are left, the second one is returned twice.
     fn three_at(&self, place: u16) -> [u16; 3]
         requires within { place < length self.now }
         requires some { 0 < length (slice_index_or self.now place []) }
@@ -95,8 +97,8 @@ impl<'a> Lists<'a> {
         ]
     }
 
-    /// The place of a vertex in the short list at a place, which contains it. No branch depends on it, and the end
-    /// of the list is not looked for: what follows the list comes after the vertex.
+    /// The index, 0 to 3, of a vertex in the list at a place, which must contain it and have at most four entries. No
+    /// branch depends on it, and the end of the list is not looked for: what follows the list comes after the vertex.
     pub(crate) fn place_in(&self, place: u16, vertex: u16) -> u16
         requires within { place < length self.now }
         requires held { Contains (slice_index_or self.now place []) vertex }
@@ -157,7 +159,7 @@ pub(crate) const RECORD_STARTS: usize = 256;
 /// Room for where each list of any wide record begins, and where the last one ends.
 pub(crate) const WIDE_STARTS: usize = MAX_VERTICES + 1;
 
-/// How many entries the lists of a record are written in, with the 0 that ends each.
+/// The number of entries of a record's lists, with the 0 that ends each: all its bytes but the first.
 pub(crate) fn entry_count(rec: &Record) -> usize
     ensures size { result + 1 ≡ length rec.now }
     ensures few { result ≤ RECORD_ENTRIES }

@@ -40,7 +40,7 @@ impl Model for WideRecord {
     ghost invariant = { λ r. IsWideRecord r.entries.items };
 }
 
-/// Whether the entries are exactly this many lists, each ended by a 0.
+/// Whether the entries are exactly `count` lists, each ended by a 0.
 fn are_lists(entries: &[u16], count: u16) -> bool
     ensures { IsTrue result ↔ AreLists entries.now count }
 {
@@ -72,7 +72,8 @@ fn is_wide_record(entries: &[u16]) -> bool
 }
 
 impl WideRecord {
-    /// The record that the entries are; it takes their buffer.
+    /// Checks that the entries are one wide record, and returns it in their buffer; if they are not, the buffer is
+    /// dropped.
     ///
     /// The time is linear in their number, and it allocates nothing.
     ///
@@ -118,17 +119,17 @@ impl WideRecord {
     }
 }
 
-/// The bytes of a record are the entries of a wide record.
+/// Theorem: the bytes of a record are the entries of a wide record.
 pub fn record_is_wide()
     ensures { (bytes : List ℕ) → IsRecord bytes → IsWideRecord bytes }
 {}
 
-/// A wide record's lists are those that its entries encode.
+/// Theorem: a wide record's lists are those that its entries encode.
 pub fn wide_record_lists()
     ensures { (entries : List ℕ) (r : IsWideRecord entries) → lists_of entries ≡ r.lists }
 {}
 
-/// At most one fault fits given entries; entries that are one wide record have none.
+/// Theorem: at most one fault fits given entries; entries that are one wide record have none.
 pub fn one_wide_fault()
     ensures one { (entries : List ℕ) (fault other : WideFault)
         → IsWideFault entries fault

@@ -107,10 +107,10 @@ impl Plane {
         Plane::trace_in(alloc, &mut scratch, graph)
     }
 
-    /// The plane of a graph, with the face of most darts as its outer face, exactly as [`Plane::trace`].
+    /// The plane of a graph, with the face of most darts as its outer face, exactly as [`Plane::trace`]. The scratch is
+    /// neither read nor changed.
     ///
-    /// It takes nothing from the scratch; the plane's lists, which are those of its graph, can be returned to it by
-    /// [`Plane::give_back`].
+    /// The plane's lists, which are those of its graph, can be returned to the scratch by [`Plane::give_back`].
     ///
     /// # Errors
     ///

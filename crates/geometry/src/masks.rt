@@ -61,8 +61,8 @@ fn mask_of(left: u32, right: u32) -> u64
     (1u64 << (right + 1)) - (1u64 << left)
 }
 
-/// Adds the bits of the mask to each of these rows; false if a row already has one of these bits. Both are done in one
-/// pass, since the end of a loop over few rows is hard to predict.
+/// Adds the bits of the mask to each row in turn; stops and returns false at a row that already has one of these bits.
+/// Both are done in one pass, since the end of a loop over few rows is hard to predict.
 fn add_mask(rows: &mut [u64], mask: u64) -> bool
     ensures free { OnTrue result (EachIndex rows.old (λ y. bit_and (slice_index rows.old y) mask ≡ 0)) }
     ensures met { OnFalse result (SomeIndex rows.old (λ y. bit_and (slice_index rows.old y) mask ≢ 0)) }

@@ -33,10 +33,10 @@ const TABLE_ROWS: usize = 8;
 // was measured to be faster from some 350 on.
 const ALL_ROWS: usize = 128;
 
-/// Whether no two of the rectangles have a point in common.
+/// Whether no two of the rectangles have a point in common. It may reorder `rectangles`, and reuses the buffer of
+/// `table`.
 ///
-/// It may reorder `rectangles`, and reuses the buffer of `table`. Takes O(n log n) time for n rectangles, however many
-/// points they contain.
+/// It takes O(n log n) time for n rectangles, however many points they contain.
 ///
 /// # Errors
 ///
@@ -58,7 +58,8 @@ pub fn all_apart_in(
     }
 }
 
-/// Whether no two of the rectangles, sorted by their left columns, have a point in common.
+/// Whether no two of the rectangles, sorted by their left columns, have a point in common. Reuses `table` or, if they
+/// have too many rows, allocates a dictionary.
 fn sweep(alloc: Global, rectangles: &[Rectangle], table: &mut Vec<u64>) -> Result<bool, AllocError>
     requires filled { All IsNonempty rectangles.now }
     requires ordered { IsNonDecreasingBy (λ r. r.left) rectangles.now }
@@ -88,10 +89,11 @@ fn table_height(rectangles: &[Rectangle]) -> Option<usize>
     Some(height)
 }
 
-/// A number of rows, less than twice as many as needed, that covers all rows of the rectangles, if all of them lie in
-/// the columns that have bits; `None` otherwise or if it is too great. Numbers are gathered by `or`, in which no step is
-/// a branch. The rows of all rectangles together need no count here: those that are flagged are disjoint, so at most
-/// `COLUMNS` of them share a row.
+/// The number of rows of a table of bits that has room for all rectangles, less than twice as many as needed. `None` if
+/// some rectangle goes beyond the columns that have bits, 0 to 62, or the rows are too many.
+///
+/// Numbers are gathered by `or`, in which no step is a branch. The rows of all rectangles together need no count here:
+/// those that are flagged are disjoint, so at most `COLUMNS` of them share a row.
 fn narrow_height(rectangles: &[Rectangle]) -> Option<usize>
     ensures narrow { IfSome result (λ _. All (λ r. r.right < COLUMNS) rectangles.now) }
     ensures low { IfSome result (λ height. All (λ r. r.top < height) rectangles.now) }
@@ -109,7 +111,7 @@ fn narrow_height(rectangles: &[Rectangle]) -> Option<usize>
     Some(height)
 }
 
-/// Whether all rectangles, none of which goes beyond column `right`, lie in the columns that have bits.
+/// Whether all rectangles lie in columns 0 to 62, those that have bits; none of them goes beyond column `right`.
 fn are_narrow(rectangles: &[Rectangle], right: u32) -> bool
     requires { All (λ r. r.right ≤ right) rectangles.now }
     ensures { OnTrue result (All (λ r. r.right < COLUMNS) rectangles.now) }
@@ -201,7 +203,7 @@ fn clear_ended(active: &mut BTreeMap<u32, Rectangle>, new: Rectangle) -> bool
     true
 }
 
-/// The entry of the greatest key that is at most `row`.
+/// The entry of `active` with the greatest key that is at most `row`; `None` if no key is.
 fn highest_up_to(active: &BTreeMap<u32, Rectangle>, row: u32) -> Option<(u32, Rectangle)>
     ensures none { IfNone result ((k : ℕ) → k ≤ row → get nat_cmp active.now k ≡ None) }
     ensures below { IfSome result (λ e. e.0 ≤ row) }

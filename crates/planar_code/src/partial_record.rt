@@ -76,6 +76,7 @@ pub enum Scan {
 }
 
 /// Reads `text` from index `from` on as the rest of a record; returns where the record ends, or that it is partial.
+/// `Oversize` means that a list has a 255th entry.
 ///
 /// `remaining` lists are not yet ended, including the partial one, which has `entries` entries so far.
 pub fn scan_lists(
@@ -157,7 +158,8 @@ impl PartialRecord {
         self.bytes.is_empty()
     }
 
-    /// How far `text` takes the record.
+    /// Reads `text` as the next bytes of the record, but keeps none; returns where in `text` the record ends, or that
+    /// it is partial. `Large` means that the record begins with 0, `Oversize` that a list has a 255th entry.
     fn scan(&self, text: &[u8]) -> Result<Scan, FeedFault>
         requires { 0 < length text.now }
         ensures { Scans self.now text.now result }
@@ -172,7 +174,8 @@ impl PartialRecord {
         scan_lists(text, 1, order, 0)
     }
 
-    /// Appends `text`, after which the record is still partial.
+    /// Appends `text`, after which `remaining` lists are not yet ended and the partial one has `entries` entries. It
+    /// allocates nothing.
     fn keep(&mut self, text: &[u8], remaining: u8, entries: u8)
         requires { IsStarted (self.old ++ text.now) remaining entries }
         ensures { self.new ≡ self.old ++ text.now }
@@ -182,10 +185,10 @@ impl PartialRecord {
         self.entries = entries;
     }
 
-    /// Appends `text` up to the record's end; if the record ends, returns it and the number of bytes taken.
+    /// Appends `text` up to the record's end; if it ends in `text`, empties this partial record, and returns the whole
+    /// one and the number of bytes taken. If it does not, returns `None`.
     ///
-    /// `None` if the record is still partial after all of `text`. A record that lies whole in `text` is copied once. It
-    /// runs out of memory only if `text` ends the record.
+    /// A record that lies whole in `text` is copied once. It runs out of memory only if `text` ends the record.
     pub fn read(&mut self, alloc: Global, text: &[u8]) -> Result<Option<(Record, usize)>, FeedFault>
         requires { 0 < length text.now }
         ensures { TakesFrom self.old text.now self.new result }

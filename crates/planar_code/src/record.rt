@@ -24,7 +24,7 @@ pub enum End {
     Oversize,
 }
 
-/// Where the list at the beginning of the bytes ends.
+/// Where the list at the beginning of the bytes ends, after its 0, or that it is cut off or too long.
 fn list_end(bytes: &[u8]) -> End
     ensures { (before : List ℕ) (remaining : ℕ) → IsStarted before remaining 0 → EndsList before remaining bytes.now result }
 {
@@ -39,7 +39,8 @@ fn list_end(bytes: &[u8]) -> End
     End::Truncated
 }
 
-/// Where the record at the beginning of nonempty bytes ends, or that it is cut off or a list is too long.
+/// Where the record at the beginning of the bytes ends, or that it is cut off or a list is too long. There must be a
+/// first byte, other than 0.
 pub fn record_end(bytes: &[u8]) -> End
     requires some { 0 < length bytes.now }
     requires nonzero { slice_index bytes.now 0 ≢ 0 }

@@ -86,7 +86,7 @@ fn angles_hold(shape: &Shape, claim: &Option<Vec<u8>>) -> bool
     }
 }
 
-/// Whether these are the angles of all darts.
+/// Whether `angles` are the shape's angles of all darts, in order.
 fn are_angles(shape: &Shape, angles: &[u8]) -> bool
     requires { length shape.now.angles ≤ MAX_DARTS }
     ensures { IsTrue result ↔ (angles.now ≡ shape.now.angles) }
@@ -112,7 +112,7 @@ fn turns_hold(shape: &Shape, claim: &Option<Vec<Vec<Turn>>>) -> bool
     }
 }
 
-/// Whether these are the turns of all darts.
+/// Whether `strings` are the shape's turns of all darts, in order.
 fn are_turns(shape: &Shape, strings: &[Vec<Turn>]) -> bool
     ensures { IsTrue result ↔ (lists_in strings.now ≡ shape.now.strings) }
 {
@@ -142,7 +142,7 @@ fn same_turns(first: &[Turn], second: &[Turn]) -> bool
     true
 }
 
-/// Whether the prices that are claimed, if any, prove the shape least.
+/// Whether the prices that are claimed, if any, prove that the shape has the fewest bends.
 fn prices_hold(plane: &Plane, shape: &Shape, claim: &Option<Prices>) -> bool
     requires { IsShape plane.now shape.now }
     ensures exact { IsTrue result ↔ IfSome claim.now (IsProof plane.now shape.now) }

@@ -16,7 +16,8 @@ use drawing_check::{Route, is_axis, route_of};
 use faces::Plane;
 use ortho_rep::{MAX_COORDINATE, MAX_TURNS, Point, Points, Shape, add_angles, add_turns};
 
-/// That there is a point for each vertex, and for each edge a list of few enough corners.
+/// Checks that there is a point for each vertex, and for each edge a list of at most 1,000,000 corners; returns the
+/// first fault.
 pub(crate) fn check_counts(plane: &Plane, points: &Points) -> Result<(), Fault>
     ensures whole { OnOk result (HasBoundedPoints plane.now points.now) }
     ensures refused { OnErr result (¬ HasBoundedPoints plane.now points.now) }
@@ -37,7 +38,8 @@ pub(crate) fn check_counts(plane: &Plane, points: &Points) -> Result<(), Fault>
     Ok(())
 }
 
-/// That all points lie in the grid: those of vertices first, then the corners, edge by edge.
+/// Checks that all points lie in the grid, those of vertices first, then the corners, edge by edge; returns the first
+/// fault.
 pub(crate) fn check_grid(plane: &Plane, points: &Points) -> Result<(), Fault>
     requires { HasBoundedPoints plane.now points.now }
     ensures inside { OnOk result (AreInGrid points.now) }
@@ -91,14 +93,14 @@ fn check_edge(corners: &[Point], edge: u16) -> Result<(), Fault>
     Ok(())
 }
 
-/// Whether both coordinates are at most the greatest of the grid.
+/// Whether both coordinates are at most 65,535.
 fn is_in_grid(point: Point) -> bool
     ensures { IsTrue result ↔ IsInGrid point }
 {
     point.x <= MAX_COORDINATE && point.y <= MAX_COORDINATE
 }
 
-/// That each part of each path is parallel to an axis.
+/// Checks that each part of each path is parallel to an axis; the fault names the first part that is not, edge by edge.
 pub(crate) fn check_axes(plane: &Plane, points: &Points) -> Result<(), Fault>
     requires { HasBoundedPoints plane.now points.now }
     ensures on_axes { OnOk result (AreOnAxes (paths plane.now points.now)) }
@@ -118,7 +120,7 @@ pub(crate) fn check_axes(plane: &Plane, points: &Points) -> Result<(), Fault>
     Ok(())
 }
 
-/// That each part of the path of this edge is parallel to an axis.
+/// Checks that each part of the path of this edge is parallel to an axis; the fault names the first part that is not.
 fn check_route(route: &Route<'_>, edge: u16) -> Result<(), Fault>
     ensures on_axes { OnOk result (IsOnAxes (path_of route.now)) }
     ensures refused { OnErr result (¬ IsOnAxes (path_of route.now)) }
@@ -132,7 +134,8 @@ fn check_route(route: &Route<'_>, edge: u16) -> Result<(), Fault>
     Ok(())
 }
 
-/// That the angles round each vertex sum to four quarters, by adding them up in a list of zeros.
+/// Checks that the angles round each vertex sum to four quarters; the fault names the first vertex where they do not.
+/// Adds them up in `sums`, which must be all 0.
 pub(crate) fn check_embedding(plane: &Plane, shape: &Shape, sums: &mut [u32]) -> Result<(), Fault>
     requires darts { HasDarts plane.now shape.now }
     requires clear { sums.old ≡ replicate (vertices plane.now + 1) 0 }
@@ -149,7 +152,8 @@ pub(crate) fn check_embedding(plane: &Plane, shape: &Shape, sums: &mut [u32]) ->
     Ok(())
 }
 
-/// The first face that turns once to the right, by adding turns up in two lists of zeros.
+/// The first face whose darts turn once to the right; the fault `Outer` if there is none. Adds turns up in the two
+/// lists, which must be all 0.
 pub(crate) fn find_outer(
     plane: &Plane,
     shape: &Shape,
@@ -175,7 +179,7 @@ pub(crate) fn find_outer(
     Err(Fault::Outer)
 }
 
-/// Whether these numbers of left and right turns make one turn to the right.
+/// Whether there are exactly four more quarter turns to the right than to the left: one whole turn to the right.
 fn turns_right(lefts: u64, rights: u64) -> bool
     ensures { IsTrue result ↔ ((pos lefts -ℤ pos rights) ≡ negsuc 3) }
 {

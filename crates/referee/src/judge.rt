@@ -125,7 +125,8 @@ impl Sums {
     }
 }
 
-/// The minimum number of bends of an orthogonal representation of this plane with its outer face.
+/// The minimum number of bends of an orthogonal representation of this plane with its outer face. It computes such a
+/// representation, and reuses the scratch.
 ///
 /// # Errors
 ///
@@ -148,7 +149,8 @@ pub struct Judged {
     pub drawing: Drawing,
 }
 
-/// Checks that points draw a plane's embedding; returns drawing and shape, and sets the plane's outer face.
+/// Checks that points draw a plane's embedding; returns drawing and shape, and makes the outer face of the drawing that
+/// of the plane. The plane's outer face may also have changed if a fault is returned.
 ///
 /// The points determine the outer face of the drawing, which becomes that of the plane, and the representation.
 ///
@@ -193,7 +195,7 @@ pub fn judge_in(
     }
 }
 
-/// A meeting, unless memory ran out: no other condition can fail if the shape is that of the points.
+/// `Memory` if memory ran out, and otherwise `Meet`: no other condition can fail if the shape is that of the points.
 fn meeting(fault: CheckFault) -> Fault
     ensures real { result ≢ Fault.Memory → fault ≢ CheckFault.Memory }
     ensures kind { result ≢ Fault.Memory → result ≡ Fault.Meet }

@@ -45,7 +45,7 @@ pub(crate) fn list_directions(plane: &Plane, points: &Points, directions: &mut [
     }
 }
 
-/// The turns of all darts, if each path turns at each of its corners.
+/// The turns of all darts, a new list for each; the fault `NoTurn` at the first corner where a path does not turn.
 pub(crate) fn list_turns(
     alloc: Global,
     plane: &Plane,
@@ -75,7 +75,8 @@ pub(crate) fn list_turns(
     Ok(strings)
 }
 
-/// The turns of a dart, if those of all darts before it are listed.
+/// The turns of a dart as a new list: read from its path or, if `strings` has those of its reverse, mirrored from them.
+/// The fault `NoTurn` names the first corner where the path does not turn.
 fn string_of(
     alloc: Global,
     plane: &Plane,
@@ -108,7 +109,7 @@ fn string_of(
     Ok(string)
 }
 
-/// The turns at the corners of the path of this edge.
+/// The turns at the corners of the path of this edge; the fault `NoTurn` at the first corner where it does not turn.
 fn turns_along(alloc: Global, route: &Route<'_>, edge: u16) -> Result<Vec<Turn>, Fault>
     requires { length route.now.corners.now ≤ MAX_TURNS }
     ensures turning { IfOk result (λ turns. IsTurning (path_of route.now) turns.items) }
@@ -174,7 +175,8 @@ pub(crate) fn add<T: Drop>(list: &mut Vec<T>, item: T) -> Result<(), AllocError>
     Ok(())
 }
 
-/// The shape of these points, if each path turns at each of its corners; reuses the list for directions.
+/// The shape of these points; the fault `NoTurn` if a path does not turn at a corner. Overwrites `directions` with the
+/// direction in which each dart leaves its tail.
 pub(crate) fn shape_of(
     alloc: Global,
     directions: &mut Vec<Direction>,
