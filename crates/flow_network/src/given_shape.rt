@@ -42,7 +42,7 @@ impl<'a> Model for Given<'a> {
 }
 
 impl<'a> Given<'a> {
-    /// Nothing. It allocates nothing.
+    /// Two empty lists: no angle and no turns are given. It allocates nothing.
     pub fn nothing() -> Given<'a>
         ensures { result ≡ nothing_given }
     {
@@ -52,14 +52,16 @@ impl<'a> Given<'a> {
         }
     }
 
-    /// Whether all angles are 1 to 4, and all turns together at most `MAX_GIVEN_TURNS`, as `new` requires.
+    /// Whether all given angles are 1 to 4, and the given turns, left or right, are at most `MAX_GIVEN_TURNS` in all,
+    /// as `new` requires.
     pub fn can_be(angles: &[Option<u8>], turns: &[Option<i32>]) -> bool
         ensures { IsTrue result ↔ CanBeGiven angles.now turns.now }
     {
         angles.iter().all(|angle| is_angle(*angle)) && are_few(turns)
     }
 
-    /// These angles and turns. It allocates nothing.
+    /// The angles and turns that these lists give, each indexed by dart; `can_be` must hold of them. It allocates
+    /// nothing.
     pub fn new(angles: &'a [Option<u8>], turns: &'a [Option<i32>]) -> Given<'a>
         requires { CanBeGiven angles.now turns.now }
         ensures { result ≡ record { angles = angles.now; turns = turns.now } }
@@ -75,7 +77,7 @@ impl<'a> Given<'a> {
         self.angles.is_empty() && self.turns.is_empty()
     }
 
-    /// The angle that is given at the head of a dart, in right angles.
+    /// The angle that is given at the head of a dart, in right angles; `None` if none is given.
     pub fn angle(&self, dart: u16) -> Option<u8>
         ensures value { result ≡ angle_given self.now dart }
         ensures angle { IsAngle result }
@@ -88,7 +90,7 @@ impl<'a> Given<'a> {
         }
     }
 
-    /// The turns that are given along a dart, to the left.
+    /// The left turns that are given along a dart, negative for right turns; `None` if none are given.
     pub fn turns(&self, plane: &Plane, dart: u16) -> Option<i32>
         requires { dart < darts plane.now }
         ensures value { result ≡ turns_given plane.now self.now dart }
@@ -100,7 +102,8 @@ impl<'a> Given<'a> {
         self.turns_of_edge(plane, dart)
     }
 
-    /// The turns that are given along a dart, to the left, where the list of turns is not empty.
+    /// The left turns that are given along a dart, negative for right turns, read at the lesser dart of its edge;
+    /// `None` if none are given.
     fn turns_of_edge(&self, plane: &Plane, dart: u16) -> Option<i32>
         requires { dart < darts plane.now }
         ensures value { result ≡ turns_given plane.now self.now dart }
@@ -128,7 +131,7 @@ impl<'a> Given<'a> {
     }
 }
 
-/// Turns, met in walking the other way.
+/// The same turns along the reverse dart: the negated number, or `None`.
 fn back(turns: Option<i32>) -> Option<i32>
     requires { nat_abs (lefts_given turns) ≤ MAX_GIVEN_TURNS }
     ensures { result ≡ walked_back turns }
@@ -146,7 +149,7 @@ fn is_angle(angle: Option<u8>) -> bool
     matches!(angle, None | Some(1..=4))
 }
 
-/// Whether all turns together are at most `MAX_GIVEN_TURNS`. Linear in the list.
+/// Whether the turns of all entries, left or right, are at most `MAX_GIVEN_TURNS` in all. Linear in the list.
 fn are_few(turns: &[Option<i32>]) -> bool
     ensures { IsTrue result ↔ (turns_in_all turns.now ≤ MAX_GIVEN_TURNS) }
 {
@@ -160,7 +163,7 @@ fn are_few(turns: &[Option<i32>]) -> bool
     true
 }
 
-/// How many right angles beyond the first a given angle has.
+/// How many right angles beyond the first a given angle has; 0 if none is given.
 pub(crate) fn beyond(angle: Option<u8>) -> i32
     requires { IsAngle angle }
     ensures { result ≡ pos (beyond_first angle) }
@@ -171,7 +174,7 @@ pub(crate) fn beyond(angle: Option<u8>) -> i32
     }
 }
 
-/// How many turns to the left given turns have.
+/// The given number of left turns, negative for right turns; 0 if none are given.
 pub(crate) fn lefts(turns: Option<i32>) -> i32
     ensures { result ≡ lefts_given turns }
 {

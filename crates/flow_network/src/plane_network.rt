@@ -37,7 +37,7 @@ impl Scratch {
     }
 }
 
-/// How many darts arrive at a vertex, which counts from 1: its degree.
+/// The degree of a vertex, numbered from 1: the number of darts that arrive there.
 fn degree_of(plane: &Plane, vertex: u16) -> u8
     requires some { 0 < vertex }
     requires within { vertex ≤ vertices plane.now }
@@ -46,7 +46,7 @@ fn degree_of(plane: &Plane, vertex: u16) -> u8
     plane.graph().neighbours(vertex).len() as u8
 }
 
-/// The supply of a face: the right angles by which it turns to the left, minus its degree.
+/// The supply of a face if nothing is given: 4 less its degree, or -4 less its degree for the outer face.
 fn face_supply(plane: &Plane, face: u16) -> i32
     requires { face < plane.now.faces }
     ensures { result
@@ -56,10 +56,8 @@ fn face_supply(plane: &Plane, face: u16) -> i32
     turn - i32::from(plane.degree(face))
 }
 
-/// What a vertex, which counts from 1, has to turn: 4 less its degree, less what its given angles have beyond the
-/// first.
-///
-/// Linear in the darts of the plane.
+/// The supply of a vertex, numbered from 1: 4 less its degree, less the right angles beyond the first of its given
+/// angles. Linear in the darts of the plane.
 pub fn vertex_to_turn(plane: &Plane, given: &Given<'_>, vertex: u16) -> i32
     requires some { 0 < vertex }
     requires within { vertex ≤ vertices plane.now }
@@ -103,7 +101,7 @@ pub fn supplies_of(old: Vec<i32>, plane: &Plane, given: &Given<'_>) -> Result<Ve
     Ok(supplies)
 }
 
-/// The supplies where nothing is given.
+/// The supply of each node if nothing is given, of all vertices, then of all faces, in the buffer of `old`.
 fn supplies_of_plane(old: Vec<i32>, plane: &Plane) -> Result<Vec<i32>, AllocError>
     ensures nodes { IfOk result (λ s. length s.items ≡ vertices plane.now + plane.now.faces) }
     ensures at_vertex { IfOk result (λ s. (v : ℕ) → 1 ≤ v → v ≤ vertices plane.now
@@ -124,7 +122,8 @@ fn supplies_of_plane(old: Vec<i32>, plane: &Plane) -> Result<Vec<i32>, AllocErro
     Ok(supplies)
 }
 
-/// Takes what is given from the supplies of vertices and faces where nothing is given.
+/// Corrects `supplies`, computed as if nothing were given: given right angles beyond the first move from the vertex to
+/// the face, and faces lose the given left turns of their darts.
 fn take_given(supplies: &mut [i32], plane: &Plane, given: &Given<'_>)
     requires can { CanBeGiven given.now.angles given.now.turns }
     requires nodes { length supplies.old ≡ vertices plane.now + plane.now.faces }
@@ -299,10 +298,10 @@ impl FaceNet {
         FaceNet::build_keeping_in(alloc, &mut scratch, plane, &Given::nothing())
     }
 
-    /// The flow network of a plane besides what is given of its shapes.
+    /// The flow network of a plane for the shapes that keep what is given, in the buffers of the caller's scratch.
     ///
-    /// There need not be a flow, unless nothing is given. Linear in the darts. It reuses the caller's scratch. The
-    /// network takes its lists with it; [`FaceNet::give_back`] returns them.
+    /// There need not be a flow, unless nothing is given. Linear in the darts. The network takes its lists with it;
+    /// [`FaceNet::give_back`] returns them.
     ///
     /// # Errors
     ///

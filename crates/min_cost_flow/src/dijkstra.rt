@@ -72,8 +72,8 @@ pub(crate) struct Candidate {
 }
 
 impl Search<'_> {
-    /// Takes up the candidate of a residual arc for its end: where that has a deficit, it may be the nearest such
-    /// node now, and else it gets the label if that is nearer than the bound.
+    /// Records the label that a residual arc offers to its end: a node with a deficit may become the nearest one found,
+    /// any other gets the label if its distance by it is below the bound.
     pub(crate) fn reach(&mut self, input: SearchInput<'_>, step: Candidate)
         requires candidate { HasCandidate input self.old step }
         ensures relaxed { IsRelaxed input.entry self.old self.new }
@@ -87,8 +87,8 @@ impl Search<'_> {
         }
     }
 
-    /// Gives a node without a deficit a label, and puts it after those that are ordered if it is at
-    /// the radius.
+    /// Gives the end of a residual arc, which has no deficit, the label that the arc offers; if its distance is then
+    /// the radius, it joins the ordered nodes.
     fn label_node(&mut self, input: SearchInput<'_>, step: Candidate)
         requires candidate { HasCandidate input self.old step }
         requires nonnegative { pos 0 ≤ℤ excess_of input step.end }
@@ -101,7 +101,7 @@ impl Search<'_> {
         }
     }
 
-    /// Takes a node with a deficit for the nearest one, if it is, or if it is as near and has a
+    /// Makes the end of a residual arc, which has a deficit, the nearest node found if it is nearer, or as near with a
     /// lesser score.
     fn candidate(&mut self, input: SearchInput<'_>, step: Candidate, distance: i32)
         ensures same { SameBesideBound self.old self.new }
@@ -125,7 +125,7 @@ impl Search<'_> {
         }
     }
 
-    /// Gives a node a label, and a place after all that were reached if it has none.
+    /// Gives a node its new label; a node that was not reached before also gets the last place in the order.
     fn set_label(&mut self, step: Candidate)
         requires end { HasEnd self.old step }
         requires room { far ≤ℤ labels self.old step.end → self.old.reached < length self.old.visits.now }
@@ -138,7 +138,7 @@ impl Search<'_> {
         }
     }
 
-    /// Gives a node that was not reached before a label, and a place after all others.
+    /// Gives a node that was not reached before its label and the last place in the order.
     fn enlist(&mut self, step: Candidate)
         requires end { HasEnd self.old step }
         requires room { self.old.reached < length self.old.visits.now }
@@ -166,7 +166,7 @@ impl Search<'_> {
         visit.predecessor = step.number as u16;
     }
 
-    /// Puts a node after those that are ordered, in exchange for the node that is there.
+    /// Adds a reached node to the ordered nodes: it swaps places with the first node that is not ordered.
     pub(crate) fn advance(&mut self, node: usize)
         requires { CanAdvance self.old node }
         ensures swapped { IsSwapped (orders self.old) (places self.old) (orders self.new) (places self.new) node (places self.old node) self.old.ordered }
@@ -193,12 +193,12 @@ impl Search<'_> {
     }
 }
 
-/// The score of a node.
+/// The score of a node; 0 if it has none.
 fn score_of(input: SearchInput<'_>, node: usize) -> i32 {
     input.score.get(node).copied().unwrap_or(0)
 }
 
-/// How far a node is from the root by reduced costs.
+/// A node's distance from the root by reduced costs: its label less its potential.
 pub(crate) fn distance(label: i16, potential: i32) -> i32
     requires label { IsWithinFar label }
     requires potential { IsWithinFar potential }
@@ -208,7 +208,8 @@ pub(crate) fn distance(label: i16, potential: i32) -> i32
 }
 
 impl<'a> Search<'a> {
-    /// Searches from the root for the nearest node with a deficit, and labels the nodes that it reaches.
+    /// Searches from the root for the nearest node with a deficit, and returns the results; labels the nodes reached in
+    /// `visits`, where none has a label before, and adds the number of residual arcs looked at to `looks`.
     ///
     /// Distances are by reduced costs. Then `bound` is the distance of that node, and `found` the last residual arc on
     /// the way there; if unsaturated residual arcs lead to no such node, `bound` is `FAR`. A node's label is the root's
@@ -235,7 +236,7 @@ impl<'a> Search<'a> {
         search
     }
 
-    /// One that has labelled the root alone.
+    /// A search that has reached the root alone, which gets its label and the first place in `visits`.
     fn begin(input: SearchInput<'_>, visits: &'a mut [Visit]) -> Search<'a>
         requires unlabelled { IsUnlabelled input visits.old }
         ensures search { IsSearch input.entry result }
@@ -260,8 +261,8 @@ impl<'a> Search<'a> {
         search
     }
 
-    /// Whether a node is to be scanned next: one at the radius, or else the nearest one further off, to
-    /// which the radius moves.
+    /// Whether a node nearer than the bound is left to scan; if none is at the radius, raises the radius to the nearest
+    /// one, and the nodes at that distance join the ordered nodes.
     fn goes_on(&mut self, input: SearchInput<'_>) -> bool
         requires search { IsSearch input self.old }
         ensures ordered { IsReordered input.entry self.old self.new }
@@ -282,7 +283,7 @@ impl<'a> Search<'a> {
         true
     }
 
-    /// The least distance of the nodes after those that are ordered, or the bound if that is less.
+    /// The least distance of the reached nodes that are not ordered yet; the bound if that is less or there are none.
     fn least_distance(&self, input: SearchInput<'_>) -> i32
         requires search { IsSearch input self.now }
         ensures bound { result ≤ℤ self.now.bound }
@@ -299,7 +300,7 @@ impl<'a> Search<'a> {
         least
     }
 
-    /// Moves the radius, and puts the nodes at that distance after those that are ordered.
+    /// Sets the radius; the reached nodes at that distance join the ordered nodes.
     fn raise_radius(&mut self, input: SearchInput<'_>, radius: i32)
         requires search { IsSearch input self.old }
         requires radius { IsNextRadius input self.old radius }
@@ -312,7 +313,7 @@ impl<'a> Search<'a> {
         }
     }
 
-    /// Puts the node at place j of the order after those that are ordered, if it is at the radius.
+    /// Adds the node at place j of the order to the ordered nodes, if its distance is the radius.
     fn take_up(&mut self, input: SearchInput<'_>, j: usize)
         requires waiting { IsWaiting input self.old j }
         ensures ordered { IsReordered input.entry self.old self.new }
@@ -327,7 +328,7 @@ impl<'a> Search<'a> {
         }
     }
 
-    /// Relaxes each residual arc that starts at the next node of the order.
+    /// Scans the next node of the order: relaxes each residual arc that starts there, and adds their number to `looks`.
     fn scan(&mut self, input: SearchInput<'_>, looks: &mut u64)
         requires search { IsSearch input self.old }
         requires served { HasFeasibleLabels input self.old }
@@ -370,7 +371,8 @@ impl<'a> Search<'a> {
     }
 }
 
-/// Looks at the residual arc of a number, and counts the look. A search reads residual arcs by this call alone.
+/// Returns residual arc `number`, and adds 1 to `looks`. A scan goes through the residual arcs of a node by this call
+/// alone.
 fn look<'a>(arcs: &'a [ResidualArc], number: usize, looks: &mut u64) -> &'a ResidualArc
     requires number { number < length arcs.now }
     requires few { looks.old < 2 ^ 63 }

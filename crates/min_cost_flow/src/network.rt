@@ -61,7 +61,7 @@ pub enum NetFault {
     BadCost,
 }
 
-/// Whether an endpoint of an arc is out of range, where each supply is that of a node.
+/// Whether an endpoint of an arc is out of range, that is, not below the number of supplies, one for each node.
 pub(crate) fn has_bad_end(supplies: &[i32], arcs: &[Arc]) -> bool
     ensures some { result ≡ true → HasFault (net_of supplies.now arcs.now) NetFault.BadEnd }
     ensures none { result ≡ false → HasEnds (net_of supplies.now arcs.now) }

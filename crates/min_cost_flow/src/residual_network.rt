@@ -29,7 +29,8 @@ pub struct ResidualArc {
 }
 
 impl ResidualArc {
-    /// A residual arc to a node, with this capacity, this cost of a unit and this next one.
+    /// A residual arc to node `end`, with this cost of a unit and this next one. `capacity` is not stored: if it is 0,
+    /// the arc is saturated.
     pub(crate) fn new(end: u16, cost: i16, capacity: u32, next: u32) -> ResidualArc
         requires { cost ≤ℤ pos 1 }
         ensures end { result.end ≡ end }
@@ -48,7 +49,7 @@ impl ResidualArc {
     }
 }
 
-/// The number of the residual arc the other way.
+/// The number of the reverse of a residual arc: 2i + 1 for 2i, and 2i for 2i + 1.
 pub fn reverse(number: usize) -> usize
     ensures { result ≡ reverse_of number }
 {
@@ -129,7 +130,8 @@ impl Residual {
     }
 }
 
-/// Writes the residual arcs of each arc in turn, and puts each at the front of the list of the node where it starts.
+/// Writes the two residual arcs of each arc and their capacities under the zero flow, and makes each the first in the
+/// list of the node where it starts.
 fn list_all(network: &Network, first: &mut [u32], arcs: &mut [ResidualArc], capacities: &mut [u32])
     requires starts { length first.old ≡ node_count network.now }
     requires none { (v : ℕ) → v < length first.old → numbers first.old v ≡ NONE }
@@ -154,7 +156,8 @@ fn list_all(network: &Network, first: &mut [u32], arcs: &mut [ResidualArc], capa
     }
 }
 
-/// Puts a residual arc at the front of the list of a node, and returns the one that stood there, or `NONE`.
+/// Makes residual arc `number` the first in the list of a node, and returns the number of the one that was first, or
+/// `NONE`.
 fn push_front(first: &mut [u32], node: u32, number: usize) -> u32
     requires node { node < length first.old }
     requires number { number < MAX_RESIDUAL_ARCS }
@@ -167,7 +170,7 @@ fn push_front(first: &mut [u32], node: u32, number: usize) -> u32
     next
 }
 
-/// A capacity as a number of units.
+/// A capacity as a number of units: `UNLIMITED` for `Cap::Any`.
 fn limit(cap: Cap) -> u32
     ensures { result ≡ units_of cap }
 {

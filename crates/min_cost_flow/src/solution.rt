@@ -108,12 +108,11 @@ impl Solved {
     }
 }
 
-/// If the network has no flow, a set of nodes that supplies more than the arcs out of it can carry; otherwise `None`.
+/// Solves the network anew in the caller's scratch: `None` if it has a flow, otherwise a mark for each node. If the
+/// supplies sum to 0, the marked nodes supply more than the arcs out of their set can carry.
 ///
-/// The set has a mark for each node. The network is solved anew, in the caller's scratch.
-///
-/// The set is what the last search reached, from a node with an excess by unsaturated residual arcs. It is such a set if
-/// the supplies sum to 0; otherwise nothing is said of it.
+/// The marked nodes are those that the last search reached, from a node with an excess by unsaturated residual arcs. If
+/// the supplies do not sum to 0, nothing is said of them.
 ///
 /// # Errors
 /// `AllocError` if an allocation was refused. All lists stay in the scratch, which can be used again.
@@ -134,7 +133,7 @@ pub fn overfull_in(
     Ok(Some(reached(alloc, &solver.visits)?))
 }
 
-/// A mark for each node that the last search reached.
+/// A new list with a mark for each node: true if the last search reached it.
 fn reached(alloc: Global, visits: &[Visit]) -> Result<Vec<bool>, AllocError>
     ensures size { IfOk result (λ marks. length marks.items ≡ length visits.now) }
     ensures each { IfOk result (λ marks. (v : ℕ) → v < length visits.now → is_in marks.items v ≡ was_reached visits.now v) }
@@ -165,9 +164,10 @@ pub fn no_path_shows_no_flow()
     ensures { (net : NetworkModel) (x : ℕ → ℕ) (e : ℕ → ℤ) (u : ℕ) → HasEnds net → HasExcess net x e → HasNoAugmentingPath net x e → u < node_count net → e u ≢ pos 0 → HasNoFlow net }
 {}
 
-/// If paths of unlimited arcs lead from each node with an excess to each with a deficit, there is a flow.
+/// If the supplies sum to 0 and paths of unlimited arcs lead from each node with an excess to each with a deficit,
+/// there is a flow.
 ///
-/// The supplies sum to 0, and amounts within the capacities leave some excess.
+/// The excesses are those that amounts within the capacities leave.
 pub fn unlimited_arcs_give_a_flow()
     ensures { (net : NetworkModel) (x : ℕ → ℕ) (e : ℕ → ℤ) → HasEnds net → SuppliesSumToZero net → IsWithinCaps net x → HasExcess net x e → HasUnlimitedPaths net e → (y : ℕ → ℕ) × Flow net y }
 {}

@@ -93,7 +93,8 @@ impl Solver {
 }
 
 impl Solver {
-    /// Sends all units from nothing; whether that can be done.
+    /// Finds a flow of least cost, from the zero flow on, in lists that `prepare` has sized for the network; returns
+    /// whether there is a flow.
     pub(crate) fn solve(&mut self, network: &Network) -> bool
         requires { IsSized network.now self.old }
         ensures done { result ≡ true → IsRoundDone network.now (flow_in self.new) (potential_at self.new) self.new.searches self.new.looks }
@@ -110,8 +111,8 @@ impl Solver {
         !has_deficit(&self.nodes.excess)
     }
 
-    /// Initialise: no arc carries anything, all potentials are 0, all supplies are excesses, and no work
-    /// was done.
+    /// Resets this to the zero flow of a network: all potentials are 0, the excesses are the supplies, nodes are
+    /// scored, and no work is counted.
     fn initialise(&mut self, network: &Network)
         requires { IsSized network.now self.old }
         ensures { IsBetweenSearches network.now self.new }
@@ -124,7 +125,7 @@ impl Solver {
         self.looks = 0;
     }
 
-    /// Sends the whole excess of a node to nodes with a deficit; whether that can be done.
+    /// Sends the whole excess of a node to nodes with a deficit; returns whether all of it could be sent.
     fn send_all_from(&mut self, root: usize) -> bool
         requires between_searches { (net : NetworkModel) × IsBetweenSearches net self.old }
         requires root { root < length self.old.nodes.excess.items }
@@ -140,8 +141,8 @@ impl Solver {
         true
     }
 
-    /// Searches for a shortest path from a node with an excess to one with a deficit, updates
-    /// the potentials and augments along it; whether there is one.
+    /// Searches for a shortest path from `root`, which has an excess, to a node with a deficit, updates the potentials
+    /// and augments along the path; returns whether there is one.
     pub(crate) fn augment_once(&mut self, root: usize) -> bool
         requires ready { (net : NetworkModel) × IsReady net self.old }
         requires root { root < length self.old.nodes.excess.items }
@@ -166,7 +167,8 @@ impl Solver {
         true
     }
 
-    /// Augment: sends along the path as much as can go, at least one unit.
+    /// Sends as many units as fit, at least one, along the path that the last search from `root` found; updates the
+    /// excesses of both ends and the capacities of the residual arcs.
     fn augment(&mut self, root: usize)
         requires { (net : NetworkModel) × CanAugment net self.old root }
         ensures sent { (net : NetworkModel) → CanAugment net self.old root → IsSentAlong net self.old self.new }
@@ -273,9 +275,11 @@ pub fn solve_in(
     Ok(Solved::new(flow, potential, solver.searches, solver.looks))
 }
 
-/// Searches for a shortest path from a node with an excess to the nearest one with a deficit, and updates the
-/// potentials. Returns the last residual arc of the path; each node before has the one by which it was reached. `None`
-/// if there is no such path; the nodes that were reached then keep their labels, and supply more than can leave them.
+/// Finds a shortest path from `root`, which has an excess, to the nearest node with a deficit, and updates the
+/// potentials; returns the last residual arc of the path, or `None` if there is none. Adds its looks to `looks`.
+///
+/// In `visits` each earlier node of the path has the residual arc by which it was reached, and no node has a label any
+/// more. If there is no path, the nodes that were reached keep their labels, and supply more than can leave them.
 pub(crate) fn find_path(
     residual: &Residual,
     nodes: &mut Nodes,
@@ -323,7 +327,7 @@ fn update_potentials(potential: &mut [i32], search: &Search<'_>)
     }
 }
 
-/// Gives a node its label less the bound for a potential.
+/// Sets the potential of a node to its label less the bound.
 fn write_potential(potential: &mut [i32], node: usize, label: i16, bound: i32)
     requires node { node < length potential.old }
     requires small { node < MAX_NODES }
@@ -354,9 +358,10 @@ pub(crate) fn has_deficit(excess: &[i32]) -> bool
     excess.iter().any(|units| *units < 0)
 }
 
-/// Scores each node, to pick one of those that are equally near: its supply, and what is supplied where arcs of
-/// cost 0 to it start. The least score comes first. No clause rests on it, but it decides which of
-/// several flows of least cost is found.
+/// Writes the score of each node: its supply, plus the supplies above 0 of the nodes from which arcs of cost 0 lead to
+/// it. Of nodes that are equally near, a search takes the one with the least score.
+///
+/// No clause rests on it, but it decides which of several flows of least cost is found.
 fn score_nodes(network: &Network, scores: &mut [i32])
     requires { IsNetwork network.now }
 {
@@ -372,7 +377,7 @@ fn score_nodes(network: &Network, scores: &mut [i32])
     }
 }
 
-/// Writes what each arc carries.
+/// Fills `flow`, indexed by arc, with the number of units that each arc carries, read from the residual capacities.
 pub(crate) fn read_flow(capacities: &[u32], flow: &mut [u32])
     requires { length flow.old + length flow.old ≤ length capacities.now }
     ensures { (i : ℕ) → i < length flow.new → amounts flow.new i ≡ carried (capacity_at capacities.now) i }
@@ -382,7 +387,7 @@ pub(crate) fn read_flow(capacities: &[u32], flow: &mut [u32])
     }
 }
 
-/// What an arc carries: what fits back along it.
+/// The number of units that an arc carries: the capacity of the residual arc back along it.
 pub(crate) fn carried_by(capacities: &[u32], arc: usize) -> u32
     requires { 2 * arc + 1 < length capacities.now }
     ensures { result ≡ carried (capacity_at capacities.now) arc }
@@ -390,7 +395,7 @@ pub(crate) fn carried_by(capacities: &[u32], arc: usize) -> u32
     capacities[2 * arc + 1]
 }
 
-/// Writes a number at each node.
+/// Sets all entries of `numbers` to `number`.
 fn write_all(numbers: &mut [i32], number: i32)
     ensures { (v : ℕ) → v < length numbers.new → at_nodes numbers.new v ≡ number }
 {
@@ -399,7 +404,7 @@ fn write_all(numbers: &mut [i32], number: i32)
     }
 }
 
-/// How much can go from one node to another: the lesser of the one's excess and the other's deficit.
+/// The lesser of the excess of `root` and the deficit of `target`: the most units that a path between them may carry.
 fn most_between(excess: &[i32], root: usize, target: usize) -> u32
     requires root { root < length excess.now }
     requires target { target < length excess.now }
@@ -415,7 +420,7 @@ fn most_between(excess: &[i32], root: usize, target: usize) -> u32
         .min(excess[target].unsigned_abs())
 }
 
-/// Sends along a residual arc, and so gives as much capacity to its reverse.
+/// Sends `amount` units along a residual arc: lowers its capacity, and raises that of its reverse by as much.
 fn push(residual: &mut Residual, number: usize, amount: u32)
     requires pair { IsPaired residual.old number }
     requires some { 0 < amount }

@@ -43,7 +43,8 @@ impl Solver {
         self.resend(from as usize)
     }
 
-    /// Sends the whole excess of the one node that has any.
+    /// Sends the whole excess of `root`, the only node that may have one, to nodes with a deficit; returns whether
+    /// neither an excess nor a deficit is left.
     fn resend(&mut self, root: usize) -> bool
         requires ready { (net : NetworkModel) × IsReady net self.old }
         requires root { root < length self.old.nodes.excess.items }
@@ -60,7 +61,7 @@ impl Solver {
     }
 }
 
-/// Whether each arc can carry `amount` units more, at most [`MAX_CARRIED`] in all.
+/// Whether each arc would carry at most [`MAX_CARRIED`] units with `amount` more.
 fn carries_little(capacities: &[u32], amount: u32) -> bool
     requires { amount ≤ MAX_SUPPLY }
     ensures { result ≡ true → (i : ℕ) → 2 * i + 1 < length capacities.now → carried (capacity_at capacities.now) i + amount ≤ MAX_CARRIED }
@@ -74,7 +75,8 @@ fn carries_little(capacities: &[u32], amount: u32) -> bool
     true
 }
 
-/// Takes the potential of a node for 0; whether all are confined then.
+/// Lowers all potentials by that of `node`, which becomes 0; returns whether all are then at most twice the number of
+/// nodes in absolute value.
 fn rebase(potential: &mut [i32], node: usize) -> bool
     requires node { node < length potential.old }
     requires small { length potential.old ≤ MAX_NODES }
@@ -87,7 +89,7 @@ fn rebase(potential: &mut [i32], node: usize) -> bool
     are_in_bounds(potential)
 }
 
-/// Lowers each potential by as much.
+/// Lowers each potential by `base`.
 fn lower_all(potential: &mut [i32], base: i32)
     requires low { (v : ℕ) → v < length potential.old → ((pos 0 -ℤ pos (2 * MAX_NODES)) ≤ℤ at_nodes potential.old v) × (at_nodes potential.old v ≤ℤ pos (2 * MAX_NODES)) }
     requires base { ((pos 0 -ℤ pos (2 * MAX_NODES)) ≤ℤ base) × (base ≤ℤ pos (2 * MAX_NODES)) }
@@ -143,9 +145,10 @@ impl WarmStart {
         Ok(WarmStart { network, solver })
     }
 
-    /// Raises the supply of node `from` by `amount`, lowers that of `to` as much, and updates the flow to least cost.
+    /// Raises the supply of node `from` by `amount`, lowers that of `to` as much, and updates the flow to least cost;
+    /// `None` if there is no flow any more.
     ///
-    /// `None` if there is no flow any more; the old one is then gone too. It allocates nothing.
+    /// If there is none, the old one is gone too. It allocates nothing.
     pub fn shift(self, from: u32, to: u32, amount: u32) -> Option<WarmStart>
         requires from { from < node_count self }
         requires to { to < node_count self }
@@ -196,7 +199,7 @@ impl WarmStart {
     }
 }
 
-/// How much the arcs of cost 1 carry.
+/// The cost of the flow: the total number of units that the arcs of cost 1 carry.
 fn flow_cost(network: &Network, capacities: &[u32]) -> u64
     requires { arc_count network.now + arc_count network.now ≤ length capacities.now }
     ensures cost { result ≡ cost_of network.now (carried (capacity_at capacities.now)) }

@@ -69,8 +69,8 @@ pub fn best_shape(alloc: Global, plane: &mut Plane) -> Result<(Shape, Prices), A
     }
 }
 
-/// A least shape with the best outer face, and prices that prove it. If memory runs out, some face that was tried may
-/// be left as the outer one.
+/// Makes the best face the outer face; returns a least shape, with prices that prove it. If memory runs out, some face
+/// that was tried may be left as the outer one.
 fn best_found(alloc: Global, plane: &mut Plane) -> Result<(Shape, Prices), AllocError>
     ensures outer_moved { plane.new ≡ with_outer plane.old plane.new.outer }
     ensures best { OnOk result (IsBest plane.new) }
@@ -95,7 +95,7 @@ struct Moving {
     warm_start: WarmStart,
 }
 
-/// The flow that begins with the plane's outer face.
+/// The network of a plane with its current outer face, and a flow of least cost in it.
 fn begin(alloc: Global, plane: &Plane) -> Result<Moving, AllocError>
     ensures { IfOk result (IsMoving plane.now) }
 {
@@ -107,8 +107,10 @@ fn begin(alloc: Global, plane: &Plane) -> Result<Moving, AllocError>
     }
 }
 
-/// Moves the outer face to `face`: the deficit of the old one is eight units less, and that of the new one eight more.
-/// It allocates nothing.
+/// Moves the outer face of a network and its flow of least cost from the plane's to `face`; the plane itself is
+/// unchanged. It allocates nothing.
+///
+/// The deficit of the old outer face is eight units less, and that of the new one eight more.
 fn outer_moved(moving: Moving, plane: &Plane, face: u16) -> Moving
     requires moving { IsMoving plane.now moving }
     requires face { face < plane.now.faces }
@@ -129,7 +131,8 @@ fn outer_moved(moving: Moving, plane: &Plane, face: u16) -> Moving
     }
 }
 
-/// The best face. The outer face is left as it was set last.
+/// Finds the best outer face: returns it with its bends, and the flow for the face tried last, which is left as the
+/// outer one.
 fn best_incumbent(
     alloc: Global,
     plane: &mut Plane,
@@ -146,7 +149,8 @@ fn best_incumbent(
     try_faces(alloc, plane, moving, &mut bounds)
 }
 
-/// The best face and its flow, found with a list of bounds on the bends of each face, which rise.
+/// Finds the best outer face: returns it with its bends, and the flow for the face tried last, which is left as the
+/// outer one. It raises `bounds`, lower bounds on the bends with each face as the outer one.
 fn try_faces(
     alloc: Global,
     plane: &mut Plane,
@@ -186,7 +190,7 @@ struct Walk {
 }
 
 impl Walk {
-    /// That of a tour that begins at the outer face.
+    /// The walk of a tour that begins at the outer face and has seen no other.
     fn new(alloc: Global, plane: &Plane) -> Result<Walk, AllocError>
         ensures { IfOk result (HasRoom plane.now) }
     {
@@ -197,8 +201,10 @@ impl Walk {
     }
 }
 
-/// Tries faces in depth-first order over shared edges, so that each move is short. Which faces it
-/// comes to is not proved: no result rests on it.
+/// Tries faces in depth-first order over shared edges, so that each move is short, and returns the moved flow. It
+/// changes the outer face, the best face so far, the bounds and the walk.
+///
+/// Which faces it comes to is not proved: no result rests on it.
 ///
 /// It walks round the outer face, and crosses each edge to a face that it has not visited yet. It walks round
 /// each face that it enters this way, and goes back across the edge by which it came.
@@ -258,7 +264,8 @@ fn next_of_tour(plane: &Plane, dart: u16, walk: &mut Walk) -> (u16, Option<u16>)
     (plane.next(from), found)
 }
 
-/// Tries a face, unless its bound proves that it is no better than the best so far.
+/// Tries a face as the outer one, unless its bound proves that it is no better than the best so far; returns the flow
+/// for the outer face. If the face is tried, it stays the outer one, and the best so far and the bounds are updated.
 fn visit(
     plane: &mut Plane,
     moving: Moving,

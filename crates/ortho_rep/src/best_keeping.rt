@@ -16,11 +16,11 @@ use flow_network::{Given, has_mark};
 use min_cost_flow::SolveFault;
 use std::alloc::{AllocError, Global};
 
-/// Makes the best face that is not barred the outer one; returns a least shape that keeps what is given.
+/// Makes the best face that is not barred the outer one; returns a least shape that keeps what is given, with prices
+/// that prove it.
 ///
-/// The shape comes with prices that prove it. The best face minimises the bends of such shapes, and has the least
-/// number among equals. `barred` has a place for each face; places past its end count as false. Each face is tried by a
-/// flow of its own.
+/// The best face minimises the bends of such shapes, and has the least number among equals. `barred` has a place for
+/// each face; places past its end count as false. Each face is tried by a flow of its own.
 ///
 /// # Errors
 ///
@@ -51,8 +51,8 @@ pub fn best_shape_keeping(
     }
 }
 
-/// A least shape that keeps what is given, with the best outer face, and prices that prove it. After a refusal some
-/// face that was tried may be left as the outer one.
+/// Makes the best face that is not barred the outer one; returns a least shape that keeps what is given, with prices
+/// that prove it. After an error some face that was tried may be left as the outer one.
 fn best_found(
     alloc: Global,
     scratch: &mut Scratch,
@@ -76,7 +76,8 @@ fn best_found(
     }
 }
 
-/// The best face that is not barred, if with any of them there is a shape. The outer face is left as it was set last.
+/// Tries each face that is not barred as the outer one, and returns the best; `None` if with none of them a shape keeps
+/// what is given. The face tried last is left as the outer one.
 fn best_face(
     alloc: Global,
     scratch: &mut Scratch,
@@ -98,7 +99,8 @@ fn best_face(
     Ok(best)
 }
 
-/// Makes a face the outer one. How many bends are needed then, if there is a shape.
+/// Makes a face the outer one, and returns the fewest bends of a shape that keeps what is given; `None` if there is no
+/// such shape.
 fn bends_with(
     alloc: Global,
     scratch: &mut Scratch,

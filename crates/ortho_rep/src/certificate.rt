@@ -80,11 +80,11 @@ impl Prices {
     }
 }
 
-/// Whether the prices prove that the shape has the fewest bends (complementary slackness).
+/// Whether the prices prove that the shape, if `is_shape` accepts it, has the fewest bends (complementary slackness).
 ///
 /// All four lists must have the plane's lengths, and each dart's angle and turns must agree with the prices of its
-/// head, of its face and of the face across. A shape that `is_shape` accepts too then has the fewest bends, whoever
-/// made it and its prices. It allocates nothing; linear in the turns and the darts.
+/// head, of its face and of the face across. It does not matter who made the shape and its prices. It allocates
+/// nothing; linear in the turns and the darts.
 pub fn certify(plane: &Plane, shape: &Shape, prices: &Prices) -> bool
     ensures exact { IsTrue result ↔ IsProof plane.now shape.now prices.now }
     ensures least { IsTrue result → IsShape plane.now shape.now → IsLeast plane.now shape.now }
@@ -92,11 +92,11 @@ pub fn certify(plane: &Plane, shape: &Shape, prices: &Prices) -> bool
     certify_keeping(plane, &Given::nothing(), shape, prices)
 }
 
-/// Whether the prices prove that the shape has the fewest bends of all that keep what is given.
+/// Whether the prices prove that the shape, if `is_shape` accepts it, has the fewest bends of all that keep what is
+/// given.
 ///
-/// What is given must be as it is given, and the prices must agree with all other angles and turns of the shape. For an angle
-/// or turns that are given the prices there say nothing. A shape that `is_shape` accepts too has the fewest bends of all that
-/// keep what is given.
+/// What is given must be as it is given, and the prices must agree with all other angles and turns of the shape. For an
+/// angle or turns that are given the prices there say nothing.
 pub fn certify_keeping(plane: &Plane, given: &Given<'_>, shape: &Shape, prices: &Prices) -> bool
     ensures exact { IsTrue result ↔ IsProofKeeping plane.now given.now shape.now prices.now }
     ensures least { IsTrue result → IsShape plane.now shape.now → IsLeastKeeping plane.now given.now shape.now }
@@ -104,7 +104,7 @@ pub fn certify_keeping(plane: &Plane, given: &Given<'_>, shape: &Shape, prices: 
     has_darts(plane, shape) && has_prices(plane, prices) && are_priced(plane, given, shape, prices)
 }
 
-/// Whether each vertex and each face has a price.
+/// Whether there is a price for each vertex and each face of the plane, and no more.
 fn has_prices(plane: &Plane, prices: &Prices) -> bool
     ensures { IsTrue result ↔ HasPrices plane.now prices.now }
 {
@@ -112,7 +112,7 @@ fn has_prices(plane: &Plane, prices: &Prices) -> bool
         && prices.face_count() == usize::from(plane.face_count())
 }
 
-/// Whether all darts agree with the prices.
+/// Whether the angle and the turns of each dart are as given, or agree with the prices if they are not given.
 fn are_priced(plane: &Plane, given: &Given<'_>, shape: &Shape, prices: &Prices) -> bool
     requires darts { HasDarts plane.now shape.now }
     requires prices { HasPrices plane.now prices.now }
@@ -127,7 +127,7 @@ fn are_priced(plane: &Plane, given: &Given<'_>, shape: &Shape, prices: &Prices) 
     true
 }
 
-/// Whether a dart agrees with the prices.
+/// Whether the angle and the turns of a dart are as given, or agree with the prices if they are not given.
 fn is_priced_at(plane: &Plane, given: &Given<'_>, shape: &Shape, prices: &Prices, dart: u16) -> bool
     requires within { dart < darts plane.now }
     requires darts { HasDarts plane.now shape.now }
@@ -162,7 +162,7 @@ fn are_turns_kept(given: Option<i32>, turns: &[Turn], face: i32, across: i32) ->
     }
 }
 
-/// Whether these are just so many left turns, or where the number is negative as many right turns.
+/// Whether the turns are exactly `lefts` left turns, or `-lefts` right turns if `lefts` is negative.
 fn are_one_way(turns: &[Turn], lefts: i32) -> bool
     ensures { IsTrue result ↔ (turns.now ≡ one_way lefts) }
 {
@@ -197,7 +197,8 @@ fn crossing_agrees(turns: &[Turn], face: i32, across: i32) -> bool
     }
 }
 
-/// What a bend costs more than a unit across, between faces of these prices, gains.
+/// The reduced cost of a unit from a face to the face across: 1, plus the price of the face, less that of the one
+/// across.
 fn reduced_cost(face: i32, across: i32) -> i64
     ensures { result ≡ (pos 1 +ℤ face -ℤ across) }
 {

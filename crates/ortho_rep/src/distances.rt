@@ -28,7 +28,8 @@ struct Distances {
     queue: Vec<u16>,
 }
 
-/// Raises the bounds of faces to what distances prove, as long as they prove something new now and then.
+/// Raises the lower bounds on the bends with each face as the outer one to what distances from it prove; it stops after
+/// `MOST_USELESS` faces in a row that prove nothing new.
 pub(crate) fn raise_bounds(
     alloc: Global,
     plane: &Plane,
@@ -61,7 +62,7 @@ pub(crate) fn raise_bounds(
 }
 
 impl Distances {
-    /// Room for those of a plane.
+    /// Lists for the distances in a plane, none of which is known yet.
     fn new(alloc: Global, plane: &Plane) -> Result<Distances, AllocError>
         ensures { IfOk result (HasRoomFor plane.now) }
     {
@@ -74,7 +75,8 @@ impl Distances {
         })
     }
 
-    /// How many bends are needed at least with the face of a dart as the outer one.
+    /// How many bends are needed at least with the face of a dart as the outer one. It measures all distances from that
+    /// face, and so goes over the whole plane.
     fn bound(&mut self, plane: &Plane, dart: u16) -> u64
         requires room { HasRoomFor plane.now self.old }
         requires dart { dart < darts plane.now }
@@ -87,8 +89,8 @@ impl Distances {
     }
 }
 
-/// How many bends distances from the face of a dart show to be needed with it as the outer one; 0 if they are no such
-/// distances.
+/// The number of bends that distances of faces and vertices prove to be needed with the face of a dart as the outer
+/// one; 0 if `far` cannot be distances from it.
 fn needed(plane: &Plane, dart: u16, far: &[u16], near: &[u16]) -> u64
     requires dart { dart < darts plane.now }
     requires far { plane.now.faces ≤ length far.now }
@@ -109,7 +111,8 @@ fn needed(plane: &Plane, dart: u16, far: &[u16], near: &[u16]) -> u64
     excess(plane, far, near)
 }
 
-/// Gives each face its distance from that of a dart, by a breadth-first search (Moore 1959).
+/// Writes to `far` the distance of each face from that of dart `start`, by a breadth-first search (Moore 1959) that
+/// overwrites `queue`.
 fn measure_faces(plane: &Plane, start: u16, far: &mut [u16], queue: &mut [u16])
     requires start { start < darts plane.now }
     requires far { plane.now.faces ≤ length far.old }
@@ -130,7 +133,8 @@ fn measure_faces(plane: &Plane, start: u16, far: &mut [u16], queue: &mut [u16])
     }
 }
 
-/// Reaches the faces across the edges of a dart's face that were not reached before; how many are reached then.
+/// Gives a distance to each face across an edge of a dart's face that was not reached before, and queues it; returns
+/// how many faces are reached then.
 fn leave(plane: &Plane, first: u16, far: &mut [u16], queue: &mut [u16], reached: usize) -> usize
     requires first { first < darts plane.now }
     requires far { plane.now.faces ≤ length far.old }
@@ -152,7 +156,7 @@ fn leave(plane: &Plane, first: u16, far: &mut [u16], queue: &mut [u16], reached:
     reached
 }
 
-/// Gives each vertex the distance of the nearest of its faces.
+/// Writes to `near` for each vertex the distance of the nearest of its faces, and 0 at place 0.
 fn measure_vertices(plane: &Plane, far: &[u16], near: &mut [u16])
     requires far { plane.now.faces ≤ length far.now }
     requires near { vertices plane.now < length near.old }
@@ -169,7 +173,7 @@ fn measure_vertices(plane: &Plane, far: &[u16], near: &mut [u16])
     }
 }
 
-/// Whether no face is further away than one across an edge and one edge more.
+/// Whether the distances of the two faces of each edge differ by at most 1.
 fn are_smooth(plane: &Plane, far: &[u16]) -> bool
     requires { plane.now.faces ≤ length far.now }
     ensures { IsTrue result → AreSmooth plane.now far.now }
@@ -197,7 +201,7 @@ fn excess(plane: &Plane, far: &[u16], near: &[u16]) -> u64
     (4 * all).saturating_sub(at_darts(plane, far, near))
 }
 
-/// The sum of the first numbers of a list.
+/// The sum of the first `count` numbers of a list.
 fn sum_of(list: &[u16], count: usize) -> u64
     requires within { count ≤ length list.now }
     requires few { count < 2 ^ 32 }

@@ -166,8 +166,8 @@ impl Model for FlatPoints {
 }
 
 impl FlatPoints {
-    /// The vertices have the points of the first list, and edge e has the corners from place `starts[e]` to place
-    /// `starts[e + 1]`.
+    /// Makes one list of the points by appending to `vertices`; edge e has the corners from place `starts[e]` to place
+    /// `starts[e + 1]`. `AllocError` also if there are more than 4,294,967,295 corners.
     pub(crate) fn new(
         vertices: Vec<Point>,
         corners: &[Point],

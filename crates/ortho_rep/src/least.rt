@@ -64,7 +64,8 @@ pub fn least_shape_in(
     }
 }
 
-/// An orthogonal representation of fewest bends among those that keep what is given, and prices that prove it.
+/// An orthogonal representation of fewest bends among those that keep what is given, and prices that prove it; reuses
+/// the scratch.
 ///
 /// It is [`least_shape`] with each given angle and the given turns of each edge as they are, whatever a unit there would
 /// gain. It reuses the scratch, as [`least_shape_in`]; after a refusal some of that may be lost, and the next call allocates
@@ -97,7 +98,8 @@ pub fn least_shape_keeping_in(
     Ok(made)
 }
 
-/// The representation that a flow of least cost is with what is given, and its prices, in the memory of these lists.
+/// The representation that a flow of least cost and what is given determine, and its prices; both take their buffers
+/// from `lists`.
 pub(crate) fn shape_in(
     alloc: Global,
     lists: &mut ShapeLists,
@@ -135,7 +137,7 @@ fn crossing_flow(net: &FaceNet, solved: &Solved, dart: u16) -> u32
     solved.flow(net.crossing_arc(dart))
 }
 
-/// The angles and the turns of a flow with what is given, in the buffer of a list.
+/// The angle and the turns of each dart, by a flow of least cost and what is given, in the buffer of `lent`.
 fn darts_in(
     lent: Vec<DartShape>,
     plane: &Plane,
@@ -156,8 +158,7 @@ fn darts_in(
     darts_with(lent, plane, given, net, solved)
 }
 
-/// The angles and the turns of a flow with what is given, in the buffer of a list. It is inlined, so that no list is
-/// read where nothing is given.
+/// The angle and the turns of each dart, as `darts_in`; inlined, so that no list is read where nothing is given.
 #[inline(always)]
 fn darts_with(
     lent: Vec<DartShape>,
@@ -257,7 +258,7 @@ fn given_turns(turns: i32) -> (Turn, u16)
     }
 }
 
-/// These numbers, in the memory of a list.
+/// A copy of `numbers` in the buffer of `lent`.
 fn copy_into(lent: Vec<i32>, numbers: &[i32]) -> Result<Vec<i32>, AllocError>
     ensures { IfOk result (λ copy. copy.items ≡ numbers.now) }
 {

@@ -30,7 +30,7 @@ pub fn is_shape(plane: &Plane, shape: &Shape) -> bool
         && has_whole_sums(plane, shape)
 }
 
-/// Whether each dart has an angle and a string.
+/// Whether the shape has an angle and a string for each dart of the plane, and no more.
 pub(crate) fn has_darts(plane: &Plane, shape: &Shape) -> bool
     ensures { IsTrue result ↔ HasDarts plane.now shape.now }
 {
@@ -88,7 +88,7 @@ fn has_whole_sums(plane: &Plane, shape: &Shape) -> bool
     }
 }
 
-/// Whether the angles round each vertex sum to 4, by N sums.
+/// Whether the angles round each vertex sum to 4. N, the size of its array of sums, exceeds the number of vertices.
 #[inline(never)]
 fn angles_sum_to_four<const N: usize>(plane: &Plane, shape: &Shape) -> bool
     requires darts { HasDarts plane.now shape.now }
@@ -108,7 +108,7 @@ fn angles_sum_to_four<const N: usize>(plane: &Plane, shape: &Shape) -> bool
     true
 }
 
-/// Sums the angles that arrive at each vertex.
+/// Adds to `sums[v]` the angles of the darts that arrive at vertex v, for each vertex. All sums must be 0 before.
 pub fn add_angles(plane: &Plane, shape: &Shape, sums: &mut [u32])
     requires darts { HasDarts plane.now shape.now }
     requires room { vertices plane.now < length sums.old }
@@ -122,8 +122,8 @@ pub fn add_angles(plane: &Plane, shape: &Shape, sums: &mut [u32])
     }
 }
 
-/// Whether the darts of each inner face turn once to the left, and those of the outer face to the right, by N sums of
-/// left turns, and as many of right turns.
+/// Whether the darts of each inner face turn once to the left, and those of the outer face once to the right. N, the
+/// size of its two arrays of sums, is at least the number of faces.
 #[inline(never)]
 fn turns_faces<const N: usize>(plane: &Plane, shape: &Shape) -> bool
     requires darts { HasDarts plane.now shape.now }
@@ -146,7 +146,7 @@ fn turns_faces<const N: usize>(plane: &Plane, shape: &Shape) -> bool
     true
 }
 
-/// Whether these numbers of left and right turns make one turn round a face.
+/// Whether `left_sum` is four more than `right_sum`, or four less for the outer face: one turn round a face.
 fn turns_once(left_sum: u64, right_sum: u64, is_outer: bool) -> bool
     ensures { IsTrue result ↔ ((pos left_sum -ℤ pos right_sum) ≡ (if is_outer then negsuc 3 else pos 4)) }
 {
@@ -157,7 +157,8 @@ fn turns_once(left_sum: u64, right_sum: u64, is_outer: bool) -> bool
     }
 }
 
-/// Sums round each face what its darts turn to the left, and what they turn to the right.
+/// Fills two sums for each face, whose difference, left less right, is the number of quarter turns to the left of its
+/// darts, angles included. All sums must be 0 before.
 pub fn add_turns(plane: &Plane, shape: &Shape, left_sums: &mut [u64], right_sums: &mut [u64])
     requires darts { HasDarts plane.now shape.now }
     requires left_sum_room { plane.now.faces ≤ length left_sums.old }

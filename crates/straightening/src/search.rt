@@ -21,7 +21,7 @@ pub(crate) struct ShapeFlow {
 }
 
 impl ShapeFlow {
-    /// That of no shape.
+    /// The flow of no shape yet: all angles and numbers of turns are 0.
     pub(crate) fn new() -> ShapeFlow {
         ShapeFlow {
             angles: [0; MAX_DARTS],
@@ -29,7 +29,7 @@ impl ShapeFlow {
         }
     }
 
-    /// Takes over a shape.
+    /// Copies the angle and the number of left turns, at most 65,535, of each dart from a shape.
     pub(crate) fn load(&mut self, plane: &Plane, shape: &Shape)
         requires { HasDarts plane.now shape.now }
     {
@@ -55,8 +55,8 @@ impl ShapeFlow {
         self.lefts[usize::from(dart)]
     }
 
-    /// Moves a unit from the angle of a dart to the angle of another one, or across the edge if that is its reverse:
-    /// back where the reverse turns to the left.
+    /// Moves a unit from the angle of dart `give` to that of dart `take`. If `take` is the reverse of `give`, it takes
+    /// a left turn from `take` instead, or adds one to `give` if `take` has none.
     pub(crate) fn send(&mut self, plane: &Plane, give: u16, take: u16)
         requires give { give < darts plane.now }
         requires take { take < darts plane.now }
@@ -72,7 +72,8 @@ impl ShapeFlow {
         }
     }
 
-    /// The shape that this is, in one list, if no dart turns both ways.
+    /// A new shape, which may be no representation, with these angles and turns, at most `MAX_REPEATS` a dart. If both
+    /// darts of an edge have left turns, each gets its own alone.
     ///
     /// # Errors
     ///
@@ -86,7 +87,8 @@ impl ShapeFlow {
         Ok(Shape::of_darts(found))
     }
 
-    /// The angle of a dart and its turns, at most `MAX_REPEATS`: to the left, or else those of its reverse.
+    /// The angle of a dart and its turns, at most `MAX_REPEATS`: its left turns, or if it has none the left turns of
+    /// its reverse as right turns.
     fn dart_shape(&self, plane: &Plane, dart: u16) -> DartShape
         requires { dart < darts plane.now }
         ensures { result.count ≤ MAX_REPEATS }
@@ -171,14 +173,15 @@ impl FaceSearch {
         }
     }
 
-    /// Forgets what was searched in another plane.
+    /// Marks all faces of a plane as not reached, so that the search can begin in this plane.
     pub(crate) fn clear(&mut self, plane: &Plane) {
         for face in 0..plane.face_count() {
             self.goals[usize::from(face)] = NO_DART;
         }
     }
 
-    /// Looks for a path, and returns whether there is one. Each path that is asked for in a plane has a different dart as its end.
+    /// Searches for a path from the face of `path.from` to that of `path.to` by steps of reduced cost 0, and returns
+    /// whether there is one. Between two calls of `clear`, no two searches may have the same `path.to`.
     pub(crate) fn finds(
         &mut self,
         plane: &Plane,
@@ -203,7 +206,7 @@ impl FaceSearch {
         self.goals[end] == path.to
     }
 
-    /// Begins at the first face of a path.
+    /// Begins a search: marks the face of `path.from` as reached, and queues that dart alone.
     fn begin(&mut self, plane: &Plane, path: PathEnds)
         requires { path.from < darts plane.now }
     {
@@ -217,7 +220,8 @@ impl FaceSearch {
         self.found = 1;
     }
 
-    /// Takes each step out of the face of a dart.
+    /// Takes each step out of the face of dart `first` that is allowed; the faces entered are marked as reached, and
+    /// queued.
     fn leave(&mut self, plane: &Plane, prices: &Prices, flow: &ShapeFlow, first: u16, goal: u16)
         requires prices { HasPrices plane.now prices.now }
         requires first { first < darts plane.now }
@@ -266,7 +270,8 @@ impl FaceSearch {
         self.step_to_angle(plane, prices, step, third);
     }
 
-    /// Takes the step from the angle of its dart to this one, if that is another one and tight.
+    /// Takes the step from the angle of its dart to that of dart `take`, if that is another dart and its angle is
+    /// tight.
     fn step_to_angle(&mut self, plane: &Plane, prices: &Prices, step: FaceStep, take: u16)
         requires prices { HasPrices plane.now prices.now }
         requires take { take < darts plane.now }
@@ -276,7 +281,8 @@ impl FaceSearch {
         }
     }
 
-    /// Enters the face of a dart by it, by a step, unless this search was there.
+    /// Marks the face of dart `take` as reached by this step, and queues `take`, unless this search has reached the
+    /// face before.
     fn reach(&mut self, plane: &Plane, step: FaceStep, take: u16)
         requires { take < darts plane.now }
     {
@@ -297,7 +303,7 @@ impl FaceSearch {
         }
     }
 
-    /// Sends a unit along the path that was found last.
+    /// Moves a unit in `flow` along `path`, which the last call of `finds` found.
     pub(crate) fn send(&self, plane: &Plane, flow: &mut ShapeFlow, path: PathEnds)
         requires { path.to < darts plane.now }
     {

@@ -37,7 +37,8 @@ struct Workspace {
 }
 
 impl Workspace {
-    /// One in which nothing was straightened. Only this function pays for the room that it takes while it is made.
+    /// A new workspace on the heap, in which nothing was straightened. Only this function's stack frame holds it while
+    /// it is made.
     #[inline(never)]
     fn boxed(alloc: Global) -> Result<Box<Workspace>, AllocError> {
         let workspace = Workspace {
@@ -92,8 +93,8 @@ pub fn straighten_in(
     made
 }
 
-/// A least shape with as many bends and no more reflex angles, made in lists that are there, from the head of a dart
-/// on.
+/// A least shape with as many bends as `shape` and no more reflex angles, found in the lists of `workspace`. Only
+/// vertices at the heads of dart `first` and later darts are made straight.
 fn straighten_shape(
     alloc: Global,
     workspace: &mut Workspace,
@@ -126,7 +127,7 @@ fn straighten_shape(
     }
 }
 
-/// The first dart whose head turns and may give a unit from its reflex angle to its right angle.
+/// The first dart with a reflex angle that may give a unit to the right angle of its vertex; `None` if there is none.
 fn first_movable(plane: &Plane, shape: &Shape, prices: &Prices) -> Option<u16>
     requires darts { HasDarts plane.now shape.now }
     requires prices { HasPrices plane.now prices.now }
@@ -153,7 +154,8 @@ fn count_reflex(plane: &Plane, shape: &Shape) -> u16
     count
 }
 
-/// Makes each vertex of degree 2 straight where it can, from the head of a dart on, and returns whether it did anywhere.
+/// Makes straight in `flow` each vertex of degree 2 where it can, at the heads of dart `first` and later darts, and
+/// returns whether it did anywhere.
 fn straighten_from(
     flow: &mut ShapeFlow,
     search: &mut FaceSearch,
@@ -173,7 +175,8 @@ fn straighten_from(
     moved
 }
 
-/// Makes the vertex with this reflex angle straight where a path leads back, and returns whether it did.
+/// Makes the vertex with this reflex angle straight in `flow` if its two angles are in one face or a path leads back,
+/// and returns whether it did.
 fn straighten_one(
     flow: &mut ShapeFlow,
     search: &mut FaceSearch,
