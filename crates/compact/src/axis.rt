@@ -36,7 +36,8 @@ pub enum Relaxation {
     Wide,
 }
 
-/// Raises the coordinate that a constraint ends at, if the constraint is not satisfied.
+/// Raises the coordinate at which a constraint ends, if the constraint is not satisfied, and returns whether it did.
+/// `Wide` means that the constraint needs more than 65,535; nothing changes then.
 fn relax(constraint: Constraint, coordinates: &mut [u16]) -> Relaxation
     requires from { constraint.from < length coordinates.old }
     requires to { constraint.to < length coordinates.old }
@@ -55,7 +56,8 @@ fn relax(constraint: Constraint, coordinates: &mut [u16]) -> Relaxation
     Relaxation::Raised
 }
 
-/// Raises coordinates, constraint by constraint, if a constraint is not satisfied.
+/// Raises coordinates, constraint by constraint, if a constraint is not satisfied; returns `Raised` if it raised any,
+/// and otherwise `Satisfied`. At the first constraint that needs more than 65,535 it stops and returns `Wide`.
 fn relax_all(constraints: &[Constraint], coordinates: &mut [u16]) -> Relaxation
     requires inside { AreInRange (length coordinates.old) constraints.now }
     requires low { IsLow constraints.now (length coordinates.old) (λ v. slice_index coordinates.old v) }
@@ -123,7 +125,7 @@ fn least_difference(axis: Axis, direction: Direction) -> Option<u8>
     }
 }
 
-/// Writes the constraints along an axis over this list: one for each dart that does not run against it.
+/// Replaces `constraints` by those along an axis: one for each dart that does not run against it.
 fn constraints_along(
     boxes: &Boxes,
     axis: Axis,
@@ -161,8 +163,8 @@ fn is_arc_satisfied(along: &[u16], across: &[u16], vertex: usize, to: u32) -> bo
     grows & (across[vertex] == across[end])
 }
 
-/// Whether coordinates grow along the darts, on both axes. `around` has the neighbours of each vertex:
-/// those to the east and to the north say it of all darts, since the others go back along them.
+/// Whether on both axes coordinates grow along the darts, and stay the same along the darts across. It looks only at
+/// the neighbours to the east and to the north in `around`, since the other darts go back along the same edges.
 fn are_along(boxes: &Boxes, around: &[u32], x: &[u16], y: &[u16]) -> bool
     requires all_neighbours { HasNeighbours (dart_map boxes.now) around.now boxes.now.darts }
     requires around { length around.now ≡ 4 * boxes.now.vertices }
@@ -183,8 +185,10 @@ fn are_along(boxes: &Boxes, around: &[u32], x: &[u16], y: &[u16]) -> bool
     true
 }
 
-/// Coordinates that are nowhere above any that grow along the darts of an axis: the lengths of longest
-/// paths, found segment by segment, in the buffer of a list. `around` has the neighbours of each
+/// Coordinates of the vertices, in the buffer of `coordinates`, that are nowhere above any that grow along the darts of
+/// an axis. `segments` is only the stack of the search, and grows if it is too short.
+///
+/// The coordinates are the lengths of longest paths, found segment by segment. `around` has the neighbours of each
 /// vertex. Linear in the vertices, if all faces are boxes. It is inlined, so that the directions of an axis are
 /// constants.
 #[inline(always)]
@@ -214,8 +218,8 @@ fn low_along(
     Ok(coordinates)
 }
 
-/// Raises coordinates that are nowhere above any that grow along the darts of an axis, until they grow so
-/// too: then they are the least.
+/// Raises coordinates that are nowhere above any that grow along the darts of an axis until they grow along them too,
+/// and returns them: the least that do. `Wide` if one would exceed 65,535; `constraints` is overwritten.
 fn relaxed_along(
     boxes: &Boxes,
     axis: Axis,
@@ -236,9 +240,10 @@ fn relaxed_along(
     Ok(coordinates)
 }
 
-/// Returns the x and y coordinates of the vertices: the least that grow along the darts.
+/// Returns the x and y coordinates of the vertices: the least that grow along the darts; `Wide` if one would exceed
+/// 65,535. `segments` and `constraints` are overwritten.
 ///
-/// They reuse the buffers of `x` and `y`. `around` has the neighbours of each vertex.
+/// The coordinates reuse the buffers of `x` and `y`. `around` has the neighbours of each vertex.
 pub fn least_coordinates(
     boxes: &Boxes,
     around: &[u32],

@@ -87,8 +87,8 @@ struct SegmentStack<'a> {
 }
 
 impl SegmentStack<'_> {
-    /// Pushes a vertex, if it is to come. The place on top is written in any case: which vertices come cannot be
-    /// predicted, so no branch depends on it.
+    /// Pushes a vertex if `comes` is true and the stack is not full. The place on top is written in any case: which
+    /// vertices come cannot be predicted, so no branch depends on it.
     fn push(&mut self, first: u32, comes: bool) {
         if self.count < self.firsts.len() {
             self.firsts[self.count] = first;
@@ -96,7 +96,7 @@ impl SegmentStack<'_> {
         }
     }
 
-    /// Pops the uppermost vertex, or returns one out of range if there is none.
+    /// Pops the uppermost vertex and returns it, or `NO_VERTEX` if there is none.
     fn pop(&mut self) -> u32 {
         let Some(top) = self.count.checked_sub(1) else {
             return NO_VERTEX;
@@ -176,7 +176,7 @@ fn place_vertex(
 }
 
 /// Gives all vertices of the segment with this first vertex the greatest coordinate among them, and the next ones along
-/// the axis one more.
+/// the axis one more, but no more than 65,535. Pushes those of the next ones that are the first of their segments.
 #[inline(always)]
 fn place_segment(
     neighbours: Neighbours<'_>,

@@ -19,7 +19,8 @@ use ortho_rep::{Prices, Scratch, Shape, SolveFault, best_shape_keeping, least_sh
 use std::alloc::{AllocError, Global};
 use std::marker::Model;
 
-/// Makes the chosen face the outer one, and returns a least shape that keeps the conditions, with prices that prove it.
+/// Makes the chosen face the outer one, and returns a shape with the fewest bends that keeps the conditions, with
+/// prices that prove it. The outer face may change even if it returns an error.
 ///
 /// `First` is the face with the most darts of those that may be outside; `Best` the one with which the fewest bends are
 /// needed to keep what is given; among equals both are the one with the least number, which has the least dart.
@@ -51,7 +52,8 @@ pub fn shape_keeping_in(
     }
 }
 
-/// Why no shape keeps what is given, told of the greatest face that may be outside.
+/// Makes `by_darts.greatest` the outer face, and returns `NoShape` with a cut that proves that no shape keeps what is
+/// given; `Memory` if memory runs out.
 fn no_shape_fault(alloc: Global, plane: &mut Plane, by_darts: &DartConditions) -> KeepFault
     requires face { by_darts.now.greatest < plane.old.faces }
     requires none { HasNoneKeeping (with_outer plane.old by_darts.now.greatest) by_darts.now.given }
@@ -90,7 +92,7 @@ impl Model for DartConditions {
 }
 
 impl DartConditions {
-    /// What is given of the darts.
+    /// The angles and turns that a shape is to keep, by darts; borrows the two lists.
     fn given(&self) -> Given<'_>
         ensures { result ≡ self.now.given }
     {
@@ -98,7 +100,8 @@ impl DartConditions {
     }
 }
 
-/// The conditions by darts and faces of the plane.
+/// Converts conditions by vertices to conditions by darts and faces of the plane, and finds the face with the most
+/// darts that may be outside. An error says what is wrong with the conditions, or that memory ran out.
 fn conditions_by_darts(
     alloc: Global,
     plane: &Plane,
@@ -133,7 +136,8 @@ fn conditions_by_darts(
     }
 }
 
-/// The least shape that keeps what is given with the chosen outer face, and its prices.
+/// Makes the chosen face the outer one, and returns a least shape with it that keeps what is given, and its prices;
+/// `Infeasible` if there is none. The outer face may change even if it returns an error.
 fn chosen_shape(
     alloc: Global,
     scratch: &mut Scratch,
@@ -174,7 +178,7 @@ fn greatest_open(plane: &Plane, barred: &[bool]) -> Option<u16>
     best
 }
 
-/// The greatest face so far, if it has as many darts as another one, or that one.
+/// Returns `best` if it has at least as many darts as `face`; otherwise, or if `best` is `None`, returns `face`.
 fn greater(plane: &Plane, best: Option<u16>, face: u16) -> Option<u16>
     requires face { face < plane.now.faces }
     requires best { IfSome best (λ so_far. so_far < plane.now.faces) }

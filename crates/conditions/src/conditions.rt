@@ -68,7 +68,7 @@ pub(crate) fn is_named(plane: &Plane, dart: u16, from: u16, to: u16) -> bool
     from == graph.tail(dart) && to == graph.head(dart)
 }
 
-/// Whether some dart has these ends.
+/// Whether some dart leads from the vertex `from` to the vertex `to`. Linear in the darts of the plane.
 pub(crate) fn is_dart(plane: &Plane, from: u16, to: u16) -> bool
     ensures { IsTrue result ↔ IsDart plane.now from to }
 {
@@ -89,7 +89,8 @@ fn is_among(plane: &Plane, list: &[DartEnds], dart: u16) -> bool
         .any(|ends| is_named(plane, dart, ends.from, ends.to))
 }
 
-/// Marks of the faces on the left of the darts of a list.
+/// Returns a mark for each face: true if the face is on the left of a dart of `list`. It goes over `list` for each dart
+/// of the plane.
 pub(crate) fn barred_of(
     alloc: Global,
     plane: &Plane,
@@ -113,7 +114,7 @@ fn mark_faces(plane: &Plane, list: &[DartEnds], barred: &mut [bool])
     }
 }
 
-/// Marks a place, or not.
+/// Sets the mark at a place if `yes` is true, and otherwise leaves it as it is.
 fn mark(marks: &mut [bool], place: usize, yes: bool)
     requires { place < length marks.old }
     ensures { marks.new ≡ (if yes then slice_set marks.old place true else marks.old) }
@@ -133,7 +134,8 @@ pub(crate) fn are_angles(conditions: &Conditions<'_>) -> bool
         .all(|asked| 1 <= asked.angle && asked.angle <= 4)
 }
 
-/// Whether all vertices that name an edge or a face are adjacent.
+/// Whether the two vertices of each condition, on turns, angles or inner faces, are adjacent. Linear in the darts of
+/// the plane for each condition.
 pub(crate) fn are_darts(plane: &Plane, conditions: &Conditions<'_>) -> bool
     ensures { IsTrue result ↔ AreDarts plane.now conditions.now }
 {
@@ -151,7 +153,7 @@ pub(crate) fn are_darts(plane: &Plane, conditions: &Conditions<'_>) -> bool
             .all(|ends| is_dart(plane, ends.from, ends.to))
 }
 
-/// The dart that leads from one vertex to another.
+/// The dart that leads from one vertex to another; there must be one. Linear in the darts of the plane.
 fn dart_of(plane: &Plane, from: u16, to: u16) -> u16
     requires { IsDart plane.now from to }
     ensures inside { result < darts plane.now }
@@ -165,7 +167,8 @@ fn dart_of(plane: &Plane, from: u16, to: u16) -> u16
     unreachable!()
 }
 
-/// The angles that are asked for, by darts.
+/// Returns a list with an entry for each dart: the angle that is asked for at its head, or `None`. It goes over the
+/// darts for each entry of `list`.
 ///
 /// # Errors
 ///
@@ -191,7 +194,7 @@ pub(crate) fn angles_of(
     Ok(found)
 }
 
-/// Puts an angle at a dart, and returns whether no other one was there.
+/// Sets the angle of a dart if it has none; returns false if it has another one, which stays.
 fn put_angle(found: &mut [Option<u8>], dart: u16, angle: u8) -> bool
     requires { dart < length found.old }
     ensures put { IsTrue result → IsPut dart angle found.old found.new }
@@ -205,7 +208,8 @@ fn put_angle(found: &mut [Option<u8>], dart: u16, angle: u8) -> bool
     true
 }
 
-/// The turns that are asked for, at the lesser darts of edges.
+/// Returns a list with an entry for each dart: for the lesser dart of an edge the turns that are asked for along it, or
+/// `None`; for the other one `None`. It goes over the darts for each entry of `list`.
 ///
 /// # Errors
 ///
@@ -230,7 +234,8 @@ pub(crate) fn turns_of(
     Ok(found)
 }
 
-/// Puts turns along a dart at the lesser dart of its edge, and returns whether no others were there.
+/// Sets turns along a dart, stored as turns along the lesser dart of its edge, if that has none; returns false if it
+/// has others, which stay.
 fn put_along(plane: &Plane, found: &mut [Option<i32>], dart: u16, turns: i16) -> bool
     requires size { length found.old ≡ darts plane.now }
     requires few { All AreFew found.old }
@@ -263,7 +268,7 @@ fn reversed(turns: i16) -> i32
     -i32::from(turns)
 }
 
-/// Puts turns at a dart, and returns whether no others were there.
+/// Sets the turns at a dart if it has none; returns false if it has others, which stay.
 fn put_turns(found: &mut [Option<i32>], dart: u16, turns: i32) -> bool
     requires dart { dart < length found.old }
     requires few { All AreFew found.old }

@@ -76,7 +76,8 @@ fn face_marks(alloc: Global, plane: &Plane, nodes: &[bool]) -> Result<Vec<bool>,
     Ok(faces)
 }
 
-/// A mark for each vertex that has something to turn, and all of whose angles that are not given lie in these faces.
+/// Returns a mark for each vertex: true if it has something to turn, and all its angles that are not given lie in
+/// marked faces. It goes over all darts of the plane for each vertex.
 fn vertex_marks(
     alloc: Global,
     plane: &Plane,
@@ -96,7 +97,8 @@ fn vertex_marks(
     Ok(marks)
 }
 
-/// Whether a vertex has something to turn, and all its angles that are not given lie in these faces.
+/// Whether a vertex has something to turn, and all its angles that are not given lie in marked faces. It goes over all
+/// darts of the plane.
 fn lies_in_cut(plane: &Plane, given: &Given<'_>, faces: &[bool], vertex: u16) -> bool
     requires some { 0 < vertex }
     requires within { vertex ≤ vertices plane.now }

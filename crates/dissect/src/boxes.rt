@@ -51,7 +51,7 @@ impl Boxes {
         }
     }
 
-    /// Returns the buffers of these boxes to the scratch that they came from.
+    /// Consumes the boxes, and moves the buffers of their lists to a scratch in place of those of the same lists there.
     pub fn give_back(self, scratch: &mut Scratch) {
         let (darts, starts) = self.paths.into_parts();
         scratch.table = self.table;
@@ -60,7 +60,7 @@ impl Boxes {
         scratch.starts = starts;
     }
 
-    /// The number of vertices.
+    /// The number of vertices of the boxes, those of the plane included.
     pub fn vertices(&self) -> u32
         ensures value { result ≡ self.now.vertices }
         ensures boxes { AreBoxes self.now }
@@ -68,7 +68,7 @@ impl Boxes {
         self.table.vertices
     }
 
-    /// The number of darts, twice the number of edges.
+    /// The number of darts of the boxes: twice the number of their edges, but not of the plane's, which `edges` counts.
     pub fn darts(&self) -> u32
         ensures value { result ≡ self.now.darts }
         ensures boxes { AreBoxes self.now }

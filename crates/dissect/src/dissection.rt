@@ -76,7 +76,7 @@ impl DirectionSearch {
         }
     }
 
-    /// A search in which none of this many darts has a direction yet, in the same buffers.
+    /// Consumes the search, and returns one in its buffers in which none of `darts` darts has a direction yet.
     fn begun(self, darts: usize) -> Result<DirectionSearch, AllocError>
         ensures unset { IfOk result (λ s. s.directions.items ≡ replicate darts NO_DIRECTION) }
         ensures waiting { IfOk result (λ s. s.waiting.items ≡ []) }
@@ -87,7 +87,7 @@ impl DirectionSearch {
         })
     }
 
-    /// Gives a dart this direction, and lets it wait, unless it has one.
+    /// Gives a dart this direction and pushes it on the stack of waiting darts, unless it has a direction already.
     fn reach(&mut self, dart: u16, direction: u8) -> Result<(), AllocError>
         requires { dart < vec_len self.old.directions }
         ensures { OnOk result (IsGivenDirection self.old.directions.items self.old.waiting.items dart direction
@@ -101,8 +101,7 @@ impl DirectionSearch {
     }
 }
 
-/// The direction of the dart that arrives next clockwise at the vertex of a dart with this direction
-/// and angle.
+/// The direction of the dart that arrives next clockwise at the head of a dart with this direction and angle.
 fn clockwise_direction(direction: u8, angle: u8) -> u8
     requires quarter { direction < 4 }
     requires right { angle ≤ 4 }

@@ -32,8 +32,8 @@ pub fn find_right(table: &DartTable, outer: u32) -> u32
     dart
 }
 
-/// Appends a dart to the corners if it is one, that is, if its angle is not straight. It is appended in any case,
-/// and removed again if it is none, which only changes the length: a branch could not be predicted.
+/// Appends a dart to `corners`, which must have room, unless its angle is straight (2). It is appended in any case and
+/// removed again if straight, which only changes the length: a branch could not be predicted.
 fn push_corner(corners: &mut Vec<u32>, dart: u32, angle: u8)
     requires { vec_len corners.old < vec_capacity corners.old }
     ensures put { ((angle ≢ 2) × (corners.new.items ≡ corners.old.items ++ (dart ∷ [])))
@@ -143,7 +143,8 @@ pub fn list_faces(table: &DartTable, right: u32, faces: Faces) -> Result<Faces, 
     })
 }
 
-/// Adds the face into which a cut merges the outer face and the inside of the rectangle.
+/// Appends to `faces` the corners of the face into which a cut will merge the outer face and the inside of the
+/// rectangle. The table has neither the cut nor the rectangle yet.
 ///
 /// The cut leads from `right` to the side `side`. After `right` it goes along the cut, round the inside of the
 /// rectangle and back. `right` stays one of its corners unless the cut leaves it straight.

@@ -24,7 +24,7 @@ pub fn cuts_use_right_turns()
     ensures { (w new : DartMap) → IsCutUp w new → new.vertices + reflex_turns new ≡ w.vertices + reflex_turns w }
 {}
 
-/// Each orthogonal representation of a plane determines directions of its darts.
+/// For each orthogonal representation of a plane there are directions of its darts.
 pub fn directions_exist()
     ensures { (p : PlaneModel) (a : ℕ → ℕ) (s : ℕ → List Turn) → IsPlane p → Rep p a s
         → (h : ℕ → ℕ) × AreDirections p a s h }

@@ -140,8 +140,8 @@ fn put_directions(table: &mut DartTable, directions: &[u8])
     table.direction[0..directions.len()].copy_from_slice(directions);
 }
 
-/// Writes what the table holds of a dart beside its direction: its next, its reverse, its head and its angle, and
-/// that none is before it; and the dart as the previous one of its next.
+/// Writes the next dart, reverse, head and angle of a dart of the plane to the table, with no dart before it on its
+/// edge, and makes it the previous dart of its next. Its direction and its own previous dart are not written.
 fn write_dart(table: &mut DartTable, plane: &Plane, shape: &Shape, dart: u16)
     requires within { dart < darts plane.now }
     requires space { darts plane.now ≤ room table.old }
@@ -198,10 +198,11 @@ pub fn bare_table(
     Ok(table)
 }
 
-/// The map of a plane with a vertex at each bend, so that each edge is straight; directions are those of the shape.
+/// Returns the map of a plane with a vertex at each bend, so that each edge is straight, in the buffers of `table`.
+/// `directions` must be those of the shape.
 ///
-/// The table has its darts and vertices, with room for a rectangle round it and for cuts at all right turns. `edges`
-/// has the lesser darts of the edges.
+/// The table has the map's darts and vertices, with room for a rectangle round it and for cuts at all right turns.
+/// `edges` has the lesser darts of the edges.
 ///
 /// The plane's darts keep their numbers, heads, angles and faces; vertex v has the number v - 1. Each of
 /// them is the last dart of its edge: `before` leads back along the edge, which turns as its string says. Each

@@ -41,7 +41,8 @@ pub fn cut_across(table: &mut DartTable, d: u32, c: u32)
     table.chord(d, first, chord_direction);
 }
 
-/// Whether the uppermost corners of the stack are a left turn on a left turn on a right turn.
+/// Whether the top three corners of the stack, the first `height` of `ring`, are a right turn below two left turns;
+/// false if it has fewer than three.
 fn has_hook(table: &DartTable, ring: &[u32], height: usize) -> bool
     requires high { height ≤ length ring.now }
     requires inside { All (λ a. a < room table.now) ring.now }
@@ -59,8 +60,8 @@ fn has_hook(table: &DartTable, ring: &[u32], height: usize) -> bool
     right > below + top
 }
 
-/// Reads the corner at `read`: puts it on the stack, the first `height` corners, and cuts at the uppermost
-/// ones as long as they are two left turns on a right turn. Returns the height of the stack after that.
+/// Pushes the corner at `read` on the stack, the first `height` corners of `ring`, and returns the new height. While
+/// the top of the stack is two left turns on a right turn, it cuts there: adds an edge to the table, and pops corners.
 fn read_corner(table: &mut DartTable, ring: &mut [u32], height: usize, read: usize) -> usize
     requires more { read < length ring.old }
     requires reading { let face = down (tops ring.old height) (drop read ring.old) in
@@ -87,8 +88,8 @@ fn read_corner(table: &mut DartTable, ring: &mut [u32], height: usize, read: usi
     height
 }
 
-/// The place before which the walk along the corners has turned left most, the first of them. It tracks by how many
-/// quarter turns the walk has fallen short of that place.
+/// The first place of `ring`, or its length, before which the walk along the corners has turned left the most. It
+/// tracks by how many quarter turns the walk falls short of its maximum so far.
 fn peak(angle: &[u8], ring: &[u32]) -> usize
     requires inside { All (λ a. a < length angle.now) ring.now }
     requires small { All (λ a. slice_index angle.now a ≤ 4) ring.now }
@@ -109,8 +110,8 @@ fn peak(angle: &[u8], ring: &[u32]) -> usize
     best
 }
 
-/// Rotates a ring so that it starts at another place, most often at its end, as it does already. (`rotate_left` clears
-/// 4 KB at each call.)
+/// Rotates `ring` so that the corner at `start` comes first; if `start` is its length, as most often, nothing changes.
+/// (`rotate_left` clears 4 KB at each call.)
 fn start_at(ring: &mut [u32], start: usize)
     requires { start ≤ length ring.old }
     ensures after { ring.new ≡ drop start ring.old ++ take start ring.old }
@@ -123,7 +124,8 @@ fn start_at(ring: &mut [u32], start: usize)
     ring.reverse();
 }
 
-/// Cuts the face with the corners `ring` into boxes. Linear in its corners.
+/// Cuts the face with the corners `ring` into boxes by new edges, for which the table must have room; `ring` is
+/// overwritten. Linear in its corners.
 pub fn cut_face(table: &mut DartTable, ring: &mut [u32])
     requires sound { IsSound (dart_map_of table.old) }
     requires waiting { (o : ℕ) × (rs : List (List ℕ)) × AreWaiting (dart_map_of table.old) o (ring.old ∷ rs) }
@@ -146,7 +148,7 @@ pub fn cut_face(table: &mut DartTable, ring: &mut [u32])
     }
 }
 
-/// Cuts all faces into boxes, one after another.
+/// Cuts each face listed in `corners` into boxes, one after another, by new edges, for which the table must have room.
 ///
 /// `corners` has the corners of each face in walking order, and `counts` their number for each face. What remains in
 /// `corners` does not matter. Each dart keeps the face of the plane in which it lies, and new edges divide none.

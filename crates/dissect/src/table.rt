@@ -67,9 +67,10 @@ impl DartTable {
         }
     }
 
-    /// Subdivides the edge of the dart `e` by a new vertex.
+    /// Subdivides the edge of the dart `e` by a new vertex, at which `e` and its old reverse then start. The table
+    /// needs room for two more darts.
     ///
-    /// There the walk along `e` arrives in the direction `way` and has the angle `left_angle` on its left.
+    /// At the new vertex the walk along `e` arrives in the direction `way` and has the angle `left_angle` on its left.
     pub fn subdivide(&mut self, e: u32, way: u8, left_angle: u8)
         requires tied { IsTied (dart_map_of self.old) }
         requires e_in { e < self.old.darts }
@@ -99,9 +100,10 @@ impl DartTable {
         self.vertices += 1;
     }
 
-    /// Connects the heads of the darts `d` and `f` by an edge that leaves in the direction `way`.
+    /// Connects the head of the dart `d` to the head of the dart `f` by a new edge, which leaves in the direction
+    /// `way`. The table needs room for two more darts.
     ///
-    /// It lies in the angles at the two heads.
+    /// The edge lies in the angles at the two heads.
     pub fn chord(&mut self, d: u32, f: u32, way: u8)
         requires tied { IsTied (dart_map_of self.old) }
         requires fits { HasChordAngles (dart_map_of self.old) d f way }

@@ -91,7 +91,7 @@ pub(crate) fn have_levels(wires: &[Wire], top: u16) -> bool
     true
 }
 
-/// Whether the first segment of each pair is before the second.
+/// Whether both members of each pair are segments, and the first is before the second on some level.
 fn are_sights(segments: &[Segment], sights: &[Sight]) -> bool
     ensures { (result ≡ true) ↔ ((i : ℕ) → i < length sights.now → IsSight segments.now (sight_at sights.now i)) }
 {
@@ -103,7 +103,7 @@ fn are_sights(segments: &[Segment], sights: &[Sight]) -> bool
     true
 }
 
-/// Whether the first segment of a pair is before the second.
+/// Whether both members of a pair are segments, and the first is before the second on some level.
 fn is_sight(segments: &[Segment], sight: Sight) -> bool
     ensures { (result ≡ true) ↔ IsSight segments.now sight }
 {
@@ -124,7 +124,8 @@ fn stands_before(first: Segment, second: Segment) -> bool
     low <= high && first.coordinate < second.coordinate
 }
 
-/// Whether segments keep their order with these coordinates, checked segment by segment.
+/// Whether segments keep their order on each level with these coordinates. It compares each segment with all others:
+/// quadratic in the segments.
 pub(crate) fn is_order_kept(segments: &[Segment], coordinates: &[u16]) -> bool
     requires { length coordinates.now ≡ length segments.now }
     ensures { (result ≡ true) ↔ KeepsOrder segments.now (coordinates_in coordinates.now) }
@@ -137,7 +138,8 @@ pub(crate) fn is_order_kept(segments: &[Segment], coordinates: &[u16]) -> bool
     true
 }
 
-/// Whether one segment stays before all those that it is before now.
+/// Whether with these coordinates the segment at `place` stays before all those that it is before now. Linear in the
+/// segments.
 fn keeps_order(segments: &[Segment], coordinates: &[u16], place: usize) -> bool
     requires count { length coordinates.now ≡ length segments.now }
     requires place { place < length segments.now }

@@ -31,9 +31,8 @@ impl Scratch {
     }
 }
 
-/// Whether segments keep their order with these coordinates, by a sweep or segment by segment; reuses a buffer. The time is
-/// linear in their levels if they are listed in the order of their own coordinates, and otherwise quadratic in the
-/// segments.
+/// Whether segments keep their order on each level with these coordinates; overwrites `frontier`. Linear in their
+/// levels if they are listed in the order of their own coordinates and keep it, otherwise quadratic in the segments.
 pub(crate) fn is_order_kept(
     frontier: &mut Vec<u32>,
     segments: &[Segment],
@@ -50,8 +49,8 @@ pub(crate) fn is_order_kept(
     Ok(certificate::is_order_kept(segments, coordinates))
 }
 
-/// Whether each segment, in the order in which they are listed, has a coordinate above those of all segments before it
-/// on its levels, and whether they are listed in the order of their own coordinates.
+/// Whether segments are listed in the order of their own coordinates, and each has one in `coordinates` above those of
+/// all listed before it on its levels. `frontier` must be all zeros, and is overwritten.
 fn is_swept(frontier: &mut [u32], segments: &[Segment], coordinates: &[u16]) -> bool
     requires { length coordinates.now ≡ length segments.now }
     ensures { result ≡ true → KeepsOrder segments.now (coordinates_in coordinates.now) }
@@ -70,7 +69,8 @@ fn is_swept(frontier: &mut [u32], segments: &[Segment], coordinates: &[u16]) -> 
     true
 }
 
-/// Records a coordinate on the levels of a segment; false if one of them has met one as great.
+/// Records a coordinate in `frontier` on the levels of a segment; stops and returns false at the first level that has
+/// met one at least as great.
 fn move_past(frontier: &mut [u32], segment: Segment, coordinate: u32) -> bool
     requires levels { segment.high < length frontier.old }
     requires coordinate { coordinate < 2 ^ 16 }
@@ -98,8 +98,8 @@ pub(crate) fn highest(segments: &[Segment]) -> u16
     most
 }
 
-/// Looks for coordinates that shorten the wires; if it finds any, writes those of least total length into `coordinates` and
-/// returns true.
+/// Looks for coordinates that shorten the wires; if it finds any, writes those of least total length into `coordinates`
+/// and returns true. Each segment that the search goes over takes one of `looks`, and it gives up if too few are left.
 ///
 /// There is one coordinate for each segment. With them segments keep their order on each level, and no such coordinates
 /// give a lesser total length. The segments must be given in the order of their coordinates; wires run along levels, to
@@ -139,8 +139,8 @@ pub fn find_shorter(
     Ok(is_shorter(segments, wires, coordinates.as_slice()))
 }
 
-/// Writes the coordinates that the last search came to, if segments keep their order with them and the wires are shorter
-/// than with the segments' own coordinates; returns whether that is so.
+/// Writes the coordinates that the last search came to; returns whether segments keep their order with them and the
+/// wires are shorter than with the segments' own coordinates. If not, what `coordinates` holds does not matter.
 ///
 /// If a search of [`find_shorter`] had too few looks, this makes use of what it found until then: the same scratch, segments
 /// and wires are to be given. The total length need not be least.

@@ -60,9 +60,9 @@ impl Pulling {
         }
     }
 
-    /// Searches for weights in balance at each segment, and coordinates with which weighted pairs are adjacent; returns
-    /// false if there are too many pairs, units cannot be sent or no looks are left. Balance is not proved, and missed
-    /// after `MAX_PULLS`.
+    /// Searches for weights in balance at each segment, and coordinates with which weighted pairs are adjacent, and
+    /// stores both; returns false if there are too many pairs, units cannot be sent or no looks are left. True does not
+    /// prove balance, which is missed if a segment needs more than `MAX_PULLS` sends.
     ///
     /// The segments are in the order of their coordinates, and no level is above `top`. Each segment that the search goes
     /// over takes one of the looks, each time.
@@ -100,8 +100,8 @@ impl Pulling {
         Ok(true)
     }
 
-    /// Initialises the search with the coordinates of the segments, and one unit up where each wire begins and one down
-    /// where it ends, less the weights of adjacent pairs. No other pair has a weight yet.
+    /// Starts a search: copies the coordinates of the segments, adds up the pulls of wires and of the weights of
+    /// adjacent pairs, and sets the weights of all other pairs to 0.
     fn begin(&mut self, segments: &[Segment], wires: &[Wire]) -> Result<(), AllocError>
         requires few { vec_len self.old.sight_lists.sights ≤ MAX_SIGHTS }
         requires pairs { ArePairs (length segments.now) self.old.sight_lists.sights.items }
@@ -252,8 +252,8 @@ impl Pulling {
         (leads && self.marks[usize::from(next)] == UNREACHED).then_some(next)
     }
 
-    /// Moves all segments reached up until one of them is adjacent to one that is not reached; returns whether there is
-    /// one, and whether there is room. From such ones alone pairs lead on then.
+    /// Moves all segments reached up until one of them is adjacent to one that is not reached; returns false if none is
+    /// in their way, or a coordinate has no room. Only those that are adjacent then are still to be looked at.
     fn move_up(&mut self) -> Result<bool, AllocError>
         requires ready { IsReady self.old }
         ensures ready { OnOk result (IsReady self.new) }
@@ -308,7 +308,8 @@ impl Pulling {
         least
     }
 
-    /// Sends as many units as possible from where the search began to this segment; false if a weight has no room.
+    /// Sends as many units as possible along the path by which the search reached `target` from `root`; returns false
+    /// if a weight leaves its range: others on the path may then have changed.
     fn augment(&mut self, root: u16, target: u16) -> bool
         requires ready { IsReady self.old }
         requires root { root < vec_len self.old.coordinates }
@@ -331,7 +332,8 @@ impl Pulling {
         true
     }
 
-    /// How many of these units the path from where the search began to this segment carries.
+    /// The number of units, at most `most`, that the path by which the search reached `target` can carry: no more than
+    /// the weight of any pair that it takes back from.
     fn measure(&self, target: u16, most: u32) -> u32
         requires ready { IsReady self.now }
         requires target { target < vec_len self.now.coordinates }
@@ -362,7 +364,8 @@ impl Pulling {
         slack_between(self.coordinates.as_slice(), sight)
     }
 
-    /// Writes the coordinates of all segments, shifted so that the least is 0; false if one is above 65,535.
+    /// Replaces `coordinates` by those of all segments, shifted so that the least is 0; returns false if one is then
+    /// above 65,535, and leaves the list incomplete.
     pub(crate) fn write(&self, coordinates: &mut Vec<u16>) -> Result<bool, AllocError> {
         let least = least_of(self.coordinates.as_slice());
         coordinates.clear();
@@ -376,8 +379,8 @@ impl Pulling {
     }
 }
 
-/// Lists a segment that can move so far, if those listed can move no less: besides them, or in their place if they can move
-/// further. Returns how far those listed can move.
+/// Returns the lesser of `slack`, how far a segment can move, and `least`, how far those listed can. It appends the
+/// segment if that can move no further than those listed, and removes these first if it can move less.
 fn note_least(
     listed: &mut Vec<u16>,
     segment: u16,
@@ -442,7 +445,7 @@ fn clear_marks(marks: &mut [u16], segments: &[u16])
     }
 }
 
-/// Moves these segments up; false if a coordinate has no room.
+/// Adds `slack` to the coordinates of these segments; returns false if one has no room: earlier ones have then changed.
 fn raise(coordinates: &mut [u32], segments: &[u16], slack: u32) -> bool
     requires { AreSegments (length coordinates.old) segments.now }
 {
@@ -455,8 +458,8 @@ fn raise(coordinates: &mut [u32], segments: &[u16], slack: u32) -> bool
     true
 }
 
-/// Adds units to the weights of pairs walked up, and takes them from those walked down, from this segment back; false
-/// if a weight leaves its range: earlier ones have then changed.
+/// Adds units to the weights of pairs walked up, and takes them from those walked down, on the path that `marks` give
+/// from `target` back; returns false if a weight leaves its range: earlier ones have then changed.
 fn shift(sights: &mut [Sight], marks: &[u16], target: u16, units: u32) -> bool
     requires few { length sights.old ≤ MAX_SIGHTS }
     requires pairs { ArePairs (length marks.now) sights.old }

@@ -65,7 +65,7 @@ impl Chains {
         }
     }
 
-    /// Makes this many lists, all empty.
+    /// Replaces all lists and members by `lists` empty lists.
     pub(crate) fn begin(&mut self, lists: usize) -> Result<(), AllocError>
         ensures lists { OnOk result (vec_len self.new.firsts ≡ lists) }
         ensures members { OnOk result (vec_len self.new.nexts ≡ 0) }
@@ -75,7 +75,7 @@ impl Chains {
         self.firsts.resize(lists, 0)
     }
 
-    /// Adds the next member to a list.
+    /// Adds a new member, which gets the next number, at the front of a list.
     pub(crate) fn add(&mut self, list: u16) -> Result<(), AllocError>
         requires list { list < vec_len self.old.firsts }
         requires few { vec_len self.old.nexts + 1 < 2 ^ 32 }
@@ -129,7 +129,8 @@ impl Balance {
         }
     }
 
-    /// Whether at each segment wires and weights are in balance.
+    /// Whether each of `segments` segments is pulled up as much as down, by wires and by the weights of pairs;
+    /// overwrites its buffers.
     pub(crate) fn is_balanced(
         &mut self,
         segments: usize,
@@ -151,7 +152,8 @@ impl Balance {
     }
 }
 
-/// Whether wires and weights are in balance at each segment, by adding them up in two lists of zeros.
+/// Whether each segment is pulled up as much as down. It adds the pulls of wires and weights to `up` and `down`, which
+/// must be all zeros.
 fn is_balanced_in(wires: &[Wire], sights: &[Sight], up: &mut [u64], down: &mut [u64]) -> bool
     requires wires { length wires.now ≤ MAX_WIRES }
     requires sights { length sights.now ≤ MAX_SIGHTS }

@@ -46,9 +46,11 @@ impl SightLists {
         }
     }
 
-    /// Lists the pairs of segments that are in the order of their coordinates: for each segment those immediately
-    /// before it. The weight of a pair is the number of wires that run from one to the other. A pair that is met on
-    /// several adjacent levels is listed once. No level is above `top`.
+    /// Replaces the pairs by those of segments that see each other: each segment with those immediately before it on
+    /// its levels. `segments` must be in the order of their coordinates, and no level may be above `top`.
+    ///
+    /// The weight of a pair is the number of wires that run from one to the other. A pair that is met on several
+    /// adjacent levels is listed once.
     pub(crate) fn list(
         &mut self,
         segments: &[Segment],
@@ -75,7 +77,8 @@ impl SightLists {
         )
     }
 
-    /// Lists the ends of all pairs by their segments, from the last pair to the first.
+    /// Replaces `ends` by a list for each of `segments` segments: the ends of pairs there, added from the last pair to
+    /// the first.
     pub(crate) fn list_ends(&mut self, segments: usize) -> Result<(), AllocError>
         requires few { vec_len self.old.sights ≤ MAX_SIGHTS }
         requires pairs { ArePairs segments self.old.sights.items }
@@ -103,7 +106,7 @@ impl SightLists {
     }
 }
 
-/// Lists the wires by the segments where they begin.
+/// Replaces `chains` by a list for each of `segments` segments: the wires that begin there.
 fn list_wires(chains: &mut Chains, segments: usize, wires: &[Wire]) -> Result<(), AllocError>
     requires few { length wires.now ≤ MAX_WIRES }
     requires from { (i : ℕ) → i < length wires.now → (wire_at wires.now i).from < segments }
@@ -117,7 +120,8 @@ fn list_wires(chains: &mut Chains, segments: usize, wires: &[Wire]) -> Result<()
     Ok(())
 }
 
-/// Lists the pairs of all segments, level by level at the frontier.
+/// Appends to `sights` the pairs of each segment, in order, with the segments met last on its levels. `frontier`
+/// records what was met; `begun` lists the wires by the segments where they begin.
 fn list_pairs(
     sights: &mut Vec<Sight>,
     frontier: &mut [LastSeen],
@@ -143,7 +147,8 @@ fn list_pairs(
     Ok(())
 }
 
-/// Lists the segments that are before this one at the frontier on its levels, where it replaces them.
+/// Appends to `sights` the pairs of a segment, whose index is `behind`, with the segments at the frontier on its
+/// levels, and puts it there in their place.
 fn list_before(
     sights: &mut Vec<Sight>,
     frontier: &mut [LastSeen],
@@ -174,7 +179,7 @@ fn list_before(
     list_pair(sights, last, behind, weight)
 }
 
-/// Lists a pair, if there is a segment before this one.
+/// Appends a pair with this weight to `sights`, or nothing if `before`, the index of the first plus 1, is 0.
 fn list_pair(
     sights: &mut Vec<Sight>,
     before: u16,

@@ -69,14 +69,14 @@ impl StraightEdges {
         self.beside[usize::from(high)].back = low;
     }
 
-    /// Whether some edge leads to this vertex from before.
+    /// Whether a straight edge leads to this vertex from one with a lesser coordinate.
     pub(crate) fn is_led_to(&self, vertex: u16) -> bool
         requires { vertex < vec_len self.now.beside }
     {
         self.beside[usize::from(vertex)].back != 0
     }
 
-    /// The vertex to which the edge ahead leads.
+    /// The vertex to which the straight edge ahead leads; 0 if there is none.
     pub(crate) fn ahead(&self, vertex: u16) -> u16
         requires { vertex < vec_len self.now.beside }
     {
@@ -84,8 +84,8 @@ impl StraightEdges {
     }
 }
 
-/// Finds for each segment the segments of the other axis that cross it where it begins and where it ends, counts it at
-/// these, and lists it by its coordinate; `TooLarge` if it begins or ends at a place that is on no segment.
+/// Sets for each segment the segments of the other axis on which it begins and ends, counts it at these, and lists it
+/// by its coordinate; `TooLarge` if a place is on no segment, or 65,535 begin or end on one already.
 pub(crate) fn find_ends(along: &mut Segments, other: &mut Segments) -> Result<(), SegmentFault>
     requires few { AreFew along.old.segments.items }
     ensures listed { OnOk result (AreListed along.new.segments.items along.new.firsts.items) }
@@ -172,8 +172,8 @@ pub(crate) struct Bent {
 /// The maximum number of vertices and corners.
 const MAX_PLACES: usize = 65_535;
 
-/// Lists the segments of a drawing along both axes, with their ends; `TooLarge` if there are too many vertices and
-/// corners, or if one of them is on no segment.
+/// Fills `lists` anew with the segments of a drawing along both axes, with their ends; `TooLarge` if the lists cannot
+/// hold them, or a vertex or corner is on no segment.
 pub(crate) fn list_segments(
     lists: &mut Lists,
     plane: &Plane,
@@ -195,7 +195,7 @@ pub(crate) fn list_segments(
     find_ends(y, x)
 }
 
-/// Joins the ends of all edges that have no corner, and lists those that have some.
+/// Adds each edge that has no corner to the straight edges of its axis, and appends each other one to `lists.bent`.
 fn list_edges(lists: &mut Lists, plane: &Plane, points: &Points) -> Result<(), AllocError>
     requires points { HasPoints plane.now points.now }
     requires x_edges { length points.now.vertices < vec_len lists.old.x.edges.beside }
@@ -221,7 +221,7 @@ fn list_edges(lists: &mut Lists, plane: &Plane, points: &Points) -> Result<(), A
     Ok(())
 }
 
-/// Joins the ends of an edge that has no corner, or lists it if it has some.
+/// Adds an edge to the straight edges of its axis if it has no corner, and otherwise appends it to `lists.bent`.
 fn list_edge(
     lists: &mut Lists,
     points: &Points,
@@ -264,7 +264,8 @@ fn list_edge(
     Ok(())
 }
 
-/// Lists the segments of this many vertices and the straight edges between them; `TooLarge` if there is no room.
+/// Adds the segments of the first `count` vertices and the straight edges between them to `x` and `y`; `TooLarge` if
+/// there is no room.
 fn list_straight(
     count: u16,
     points: &Points,
@@ -308,8 +309,8 @@ fn list_bent(
     Ok(())
 }
 
-/// Adds the corners of an edge to the segments on which they lie, which end there; `TooLarge` if there are too many.
-/// Between two corners lies a segment of its own.
+/// Adds the corners of an edge to the segments on which they lie, which begin or end there, and a new segment between
+/// each two corners; `TooLarge` if there are too many, or an end of the edge is on no segment.
 fn list_corners(
     corners: &[Point],
     bent: Bent,
@@ -352,9 +353,9 @@ fn list_corners(
     }
 }
 
-/// Adds the corner to which an edge runs along a segment, between these coordinates, and at which it leaves for a segment
-/// that crosses it. Returns that one: the one of the vertex at the end of the edge, or a new one; `TooLarge` if there
-/// is no room.
+/// Adds the corner at `place`, to which an edge runs along `segment` between the coordinates `run`, and returns the
+/// segment of the other axis along which it leaves: that of the vertex `end`, or a new one if `None`. `TooLarge` if
+/// there is no room, or `end` is on no segment.
 fn turn(
     from_segments: &mut Segments,
     segment: u16,

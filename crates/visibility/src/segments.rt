@@ -58,8 +58,9 @@ pub(crate) struct Segment {
 }
 
 impl Segment {
-    /// Whether it is as short as can be, if it reaches from one of these segments of the other axis to another one: no
-    /// part of an edge is longer than 1, or steps of 1 lead from the one to the other (`leads`).
+    /// Whether it is surely as short as can be while the segments of the other axis, `along`, keep their order: no part
+    /// of an edge on it is longer than 1, or steps of 1 lead from where it begins to where it ends (`leads`). `other`
+    /// are the segments of its own axis.
     fn is_shortest(&self, other: &[Segment], along: &Segments) -> bool
         requires begins { self.now.begins_on < vec_len along.now.segments }
         requires ends { self.now.ends_on < vec_len along.now.segments }
@@ -228,7 +229,8 @@ impl Segments {
         Ok(())
     }
 
-    /// Whether each segment is as short as can be with these segments of the other axis.
+    /// Whether each segment is surely as short as can be while the segments of the other axis, `along`, keep their
+    /// order; false if that is not seen.
     pub(crate) fn are_shortest(&self, along: &Segments) -> bool
         requires ends { HaveEnds self.now.segments.items (vec_len along.now.segments) }
         requires listed { AreListed along.now.segments.items along.now.firsts.items }
@@ -258,9 +260,9 @@ impl Segments {
         length
     }
 
-    /// Whether steps lead from one segment to another, each of 1 and to a segment on a level of the segment before: with
-    /// no coordinates with which the segments on each level keep their order are these two nearer to each other. No steps
-    /// are seen if there are 64 levels or more. `other` are the segments of the other axis.
+    /// Whether steps of 1 lead over segments from one to another, each to one that shares a level with the segment
+    /// before: then the two cannot come nearer to each other while segments on each level keep their order. It does not
+    /// see segments that cross a level above 63; `other` are the segments of the other axis.
     fn leads(&self, other: &[Segment], from: Segment, to: Segment) -> bool
         requires from_begins { from.begins_on < length other.now }
         requires from_ends { from.ends_on < length other.now }
@@ -350,8 +352,8 @@ impl Segments {
     }
 }
 
-/// The segment on which the vertex or corner at this place lies, if there is such a place, and the segment is one of
-/// this many.
+/// The segment on which `of` says that the vertex or corner at this place lies; `None` if there is no such place, or
+/// the segment is not below `count`.
 pub(crate) fn segment_of(of: &[u16], place: usize, count: usize) -> Option<u16>
     ensures { IfSome result (λ segment. segment < count) }
 {
@@ -377,7 +379,7 @@ fn greatest_of(segments: &[Segment]) -> u16
     greatest
 }
 
-/// Takes the list of a coordinate: returns the first segment with it, by its index plus 1, or 0 if there is none.
+/// Empties the list of a coordinate, and returns the first segment of it, by its index plus 1; 0 if there is none.
 pub(crate) fn take_first(firsts: &mut [u16], coordinate: usize) -> u16
     requires { coordinate < length firsts.old }
     ensures first { result ≡ slice_index firsts.old coordinate }
@@ -386,7 +388,7 @@ pub(crate) fn take_first(firsts: &mut [u16], coordinate: usize) -> u16
     mem::replace(&mut firsts[coordinate], 0)
 }
 
-/// Puts a segment before the others with its coordinate.
+/// Puts a segment, whose index is `place`, at the front of the list of its coordinate.
 pub(crate) fn list(firsts: &mut [u16], segment: &mut Segment, place: u16)
     requires coordinate { segment.old.coordinate < length firsts.old }
     requires place { place + 1 < 2 ^ 16 }
@@ -398,7 +400,7 @@ pub(crate) fn list(firsts: &mut [u16], segment: &mut Segment, place: u16)
     *first = place + 1;
 }
 
-/// Puts each segment before the others with its coordinate.
+/// Puts each segment, in order, at the front of the list of its coordinate.
 fn list_all(segments: &mut [Segment], firsts: &mut [u16])
     requires { AreListed segments.old firsts.old }
     ensures listed { AreListed segments.new firsts.new }
@@ -409,7 +411,8 @@ fn list_all(segments: &mut [Segment], firsts: &mut [u16])
     }
 }
 
-/// Gives each segment a coordinate of its own, in the order of those that they have; `TooLarge` if one is listed twice.
+/// Gives each segment a coordinate of its own, in the order of those that they have, but does not list them anew;
+/// `TooLarge` if one is listed twice.
 fn spread(segments: &mut [Segment], firsts: &[u16]) -> Result<(), SegmentFault>
     requires { AreListed segments.old firsts.now }
     ensures few { AreFew segments.new }

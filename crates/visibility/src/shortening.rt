@@ -90,8 +90,8 @@ impl Shortening {
         Ok(true)
     }
 
-    /// Lists the segments in the order of their coordinates, with the levels that they cross; false if one is listed
-    /// twice.
+    /// Lists anew the segments of `along` in the order of their coordinates, with the levels that they cross, and the
+    /// place of each there; returns false if more or fewer are listed than there are.
     fn list_segments(&mut self, along: &Segments, other: &[Segment]) -> Result<bool, AllocError>
         requires listed { AreListed along.now.segments.items along.now.firsts.items }
         requires ends { HaveEnds along.now.segments.items (length other.now) }
@@ -129,7 +129,8 @@ impl Shortening {
         Ok(self.segments.len() == segments.len())
     }
 
-    /// Lists the segments of the other axis as wires from the segment where each begins to that where it ends.
+    /// Lists anew the segments of the other axis as wires from the segment where each begins to that where it ends,
+    /// without those that begin and end on the same one.
     fn list_wires(&mut self, other: &[Segment]) -> Result<(), AllocError>
         requires { HaveEnds other.now (vec_len self.old.places) }
         ensures places { self.new.places ≡ self.old.places }
@@ -149,7 +150,8 @@ impl Shortening {
     }
 }
 
-/// Finds coordinates with which the wires are shortest, or shorter if the search has no looks left; false if there are none.
+/// Writes into `coordinates` those with which the wires are shortest, or only shorter if the search runs out of
+/// `looks`; returns false if it finds none.
 fn find(
     search: &mut least_length::Scratch,
     segments: &[least_length::Segment],
@@ -168,7 +170,7 @@ fn find(
     take_shorter(search, segments, wires, coordinates)
 }
 
-/// Gives segments the coordinates found.
+/// Gives each segment a coordinate found: segment r the one at the place `places[r]`.
 fn assign(segments: &mut [Segment], places: &[u16], coordinates: &[u16])
     requires count { length places.now ≡ length segments.old }
     requires places { (r : ℕ) → r < length places.now → slice_index places.now r < length coordinates.now }
