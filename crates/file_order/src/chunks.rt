@@ -74,7 +74,8 @@ impl Chunks {
         Ok(room)
     }
 
-    /// Writes the text to the sink through the buffer.
+    /// Appends the text to `buffer`, which is written to the sink when it is nearly full; the end of the text stays in
+    /// `buffer`.
     ///
     /// # Errors
     ///
@@ -108,7 +109,7 @@ pub struct Waiting {
     pub mark: Option<Mark>,
 }
 
-/// The state of each of `files` files, of which nothing has arrived.
+/// A list with a state for each of `files` files, of which nothing has arrived yet; `AllocError` if there is no memory.
 pub(crate) fn none_come(alloc: Global, files: u32) -> Result<Vec<Waiting>, AllocError>
     ensures count { IfOk result (λ waiting. length waiting.items ≡ files) }
     ensures empty { IfOk result (λ waiting. All IsNothing waiting.items) }

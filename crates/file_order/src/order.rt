@@ -70,8 +70,8 @@ pub struct Pace<'p> {
 }
 
 impl Pace<'_> {
-    /// Pauses the files after the current file if `held` bytes of buffered text reach the limit, those after the next
-    /// one if they reach a fraction of it, and otherwise none.
+    /// Pauses the files after the current file if `held`, the bytes of buffered text, reaches the limit, and those
+    /// after the next file that has not ended if it reaches a quarter of the limit; otherwise lifts all pauses.
     pub(crate) fn keep(&self, held: usize, current: u32, waiting: &[Waiting]) {
         if held >= self.most {
             self.pauses.pause_after(current);
@@ -83,7 +83,7 @@ impl Pace<'_> {
     }
 }
 
-/// The first file after the current file that has not ended.
+/// The first file after the current file that has not ended; a number past the last file if all have ended.
 fn next_unended(current: u32, waiting: &[Waiting]) -> u32 {
     for file in current.saturating_add(1)..u32::MAX {
         let place = file as usize;
@@ -139,7 +139,8 @@ impl FileOrder {
         })
     }
 
-    /// The first file that has not ended.
+    /// The number of the current file, the first whose text is not written completely; past the last file if all texts
+    /// are.
     pub fn current(&self) -> u32
         ensures { result ≡ self.now.current }
     {
@@ -156,14 +157,15 @@ impl FileOrder {
         }
     }
 
-    /// Whether a file is one of the run and its text is not complete yet.
+    /// Whether a file is the current file or a later one of the run.
     fn is_to_come(&self, file: u32) -> bool
         ensures { IsTrue result ↔ ((self.now.current ≤ file) × (file < length self.now.waiting)) }
     {
         self.current <= file && (file as usize) < self.waiting.len()
     }
 
-    /// Whether a file has not ended, and its next entry has this place.
+    /// Whether the next entry of a file is the one at place `ordinal`: false if the file has ended or is not to come,
+    /// or if the place is `MAX_RECORDS` or more.
     pub fn is_next(&self, file: u32, ordinal: u32) -> bool
         ensures open { IsTrue result → (self.now.current ≤ file) × (file < length self.now.waiting) }
         ensures next { IsTrue result → (other : Waiting) → IsNext ordinal (slice_index_or self.now.waiting file other) }
@@ -212,7 +214,8 @@ impl FileOrder {
         Ok(())
     }
 
-    /// Keeps the mark of a file.
+    /// Stores the mark of a file that has ended, and writes nothing; `LaneLost` if it had ended before or `known` is
+    /// not this end.
     ///
     /// # Errors
     ///
@@ -279,7 +282,7 @@ impl FileOrder {
         }
     }
 
-    /// Writes what is buffered of the current file.
+    /// Writes the buffered lines of the current file to the sink, through the fixed buffer, and frees their memory.
     ///
     /// # Errors
     ///
@@ -302,7 +305,8 @@ impl FileOrder {
         lines.put(&mut self.buffer, sink)
     }
 
-    /// Writes `text` to the sink.
+    /// Appends `text` to the text in transit to the sink; it is written when the fixed buffer is nearly full, or by
+    /// `flush`.
     ///
     /// # Errors
     ///

@@ -122,8 +122,11 @@ fn join_lanes<E: Numbered, M: Drop + Send, R: Threads, O: Opener, F: Drop>(
 }
 
 impl<R: Threads + Wait + Sync, O: Opener, G: Gate, L> Shared<'_, R, O, G, L> {
-    /// Settles the fan with the givers of all lanes, also of those that did not run. This proves that the messages taken
-    /// of each lane are all that it gave, and that all messages of a file drawn by one seat arrived. Returns the seats.
+    /// Settles the fan with the givers of all lanes, also of those that did not run; returns the seats of those that
+    /// ran, or the fault of the first that failed.
+    ///
+    /// This proves that the messages taken of each lane are all that it gave, and that all messages of a file drawn by
+    /// one seat arrived. `Memory` also if there is no memory for the lists.
     fn settle_lanes<E: Numbered, M: Drop + Send>(
         &self,
         gatherer: Gatherer<Message<E, M>>,
@@ -158,8 +161,11 @@ impl<R: Threads + Wait + Sync, O: Opener, G: Gate, L> Shared<'_, R, O, G, L> {
 /// The handles of lanes that run.
 type RunningLanes<E, M, O> = Vec<Running<E, M, O>>;
 
-/// Runs the lanes of a run, each in threads of its own, and passes their messages to the consumer, which is returned.
-/// The result is stored in `ran`: in a pair with the consumer, what a reference in it refers to would not be known.
+/// Runs the lanes of a run, each in threads of its own, passes their messages to the consumer on this thread, and waits
+/// until all have ended; returns the consumer, and stores the result in `ran`.
+///
+/// The result is not returned in a pair with the consumer: what a reference in the consumer refers to would then not be
+/// known.
 ///
 /// The lanes draw the run's files as they become free, and give to one fan; this thread passes its messages on. `kind`
 /// says what they do. If the run ends well, the consumer holds all of each file under the run's choice of the outer
@@ -271,8 +277,8 @@ impl<'s, R: Threads + Wait + Sync, O: Opener, G: Gate, L: LaneKind + 's> Shared<
         }
     }
 
-    /// Starts a lane for each seat in a thread of its own, with the givers in order. An error has the lanes that were
-    /// started before.
+    /// Starts a lane for each seat in a thread of its own, with the givers in order; returns the handles of the lanes.
+    /// An error has the handles of those that were started before.
     fn start_lanes<'e>(
         &'s self,
         scope: &'s Scope<'s, &'e ()>,

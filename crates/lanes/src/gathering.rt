@@ -246,7 +246,7 @@ impl<E: Numbered, M: Drop> Consumer<E, M> for Drafts<E> {
 /// message arrives.
 const PATIENCE: u64 = 250_000;
 
-/// Marks a lane as stopped.
+/// Sets the entry of a lane in `stops` to true; does nothing if the list has no such entry.
 fn set_stopped(stops: &mut Vec<bool>, lane: u32)
     ensures count { vec_len stops.new ≡ vec_len stops.old }
     ensures noted { (k : ℕ) → slice_index_or stops.new.items k false ≡ true
@@ -258,9 +258,12 @@ fn set_stopped(stops: &mut Vec<bool>, lane: u32)
     }
 }
 
-/// The next message of the fan. While something is buffered in the consumer, it waits at most the remaining `patience`,
-/// in microseconds; then the consumer flushes, and it waits until a message arrives. `LaneLost`: the givers of all
-/// lanes were gone. Otherwise the fault is the consumer's.
+/// Removes the next message from the fan, and returns the number of its lane and the message; flushes the consumer if
+/// none arrives within `patience` microseconds, which it reduces or resets.
+///
+/// While something is buffered in the consumer, it waits at most the remaining `patience`; then the consumer flushes,
+/// and it waits until a message arrives. `LaneLost`: the givers of all lanes were gone. Otherwise the fault is the
+/// consumer's.
 fn next_message<E: Numbered, M: Drop, C: Consumer<E, M>, R: Wait>(
     rt: &R,
     gatherer: &mut Gatherer<Message<E, M>>,
@@ -284,7 +287,8 @@ fn next_message<E: Numbered, M: Drop, C: Consumer<E, M>, R: Wait>(
     Ok(gatherer.take(rt)?)
 }
 
-/// Passes several items to the consumer, in order, until it refuses one. Their list goes back.
+/// Passes the items of a message to the consumer, in order, and sends their emptied list back; at the first refusal it
+/// returns the fault and drops the other items.
 fn take_in<E: Numbered, M: Drop, C: Consumer<E, M>, R: Wait>(
     rt: &R,
     batch: Batch<E>,

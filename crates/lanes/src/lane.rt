@@ -24,7 +24,8 @@ pub struct Lane<E: Numbered, M: Drop + Send> {
 }
 
 impl<'s, R: Threads + Wait + Sync, O: Opener, G: Gate, L: LaneKind + 's> Shared<'s, R, O, G, L> {
-    /// Runs a lane, its last stage on this thread and the others on a thread each; returns its seat and its giver.
+    /// Runs a lane to its end, its last stage on this thread and the others on a thread each; returns its end of the
+    /// fan, the result of sending its stop, and its seat or its fault.
     ///
     /// The result of the last stage for each record, and the end of each file, go to the giver, and after them one
     /// stop, whatever happened in the lane; the result of that last give is returned with the giver.

@@ -60,7 +60,8 @@ pub trait Outlet<T: Drop, M: Drop>: Drop {
 
     ghost stays: { Self → Self → Type 0 };
 
-    /// Gives a message, and waits while there is no room for it. At an error nothing was given.
+    /// Sends a message, and waits while there is no room for it. `Gone` if the other end is gone: nothing is sent, and
+    /// the message is dropped.
     fn tell<R: Wait>(&mut self, rt: &R, message: Message<T, M>) -> Result<(), Gone>
         ensures more { OnOk result (told self.new ≡ told self.old ++ notes_of about message) }
         ensures refused { OnErr result (told self.new ≡ told self.old) }
@@ -132,7 +133,8 @@ impl<T: Drop> ReturnQueue<T> {
         ReturnQueue { queue: None }
     }
 
-    /// Both ends of a queue with room for this many items.
+    /// Allocates a queue with room for `room` items, and returns two equal ends of it; `AllocError` if there is no
+    /// memory.
     pub fn new(alloc: Global, room: usize) -> Result<(ReturnQueue<T>, ReturnQueue<T>), AllocError>
         requires { 0 < room }
     {
@@ -144,7 +146,8 @@ impl<T: Drop> ReturnQueue<T> {
         ))
     }
 
-    /// One end of a queue with room for this many items; `again` gives others.
+    /// Allocates a queue with room for `room` items, and returns one end of it; `again` makes more ends. `AllocError`
+    /// if there is no memory.
     pub fn alone(alloc: Global, room: usize) -> Result<ReturnQueue<T>, AllocError>
         requires { 0 < room }
     {
@@ -152,7 +155,8 @@ impl<T: Drop> ReturnQueue<T> {
         Ok(ReturnQueue { queue: Some(queue) })
     }
 
-    /// Another end of the same queue.
+    /// Another end of the same queue; an end without a queue if this one has none, or if the queue can have no more
+    /// ends.
     pub fn again(&self) -> ReturnQueue<T> {
         match &self.queue {
             Some(queue) => match Arc::try_clone(queue) {
@@ -220,7 +224,8 @@ pub struct Filling<T: Drop> {
 }
 
 impl<T: Drop> Filling<T> {
-    /// No items yet. If memory runs out, it works without reusing lists.
+    /// An empty filling, with a queue by which its lists return. If memory runs out for the queue, lists are not
+    /// reused.
     pub fn new(alloc: Global) -> Filling<T>
         ensures { result.items.items ≡ [] }
     {
@@ -236,7 +241,8 @@ impl<T: Drop> Filling<T> {
         }
     }
 
-    /// Adds an item; if there is no room for it, sends the items so far and this one at once.
+    /// Collects an item for the next message; if there is no list with room for it, sends the items so far and then
+    /// this one to `to`. It may wait; `Gone` if the other end of `to` is gone.
     pub fn add<M: Drop, R: Wait, O: Outlet<T, M>>(
         &mut self,
         rt: &R,
@@ -257,7 +263,8 @@ impl<T: Drop> Filling<T> {
         to.tell(rt, Message::Item(item))
     }
 
-    /// Sends the collected items in one message, if there are any; a single item needs no list.
+    /// Sends the collected items to `to` in one message, a single one without a list, and is then empty; sends nothing
+    /// if there are none. `Gone` if the other end of `to` is gone.
     pub fn give<M: Drop, R: Wait, O: Outlet<T, M>>(
         &mut self,
         rt: &R,
@@ -279,7 +286,8 @@ impl<T: Drop> Filling<T> {
         to.tell(rt, Message::Items(Batch { items, home }))
     }
 
-    /// Takes a list if there is none at hand and one is free.
+    /// Gets an empty list to collect items in, if there is none and one is free; may allocate it, or wait about a
+    /// millisecond for one to return.
     fn make_room<R: Wait>(&mut self, rt: &R)
         ensures { self.new.items.items ≡ self.old.items.items }
     {
@@ -292,7 +300,8 @@ impl<T: Drop> Filling<T> {
         }
     }
 
-    /// A list that has returned, or a new one; none if all are in transit or memory ran out.
+    /// A list that has returned, or a new one; if all are in transit, waits about a millisecond for one to return.
+    /// `None` if none does or memory ran out.
     fn free_list<R: Wait>(&mut self, rt: &R) -> Option<Vec<T>>
         ensures { self.new.items.items ≡ self.old.items.items }
     {

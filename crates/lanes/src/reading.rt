@@ -54,7 +54,8 @@ pub trait RecordSink {
             ++ Item (record { file = file; ordinal = ordinal; bytes = rec; choice = choice }) ∷ []) }
         ensures stays { stays self.old self.new };
 
-    /// Called once all records of a file were kept that one read completed, so that none waits for the next read.
+    /// Called once all records were kept that one read of a file completed, so that the sink can pass them on and none
+    /// waits for the next read. It may block.
     ///
     /// # Errors
     ///
@@ -201,6 +202,7 @@ impl<R: Wait, G: Gate, L: LaneKind> RecordSink for RecordGiver<'_, R, G, L> {
 
     ghost accepts = { λ _ file ordinal bytes. L.accepts file ordinal bytes };
 
+    /// Passes the gate and adds the record to the next message; sends that message once it is full.
     fn keep(
         &mut self,
         _alloc: Global,
@@ -220,6 +222,7 @@ impl<R: Wait, G: Gate, L: LaneKind> RecordSink for RecordGiver<'_, R, G, L> {
         self.filling.give(self.rt, &mut self.giver)
     }
 
+    /// Sends the records collected so far, and then blocks as long as the file is paused.
     fn pass_on(&mut self, file: u32) -> Result<(), Gone>
         ensures kept { OnOk result (notes L.Framed.about (given self.new.giver) ++ notes_of_items L.Framed.about self.new.filling.items.items
             ≡ notes L.Framed.about (given self.old.giver) ++ notes_of_items L.Framed.about self.old.filling.items.items) }

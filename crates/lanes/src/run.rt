@@ -39,7 +39,8 @@ pub trait Opener: Sync {
     fn open(&self, alloc: Global, file: u32) -> Result<Self::Source, OpenFault>
         ensures { Opens Self.Source.to_come Self.Source.fails (meaning self.now file) result };
 
-    /// Called once a file of a run has been read, with its mark. It has no influence on results.
+    /// Called with the mark of each file that a run over lanes has read or could not open. It does nothing by default,
+    /// and has no influence on results.
     fn ended(&self, _file: u32, _mark: Mark) {}
 }
 
@@ -143,7 +144,8 @@ impl Pauses {
         }
     }
 
-    /// Pauses the files after this one; it and those before it go on.
+    /// Pauses the reading of all files after `file`, and lets `file` and those before it go on; wakes the threads that
+    /// sleep in `wait` if this changes anything.
     pub fn pause_after(&self, file: u32) {
         self.set(u64::from(file) + 1);
     }
@@ -164,7 +166,8 @@ impl Pauses {
         }
     }
 
-    /// Writes the word if it changes, and wakes all threads that sleep on it.
+    /// Stores `first` as the number of the first paused file; if this changes it, wakes all threads that sleep in
+    /// `wait`.
     fn set(&self, first: u64) {
         if self.first.load(Ordering::SeqCst) != first {
             self.first.store(first, Ordering::SeqCst);

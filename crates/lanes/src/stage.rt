@@ -44,11 +44,12 @@ pub trait Staged: Numbered {
     /// An empty scratch, without queues on which buffers return. It allocates nothing.
     fn scratch(alloc: Global) -> Self::Scratch;
 
-    /// Takes in lists that later stages of the lane no longer need, and returns those that this stage no longer needs.
-    /// It never waits, and has no influence on results. Called before each record.
+    /// Moves into `scratch` the lists that later stages of the lane have sent back, and sends back those that this
+    /// stage no longer needs. It is called before each record, never waits, and has no influence on results.
     fn exchange<R: Wait>(rt: &R, scratch: &mut Self::Scratch);
 
-    /// Does the work of the stage. The record and the choice stay the same.
+    /// Does the work of this stage on the item, with the buffers of `scratch`; returns the item for the next stage,
+    /// which is about the same record and choice of the outer face.
     fn work(self, alloc: Global, scratch: &mut Self::Scratch) -> Self::Next
         ensures { Self.Next.about result ≡ Self.about self };
 }
@@ -98,12 +99,12 @@ pub trait LaneKind: Sync {
         requires { accepts file ordinal rec }
         ensures { Self.Framed.about result ≡ record { file = file; ordinal = ordinal; bytes = rec; choice = choice } };
 
-    /// What is known of this end of a file besides its mark.
+    /// Returns what the message of a file's end carries besides the file's number and mark.
     fn end(&self, file: u32, end: SourceEnd) -> Self::End
         requires { ends file end.count end.mark };
 
-    /// The scratch of each stage of a lane whose links have room for `capacity` messages. Lists that one stage no
-    /// longer needs may return through it to the stage that fills them.
+    /// New scratches for the second, third and fourth stage of a lane whose links have room for `capacity` messages.
+    /// Lists that one stage no longer needs may return through them to the stage that fills them.
     ///
     /// # Errors
     ///
@@ -124,7 +125,8 @@ pub(crate) struct RunningStage<'g, A: Staged, R, G> {
 }
 
 impl<A: Staged, R: Wait, G: Gate> RunningStage<'_, A, R, G> {
-    /// Passes the gate, exchanges lists with other stages, and does the work on one record.
+    /// Passes the gate, which may delay it, exchanges lists with other stages, and does the stage's work on one record;
+    /// returns the item for the next stage.
     pub(crate) fn work_on(&mut self, item: A) -> A::Next
         ensures told { A.Next.about result ≡ A.about item }
         ensures same { self.new.filling.items.items ≡ self.old.filling.items.items }
@@ -134,7 +136,8 @@ impl<A: Staged, R: Wait, G: Gate> RunningStage<'_, A, R, G> {
         item.work(self.alloc, &mut self.scratch)
     }
 
-    /// Does the work on several records, in order, and gives them.
+    /// Does the stage's work on the items of a message, in order, sends the results to `to`, and sends the emptied list
+    /// back. `Gone` if the other end of `to` is gone.
     pub(crate) fn pass_on<M: Drop, O: Outlet<A::Next, M>>(
         &mut self,
         batch: Batch<A>,
@@ -164,7 +167,8 @@ pub struct StageWork<A: Staged> {
     pub scratch: A::Scratch,
 }
 
-/// Runs a middle stage of a lane until the stop; returns both its ends, or `Gone` if another end was gone.
+/// Runs a middle stage of a lane on this thread until the stop, which it passes on; returns both its ends, or `Gone` if
+/// the other end of one of them was gone.
 ///
 /// It gives all that `run_until_stop` gives, and then the stop.
 pub fn run_stage<A: Staged, M: Drop, R: Wait, G: Gate>(
@@ -184,12 +188,13 @@ pub fn run_stage<A: Staged, M: Drop, R: Wait, G: Gate>(
     Ok((taker, giver))
 }
 
-/// Runs a stage of a lane until the stop; returns the receiving end, or `Gone` if another end was gone.
+/// Runs a stage of a lane on this thread until the stop, which it does not pass on; returns the receiving end, or
+/// `Gone` if the other end of its link or of its outlet was gone.
 ///
 /// It gives what the stage before gives, in order: records with the work of this stage done, and ends unchanged. The
 /// records of a message are given once the work is done on all of them. It does not give the stop: that is left to the
 /// caller. Before it works on a record it passes the gate and exchanges lists with other stages; all records use one
-/// scratch. `Gone` if the other end of its link or of its outlet was gone.
+/// scratch.
 pub fn run_until_stop<A: Staged, M: Drop, R: Wait, G: Gate, O: Outlet<A::Next, M>>(
     rt: &R,
     alloc: Global,

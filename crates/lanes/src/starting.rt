@@ -44,7 +44,8 @@ pub struct Stages<L: LaneKind> {
     pub draw: LastStage<L::Shaped, L::End>,
 }
 
-/// The stages of the lane with this number, which draws files by this seat. Each link has room for `capacity` messages.
+/// Makes the four stages of lane `lane`, which draws files by this seat, and starts none of them. Each link has room
+/// for `capacity` messages; `Memory` if there is no memory.
 pub fn new_stages<L: LaneKind>(
     kind: &L,
     alloc: Global,

@@ -10,7 +10,7 @@ use std::fmt::Write;
 use std::sync::atomic::{AtomicU8, AtomicU64, Ordering};
 use streams::{Mark, Sink, WriteFault, put_all};
 
-/// The number that encodes a mark; 0 for one of a file that is planar_code as far as it was read.
+/// The number, 1 to 4, that encodes a mark of a file that may not be planar_code; 0 for any other mark.
 pub(crate) fn number_of(mark: Mark) -> u64 {
     match mark {
         Mark::Ended(Ending::Header) => 1,
@@ -21,7 +21,7 @@ pub(crate) fn number_of(mark: Mark) -> u64 {
     }
 }
 
-/// The ending that a number encodes.
+/// The ending that a number of `number_of` encodes; `None` for 0 and for numbers that encode no mark.
 pub(crate) fn ending_of(number: u64) -> Option<Ending> {
     match number {
         1 => Some(Ending::Header),
@@ -56,7 +56,8 @@ const GRAPH6: &str = "graph6: use planarg -p";
 
 const SPARSE6: &str = "sparse6: use planarg -p";
 
-/// A hint at the format of a file that ended in this way and begins with these bytes.
+/// A hint at the format of a file that ended in this way and begins with these bytes; `None` if the format is not
+/// recognised.
 pub(crate) fn hint_of(ending: Ending, front: &[u8]) -> Option<&'static str> {
     match ending {
         Ending::Header => Some(hint_without_header(front)),
@@ -84,7 +85,7 @@ fn hint_without_header(front: &[u8]) -> &'static str {
     }
 }
 
-/// A hint at the format of the bytes after the header, if they are not records in the one-byte form.
+/// A hint at what follows the header in place of records in the one-byte form; `None` if that is not recognised.
 fn hint_after_header(ending: Ending, body: &[u8]) -> Option<&'static str> {
     if begins_with_line_end(body) {
         Some("a line end follows the header: remove it")
@@ -126,7 +127,8 @@ fn is_no_graph(vertices: u8, bytes: &[u8]) -> bool {
     false
 }
 
-/// The list of this vertex, counted from 1.
+/// The entries of the list of `vertex`, counted from 1, in bytes in which a 0 ends each list; empty if they have no
+/// such list.
 fn list_of(bytes: &[u8], vertex: u8) -> &[u8] {
     let mut lists = bytes.split(|byte| *byte == 0);
     lists
@@ -151,7 +153,7 @@ fn is_graph6(front: &[u8]) -> bool {
     line.len() == bytes + 1 || (line.len() == front.len() && line.len() <= bytes)
 }
 
-/// The bytes before the first line end.
+/// The bytes before the first line end, without white space at their end; all bytes if there is no line end.
 fn line_of(front: &[u8]) -> &[u8] {
     match front.iter().position(|byte| *byte == b'\n') {
         Some(end) => front[..end].trim_ascii_end(),
@@ -159,7 +161,7 @@ fn line_of(front: &[u8]) -> &[u8] {
     }
 }
 
-/// Whether these bytes are text.
+/// Whether these bytes look like text: more than three, each printable or white space in ASCII, or 128 or more.
 fn is_text(bytes: &[u8]) -> bool {
     bytes.len() > 3
         && bytes.iter().all(|byte| byte.is_ascii_graphic()
@@ -203,7 +205,8 @@ impl FileNote {
         self.failure.store(code_of(reason), Ordering::SeqCst);
     }
 
-    /// Notes bytes of the file that follow the first `place` bytes.
+    /// Notes the bytes of the file that follow its first `place` bytes; only the first `FRONT` bytes of a file are
+    /// kept.
     pub(crate) fn begin(&self, place: usize, bytes: &[u8]) {
         let mut end = place;
         for byte in bytes.iter().take(FRONT) {
@@ -221,7 +224,7 @@ impl FileNote {
         self.ending.store(number_of(mark), Ordering::SeqCst);
     }
 
-    /// The first bytes of the file.
+    /// A copy of the noted first bytes of the file, at most `FRONT`; `AllocError` if there is no memory for it.
     fn front(&self, alloc: Global) -> Result<Vec<u8>, AllocError> {
         let len = self.len.load(Ordering::SeqCst);
         let mut bytes = Vec::with_capacity(alloc, FRONT)?;
@@ -233,7 +236,8 @@ impl FileNote {
         Ok(bytes)
     }
 
-    /// A hint at the format of the file, if it is not planar_code and the format is recognised.
+    /// A hint at the format of the file, if it is not planar_code and the format is recognised; `None` otherwise, or if
+    /// memory ran out.
     fn hint(&self, alloc: Global) -> Option<&'static str> {
         let ending = ending_of(self.ending.load(Ordering::SeqCst))?;
         let front = self.front(alloc).ok()?;
@@ -328,7 +332,7 @@ impl FileNotes {
     }
 }
 
-/// Writes the line of one file, if there is something to say.
+/// Writes to `err` the line that says why a file failed or what format it has; writes nothing if neither is known.
 ///
 /// # Errors
 ///

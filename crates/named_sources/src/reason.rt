@@ -55,7 +55,7 @@ impl<W: io::Write> KeepsReason for IoSink<W> {
 
 /// A source or a sink that keeps the reason of a failed read or write.
 pub trait KeepsReason {
-    /// The reason of the last read or write that failed.
+    /// The reason of the last read or write that failed; `UNKNOWN` if none failed or its reason is not known.
     fn reason(&self) -> Reason;
 }
 

@@ -28,7 +28,7 @@ pub fn is_input(name: &str) -> bool
     name == INPUT
 }
 
-/// Whether a standard stream is open.
+/// Whether a standard stream is open. It duplicates the stream's file descriptor and closes the copy.
 fn is_open<F: AsFd>(stream: &F) -> bool {
     stream.as_fd().try_clone_to_owned().is_ok()
 }
@@ -38,7 +38,8 @@ pub fn if_open<F: AsFd + Copy>(stream: F) -> Option<F> {
     is_open(&stream).then_some(stream)
 }
 
-/// A folder in place of this standard stream if it is closed, and otherwise nothing.
+/// Opens the folder `/` in place of this standard stream if it is closed, and returns it; `None` if the stream is open
+/// or the folder could not be opened.
 ///
 /// It has the stream's file descriptor, if the standard streams with lower ones are open or have a folder too; no file
 /// can then get it by chance, as long as the folder is held. Every read and write of a folder fails.
@@ -144,7 +145,8 @@ impl<'r, F: Tap> NotedSource<'r, F> {
         }
     }
 
-    /// A file that could not be opened for this reason, which is noted.
+    /// A source whose every read fails, for a file that could not be opened; writes the reason to `note`, if there is
+    /// one.
     fn unopened(reason: Reason, note: Option<&'r FileNote>) -> NotedSource<'r, F>
         ensures to_come { noted_to_come F.to_come result ≡ Some [] }
         ensures fails { noted_fails F.fails result ≡ true }
@@ -165,6 +167,7 @@ impl<F: Tap + KeepsReason> Tap for NotedSource<'_, F> {
 
     ghost fails = { noted_fails F.fails };
 
+    /// Reads the next bytes, and writes the file's first bytes or the reason of a failure to its note, if it has one.
     fn read(&mut self, buf: &mut [u8]) -> Result<usize, TapFault> {
         let note = self.note;
         let Some(source) = &mut self.source else {
@@ -243,7 +246,7 @@ pub struct FileOpener<'r, 'n, N> {
 }
 
 impl<'n, N> FileOpener<'_, 'n, N> {
-    /// The name of a file.
+    /// The name of the file with this number; `None` past the end of the list.
     fn name(&self, file: u32) -> Option<&'n str>
         ensures { result ≡ slice_get self.now.names.now file }
     {
@@ -256,6 +259,8 @@ impl<'r, N: NamedFiles> Opener for FileOpener<'r, '_, N> {
 
     ghost meaning = { λ o. meanings_in (N.meaning o.files.now) o.names.now };
 
+    /// Opens the file with this number and counts the call in `opened`; writes the reason of a failure to the file's
+    /// note.
     fn open(&self, alloc: Global, file: u32) -> Result<NotedSource<'r, N::Source>, OpenFault> {
         let Some(name) = self.name(file) else {
             return Err(OpenFault::Io);
@@ -307,7 +312,7 @@ impl<W: Write> Sink for OutputSink<W> {
 
     ghost failed = { λ s. s.failed };
 
-    /// Writes a piece; keeps the reason of a failed write.
+    /// Writes the first bytes of `piece` and returns how many; keeps the reason of a failed write.
     fn put(&mut self, piece: &[u8]) -> Result<usize, SinkFault> {
         match self.writer.write(piece) {
             Ok(count) if count > 0 || piece.is_empty() => Ok(count),

@@ -78,8 +78,8 @@ const NAP: u64 = 30;
 /// The total length of the naps after all attempts, in microseconds.
 pub(crate) const ALL_NAPS: u64 = (NAP << (TRIES - SPINS)) - NAP;
 
-/// Pauses briefly after the attempt with this number, from 0: spins after each of the first attempts, and naps after
-/// each later one, including the last. It allocates nothing.
+/// Pauses the calling thread after attempt `tried`, counted from 0: spins after each of the first `SPINS` attempts, and
+/// naps after each later one, including the last, each time twice as long. It allocates nothing.
 pub(crate) fn back_off<R: Wait>(rt: &R, tried: u32)
     requires tried { tried < TRIES }
 {
@@ -109,9 +109,10 @@ pub(crate) fn nap<R: Wait>(rt: &R, micros: u64) {
     AtomicU64::new(0).park_timeout(rt, 0, Duration::from_micros(micros));
 }
 
-/// The two ends of a new link that holds at most `capacity` items.
+/// Allocates a link that holds at most `capacity` items, and returns its two ends; `Memory` if there is no memory for
+/// them.
 ///
-/// Nothing was given or taken. `Memory` if there is no memory for them.
+/// Nothing was given or taken.
 pub fn link<T: Send + Drop>(alloc: Global, capacity: u32) -> Result<(Giver<T>, Taker<T>), Memory>
     requires capacity { (1 ≤ capacity) × (capacity ≤ MAX_CAPACITY) }
     ensures room { IfOk result (λ r. capacity_of r.0 ≡ capacity) }
@@ -126,9 +127,10 @@ pub fn link<T: Send + Drop>(alloc: Global, capacity: u32) -> Result<(Giver<T>, T
     Ok((Giver::of(sender, pass), Taker::of(receiver, takes)))
 }
 
-/// The ends of a new fan for at most `capacity` items: a giver for each lane, in order, and the one gatherer.
+/// Allocates a fan that holds at most `capacity` items, and returns a giver for each of its `LANES` lanes, in order,
+/// and the one gatherer. `Memory` if there is no memory for them.
 ///
-/// It has `LANES` lanes. Nothing was given or taken. `Memory` if there is no memory for them.
+/// Nothing was given or taken.
 pub fn fan_in<T: Send + Drop>(
     alloc: Global,
     capacity: u32,

@@ -164,7 +164,8 @@ impl<T: Drop> LaneGiver<T> {
         }
     }
 
-    /// Sends an item at its lane, and waits while the fan is full.
+    /// Sends an item at the lane of this end, and waits while the fan is full; `Closed` returns the item if the
+    /// gatherer is gone.
     ///
     /// The item is appended in one step. The call tries again for about a millisecond, then its thread sleeps until it
     /// is woken. It allocates nothing.
@@ -233,7 +234,8 @@ impl<T: Drop> Gatherer<T> {
             .map_err(|_| Closed(()))
     }
 
-    /// The next item of the fan and the number of its lane; waits while the fan is empty.
+    /// Removes the next item from the fan, and returns the number of its lane and the item; waits while the fan is
+    /// empty. `Closed` if all givers are gone and no item is left.
     ///
     /// The item is taken in one step. The call tries again for about a millisecond, then its thread sleeps until it is
     /// woken. It allocates nothing.
@@ -257,7 +259,8 @@ impl<T: Drop> Gatherer<T> {
         self.wait_and_receive(rt)
     }
 
-    /// The next item of the fan and the number of its lane, or `None` if none arrives within `patience` microseconds.
+    /// Removes the next item from the fan, and returns the number of its lane and the item, or `None` if none arrives
+    /// within `patience` microseconds (at least about a millisecond). It subtracts the time waited from `patience`.
     ///
     /// The item is taken in one step. While the fan is empty, the call tries again for about a millisecond, as `take`
     /// does, then after naps, each an eighth of the time that it has waited and at most a tenth of a second. The time
@@ -335,12 +338,13 @@ impl<T: Drop> Gatherer<T> {
         sender.learn_as::<EachLane>(pass);
     }
 
-    /// Consumes all ends of a fan, and proves that no lane's items were lost, repeated or reordered.
+    /// Consumes the gatherer and these givers, and drops the items that the fan still holds; proves that no item of
+    /// their lanes was lost, repeated or reordered.
     ///
     /// The items given at a lane are those taken from it, followed by those that the fan still holds.
     ///
-    /// No item carries a number other than those of the fan's lanes. The items that the fan still holds are dropped. It
-    /// allocates nothing, and though it is passed `rt`, it never waits.
+    /// No item carries a number other than those of the fan's lanes. It allocates nothing, and though it is passed
+    /// `rt`, it never waits.
     pub fn settle<R: Wait>(self, _rt: &R, mut givers: Vec<LaneGiver<T>>)
         requires some { 1 ≤ vec_len givers }
         requires fan { AreGiversOf self givers.items }

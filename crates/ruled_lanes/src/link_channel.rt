@@ -132,7 +132,7 @@ impl<T: Drop> Giver<T> {
         }
     }
 
-    /// Sends an item on the link, and waits while the link is full.
+    /// Sends an item on the link, and waits while the link is full; `Closed` returns the item if the taker is gone.
     ///
     /// The item is appended in one step. The call tries again for about a millisecond, then its thread sleeps until it
     /// is woken. It allocates nothing.
@@ -186,7 +186,8 @@ impl<T: Drop> Taker<T> {
             .map_err(|_| Closed(()))
     }
 
-    /// The next item of the link; waits while the link is empty.
+    /// Removes the next item from the link and returns it; waits while the link is empty. `Closed` if the giver is gone
+    /// and no item is left.
     ///
     /// The item is taken in one step. The call tries again for about a millisecond, then its thread sleeps until it is
     /// woken. It allocates nothing.
@@ -209,10 +210,11 @@ impl<T: Drop> Taker<T> {
         self.wait_and_receive(rt)
     }
 
-    /// Consumes both ends of a link, and proves that no item was lost, repeated or reordered.
+    /// Consumes both ends of a link and drops the items that it still holds; proves that no item was lost, repeated or
+    /// reordered.
     ///
-    /// The items given are those taken, followed by those that the link still holds; these are dropped. It allocates
-    /// nothing, and though it is passed `rt`, it never waits.
+    /// The items given are those taken, followed by those that the link still holds. It allocates nothing, and though
+    /// it is passed `rt`, it never waits.
     pub fn settle<R: Wait>(self, _rt: &R, giver: Giver<T>)
         requires ends { AreEnds giver self }
         ensures settled { Settles (taken self) (given giver) }

@@ -170,7 +170,8 @@ impl Tickets {
         Ok((tickets, seats))
     }
 
-    /// The next number that no seat has drawn, or `None` if all below the limit are drawn.
+    /// Draws the next number for `seat` from the shared counter; `None` if all numbers below the limit are drawn, and
+    /// then the seat has ended.
     ///
     /// It is one step on the shared word. A seat that got `None` once has ended, and takes no further step. It
     /// allocates nothing and never waits.

@@ -56,7 +56,7 @@ impl Model for Frames {
 impl Frames {
     ghost use Rattle.std.specs.Prelude.{◌≡◌};
 
-    /// These records and this mark.
+    /// The `Frames` of a source with these records, in order, and this mark.
     pub fn new(records: Vec<Record>, mark: Mark) -> Frames
         ensures records { result.records ≡ records.items }
         ensures mark { result.mark ≡ mark }
@@ -96,7 +96,8 @@ pub fn write_frames<S: Sink>(frames: &Frames, sink: &mut S) -> Result<(), WriteF
     write_mark(&mut lines, sink, frames.mark(), records.len() as u64)
 }
 
-/// Reads a source and writes the text of its records and its mark, which is returned.
+/// Reads a source, piece by piece through `buffer`, and writes to the sink a line for each record and one for the mark;
+/// returns the mark.
 ///
 /// The line of a record is written before the next read of the source.
 ///
@@ -193,8 +194,8 @@ impl<S: Sink> Receiver for RecordLines<'_, S> {
     ghost stays_on = { λ x y z p q. (p.0 ∙ q.0, p.1 ∙ q.1) };
 }
 
-/// Writes the lines of records, before which there are `first` others. They are collected in the buffer, which is empty
-/// before and afterwards.
+/// Writes the lines of `records`, numbered from `first` + 1, to the sink, through the buffer `lines`: this must be
+/// empty, and is empty again unless the sink fails.
 fn write_records<S: Sink>(
     lines: &mut TextBuffer,
     sink: &mut S,
@@ -213,7 +214,8 @@ fn write_records<S: Sink>(
     lines.flush(sink)
 }
 
-/// Writes the line of a mark. The buffer is empty before.
+/// Writes the line of a mark, with the number `count` of records, to the sink, through the buffer `lines`, which must
+/// be empty.
 fn write_mark<S: Sink>(
     lines: &mut TextBuffer,
     sink: &mut S,
@@ -228,7 +230,8 @@ fn write_mark<S: Sink>(
     lines.flush(sink)
 }
 
-/// Writes the line of one record.
+/// Appends the line of one record to the buffer `lines`; if that has little room, first writes the whole buffer to the
+/// sink.
 fn write_record<S: Sink>(
     lines: &mut TextBuffer,
     sink: &mut S,

@@ -76,7 +76,7 @@ pub struct IoSink<W> {
 }
 
 impl<W: Write> IoSink<W> {
-    /// A sink over this writer. The bytes taken are those that the writer already contains, and it has not failed.
+    /// A sink over this writer, which has not failed yet. What the writer contains already counts as taken.
     pub fn new(writer: W) -> IoSink<W>
         ensures taken { ⟦<IoSink<W> as Sink>⟧.taken result ≡ W.contents writer }
         ensures intact { ⟦<IoSink<W> as Sink>⟧.failed result ≡ false }
@@ -213,7 +213,7 @@ impl TextBuffer {
         Ok(())
     }
 
-    /// Writes the whole buffer to the sink.
+    /// Writes the whole buffer to the sink and empties it; after an error the buffer keeps its bytes.
     ///
     /// # Errors
     ///
