@@ -34,6 +34,8 @@ impl<P: Purpose> Staged for Item<P, Record, ()> {
         scratch.restock(rt);
     }
 
+    /// Reads the record's graph and traces its faces; the item then has its plane or the fault, and the record only if
+    /// it is carried.
     fn work(self, alloc: Global, scratch: &mut EmbedScratch) -> Embedded<P> {
         let plane = embed(alloc, &mut scratch.planes, &self.rec);
         Item {
@@ -64,6 +66,8 @@ impl<P: Purpose> Staged for Item<P, <P as Purpose>::Carried, Traced> {
         scratch.send_back(rt);
     }
 
+    /// Finds a shape of the plane with the fewest bends, and the directions of its darts; an item without a plane keeps
+    /// its fault.
     fn work(self, alloc: Global, scratch: &mut ShapeScratch) -> Shaped<P> {
         let task = self.task;
         let plane = taken(self.state, &mut scratch.plane_shell);
@@ -95,6 +99,7 @@ impl<P: Purpose> Staged for Item<P, <P as Purpose>::Carried, ShapeFound> {
         scratch.send_back(rt);
     }
 
+    /// Returns what the purpose makes of the record and its shaped plane, which it may draw.
     fn work(self, alloc: Global, scratch: &mut DrawScratch) -> P::Entry {
         let task = self.task;
         let shaped_plane = taken(self.state, &mut scratch.shell);

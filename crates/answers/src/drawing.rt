@@ -23,8 +23,8 @@ use std::alloc::{AllocError, Global};
 use std::sync::Wait;
 use visibility::compact_by_visibility_in;
 
-/// Whether the edges of some points are together no longer than those of others. False if a length takes more than 64
-/// bits.
+/// Whether the edges of the plane, drawn by `points`, are together no longer than drawn by `others`; false if a length
+/// takes more than 64 bits.
 pub(crate) fn is_no_longer(plane: &Plane, points: &Points, others: &Points) -> bool
     requires points { HasPoints plane.now points.now }
     requires others { HasPoints plane.now others.now }
@@ -127,7 +127,8 @@ impl DrawScratch {
         self.take_back_shaped(shaped_plane);
     }
 
-    /// Consumes a shaped plane that is not drawn; its lists return in its holder.
+    /// Consumes a shaped plane that is no longer needed: puts it into the last holder, in which its lists will return
+    /// to an earlier stage. Without a holder it is dropped.
     pub fn take_back_shaped(&mut self, shaped_plane: ShapedPlane) {
         if let Some(shell) = &mut self.shell {
             shell.refill(shaped_plane);
@@ -142,11 +143,12 @@ impl DrawScratch {
     }
 }
 
-/// Points that draw a shape whose darts arrive in these directions, or the cause why there are none.
+/// The drawing, of this kind, of a shape whose darts arrive in these directions, or the cause why there is none. Its
+/// points are checked to draw the shape.
 ///
 /// For a short drawing the points are compacted. The compacted points are returned only if their edges are together no
-/// longer than before, no coordinate is as great as the number of boxes' vertices, and they are checked to draw the
-/// shape. Otherwise the points before are.
+/// longer than before, no coordinate is as great as the number of boxes' vertices, they are checked to draw the shape,
+/// and their regions are the faces. Otherwise the points before are.
 pub(crate) fn draw(
     alloc: Global,
     scratch: &mut DrawScratch,
@@ -190,7 +192,7 @@ pub(crate) fn draw(
     }
 }
 
-/// Points that draw a shaped plane. Each least shape has a drawing.
+/// Points that draw a shaped plane, in this kind of drawing; its shape has the fewest bends, so there are such points.
 ///
 /// Those of a quick drawing are the least points of its boxes. That they draw the shape is proved, so they are not checked.
 pub(crate) fn points_of(
@@ -228,8 +230,8 @@ pub(crate) fn points_of(
     }
 }
 
-/// The drawing that compaction makes of points, if its edges are together no longer, all its coordinates are less than a
-/// limit, it is checked to draw the shape, and its regions are the faces.
+/// The drawing that compaction makes of points, if its edges are together no longer, all its coordinates are less than
+/// a limit, it is checked to draw the shape, and its regions are the faces; otherwise `None`.
 fn shorter_drawing(
     alloc: Global,
     scratch: &mut DrawScratch,

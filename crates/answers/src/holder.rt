@@ -48,7 +48,7 @@ impl<T: Drop> Model for Holder<T> {
 }
 
 impl<T: Drop> Shell<T> {
-    /// A new one.
+    /// A new, empty shell. It allocates one box.
     pub(crate) fn new(alloc: Global) -> Result<Shell<T>, AllocError> {
         Ok(Shell {
             slot: Box::new(alloc, Slot::Empty)?,
@@ -69,7 +69,8 @@ impl<T: Drop> Shell<T> {
     }
 }
 
-/// The value in this holder, or in a new one where there is none; a fault stays as it is.
+/// Puts a value into this shell, or into a new one if there is none, and returns the holder; a fault is returned as it
+/// is, and the shell is dropped.
 ///
 /// # Errors
 ///
@@ -90,7 +91,8 @@ pub(crate) fn held<T: Drop>(
     Ok(Holder { slot })
 }
 
-/// The value out of its holder, which becomes this shell; a fault stays as it is.
+/// Takes a value out of its holder and puts the emptied holder into `shell`; a fault is returned as it is, and `shell`
+/// stays unchanged.
 pub(crate) fn taken<T: Drop>(
     value: Result<Holder<T>, ReadFault>,
     shell: &mut Option<Shell<T>>,
@@ -126,7 +128,8 @@ impl EmbedScratch {
         }
     }
 
-    /// Takes in the holder of a plane and the lists of a spent one, if they have returned.
+    /// If a holder has returned, keeps it for the next plane, and takes over the lists of the spent plane in it. It
+    /// never waits.
     pub(crate) fn restock<R: Wait>(&mut self, rt: &R) {
         if let Some(mut shell) = self.spent.receive(rt) {
             if let Some(plane) = shell.unload() {
@@ -137,10 +140,10 @@ impl EmbedScratch {
     }
 }
 
-/// New, empty scratches of the stages of a lane whose links have room for `capacity` messages.
+/// New scratches of the stages of a lane whose links have room for `capacity` messages, with new queues on which each
+/// stage returns buffers to the one before.
 ///
-/// They are joined by queues on which each stage returns buffers to the one before. A holder is in transit in one link,
-/// alone or in a list, in use in a stage, or on its return.
+/// A holder is in transit in one link, alone or in a list, in use in a stage, or on its return.
 ///
 /// # Errors
 ///

@@ -69,7 +69,7 @@ pub trait Carried: Drop + Send {
     /// The record's bytes.
     ghost bytes: { Self → List ℕ };
 
-    /// What is carried of this record.
+    /// Consumes a record and returns what is carried of it once its graph is read.
     fn carried(rec: Record) -> Self
         ensures { bytes result ≡ rec };
 }
@@ -143,8 +143,8 @@ pub trait Purpose: Drop + Send + Sync {
     fn end(file: u32, end: SourceEnd) -> Self::End
         requires { ends file end.count end.mark };
 
-    /// What a lane gives for a record with this shaped plane, or without one. The scratch may take back lists that it
-    /// does not keep.
+    /// Makes what a lane gives for a record, from its shaped plane or the fault in place of it. The scratch may take
+    /// back lists that the result does not keep.
     fn finish(
         self,
         alloc: Global,
@@ -179,6 +179,7 @@ impl Purpose for KeepEntries {
 
     fn end(_file: u32, _end: SourceEnd) {}
 
+    /// Draws the shaped plane, and returns the entry of the record with its answer.
     fn finish(
         self,
         alloc: Global,

@@ -46,7 +46,8 @@ impl RecordScratch {
         }
     }
 
-    /// The plane of a record, whose greatest face is the outer one.
+    /// Reads a record into its plane, whose outer face is the one with the most darts; it fails with the first rule
+    /// that the record breaks.
     ///
     /// # Errors
     ///
@@ -64,7 +65,8 @@ impl RecordScratch {
         embed_wide(alloc, &mut self.planes, rec)
     }
 
-    /// The plane with the chosen outer face, a least shape of it, and prices that prove it.
+    /// Returns the plane with the chosen outer face, a shape of it with the fewest bends, and prices that prove this; a
+    /// fault in place of the plane is returned as it is.
     ///
     /// The shape is for this kind of drawing, which the plane names. Nothing is drawn.
     ///
@@ -112,7 +114,8 @@ impl RecordScratch {
         )
     }
 
-    /// The plane, a least shape of it that keeps the conditions, and prices that prove it.
+    /// Consumes a plane and returns it with the chosen outer face, a shape with the fewest bends of all that keep the
+    /// conditions, and prices that prove this.
     ///
     /// The outer face is the chosen one of those that may be outside. `First` is the face with the most darts, and
     /// `Best` the one that minimises bends; among equals both are the one with the least number, which has the least

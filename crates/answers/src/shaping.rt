@@ -61,7 +61,8 @@ impl ShapeScratch {
         }
     }
 
-    /// Takes in the holder of a shaped plane and the lists of a spent one, if they have returned.
+    /// If a holder of a shaped plane has returned, keeps it for the next one, and takes over the lists of the spent
+    /// shaped plane in it. It never waits.
     pub(crate) fn restock<R: Wait>(&mut self, rt: &R) {
         if let Some(mut shell) = self.return_queues.shaped_planes.receive(rt) {
             if let Some(spent) = shell.unload() {
@@ -81,7 +82,8 @@ impl ShapeScratch {
         }
     }
 
-    /// Returns the last holder of a plane, with a spent plane if there is one.
+    /// Sends the holder of the last plane, if it is still here, back to the stage before, with a spent plane in it if
+    /// there is one.
     pub(crate) fn send_back<R: Wait>(&mut self, rt: &R) {
         if let Some(mut shell) = self.plane_shell.take() {
             if let Some(plane) = self.plane.take() {
@@ -92,7 +94,8 @@ impl ShapeScratch {
     }
 }
 
-/// The plane with the chosen outer face and a least shape of it for this drawing, or why there is none.
+/// Returns the plane with the chosen outer face, a shape with the fewest bends for this kind of drawing, prices that
+/// prove this, and the directions of its darts; a fault in place of the plane is returned as it is.
 ///
 /// The directions of the darts are found here, and not where the shape is drawn, since drawing takes longest of all
 /// stages.
@@ -135,7 +138,8 @@ pub(crate) fn shape(
     })
 }
 
-/// The directions of the darts of a plane that is drawn by the shape. The next search has the spare list for its own.
+/// The direction in which each dart arrives at its head when the shape is drawn, in quarter turns to the left from
+/// east. It works in the lists of the scratch, one of which becomes the result.
 pub(crate) fn directions_of(
     alloc: Global,
     scratch: &mut ShapeScratch,

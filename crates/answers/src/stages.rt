@@ -32,7 +32,8 @@ fn fault_without_graph(broken: Option<Rule>) -> ReadFault
     }
 }
 
-/// The plane of a graph, unless it breaks the last rule; reuses the caller's scratch.
+/// Consumes a graph and returns its plane, or `Rule::Genus` if the graph breaks that rule; its lists then go to the
+/// scratch.
 fn trace(alloc: Global, scratch: &mut faces::Scratch, graph: Graph) -> Result<Plane, ReadFault>
     ensures { IsEmbedded graph result }
 {
@@ -62,7 +63,7 @@ pub(crate) fn embed(
     }
 }
 
-/// The plane of a wide record, or why there is none, as that of a record.
+/// The plane of a wide record, or why there is none; it works as `embed` does for a record.
 pub(crate) fn embed_wide(
     alloc: Global,
     scratch: &mut faces::Scratch,
@@ -77,7 +78,8 @@ pub(crate) fn embed_wide(
     }
 }
 
-/// What is answered to a record with this shaped plane, which is drawn so, or without one.
+/// The answer to a record: draws its shaped plane, or names the rule that the record breaks; `NoMemory` if memory ran
+/// out, here or before.
 pub(crate) fn answer_with(
     alloc: Global,
     scratch: &mut DrawScratch,
@@ -114,7 +116,8 @@ pub(crate) fn answer_with(
     }
 }
 
-/// Adds points that draw it to a plane with a least shape; a record without a plane keeps its fault.
+/// Returns a shaped plane with points that draw it, in this kind of drawing; a fault in place of the plane is returned
+/// as it is, and lack of memory as `Memory`.
 ///
 /// The points of a quick drawing are not checked: it is proved that they draw the shape.
 pub fn find_points(

@@ -30,7 +30,8 @@ pub struct Counted {
     pub flaws: Vec<Flaws>,
 }
 
-/// Counts the chosen graphs of the files of a run, in these columns.
+/// Runs lanes over the files of a run, and counts the chosen graphs; returns their table in these columns, and what is
+/// lacking in each file.
 ///
 /// Memory grows with the number of different combinations alone.
 ///

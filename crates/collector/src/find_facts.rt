@@ -71,7 +71,8 @@ pub fn status_of_flaws(flaws: &[Flaws]) -> u8
     }
 }
 
-/// The flaws of each of `files` files of which nothing has arrived: each ends `memory`.
+/// A new list of the flaws of `files` files of which nothing has arrived: each has the mark `memory`, and no unanswered
+/// record.
 pub(crate) fn no_flaws(alloc: Global, files: u32) -> Result<Vec<Flaws>, AllocError>
     ensures count { IfOk result (λ flaws. length flaws.items ≡ files) }
     ensures none { IfOk result (λ flaws. All (λ each. each ≡ flaws_of (book_so_far none_arrived)) flaws.items) }
@@ -112,7 +113,7 @@ pub(crate) fn add_flaw(
     }
 }
 
-/// Keeps the mark with which a file has ended.
+/// Sets the mark in the flaws of a file to the one with which the file has ended.
 pub(crate) fn set_mark(flaws: &mut Vec<Flaws>, file: u32, mark: Mark)
     requires { file < length flaws.old.items }
     ensures count { length flaws.new.items ≡ length flaws.old.items }

@@ -77,10 +77,10 @@ impl<R: Wait> Receiver for PieceGiver<'_, R> {
     ghost stays_on = { λ x y z p q. q ∙ p };
 }
 
-/// Reads a source and sends its records in order, then one mark and one stop; returns the sending end.
+/// Reads a source and sends its records in order, then one mark and one stop; returns the sending end, or `None` if the
+/// link's other end was gone.
 ///
-/// It reads to the end of the source, to its failure, or to the first fault in its bytes. `None` if the link's other
-/// end was gone.
+/// It reads to the end of the source, to its failure, or to the first fault in its bytes.
 pub fn give_all<R: Wait, T: Tap>(
     rt: &R,
     alloc: Global,
@@ -128,7 +128,7 @@ struct GatheredRecords {
     mark: Option<Mark>,
 }
 
-/// The records of one source and its mark, read by a thread of its own.
+/// Reads one source on a thread of its own, which it starts and joins; returns the records and the mark of the source.
 ///
 /// At most `capacity` of its messages wait to be gathered. After the first fault in the bytes, the source is read no
 /// more.
@@ -194,7 +194,8 @@ pub fn run_frames<R: Threads + Wait + Sync, T: Tap + Send>(
     )
 }
 
-/// Takes messages until the stop. If it fails, it drops the receiving end, so that the giver does not wait for it.
+/// Takes messages until the stop; returns their records, the mark and the receiving end. If it fails, it drops that
+/// end, so that the giver does not wait for it.
 fn gather<R: Wait>(
     rt: &R,
     alloc: Global,
@@ -226,8 +227,8 @@ fn gather<R: Wait>(
     })
 }
 
-/// Settles the link by both of its ends. This proves that the records gathered are all that were sent, and that there
-/// is a mark.
+/// Settles the link by both of its ends; returns the gathered records with their mark. This proves that they are all
+/// that were sent, and that there is a mark.
 fn settle<R: Wait>(rt: &R, gathered: GatheredRecords, giver: Giver<ReadMessage>) -> Frames
     requires ends { AreEnds giver gathered.taker }
     requires all { GathersAll gathered.records.items gathered.mark (taken gathered.taker) }

@@ -40,7 +40,7 @@ pub struct Picks {
 }
 
 impl Picks {
-    /// An empty reorder buffer for the records of `files` files that are chosen.
+    /// An empty reorder buffer for the chosen records of `files` files. The sink gets the header before them.
     ///
     /// # Errors
     ///
@@ -67,7 +67,8 @@ impl Picks {
         })
     }
 
-    /// Takes in one more record.
+    /// Takes in one more record, and counts a flaw if it has no facts. If it is chosen, it goes on to the sink if its
+    /// file is current, and is buffered otherwise.
     ///
     /// # Errors
     ///
@@ -97,7 +98,8 @@ impl Picks {
         self.order.add(alloc, sink, file, found.picked(&selection))
     }
 
-    /// Takes in the end of a file.
+    /// Takes in the end of a file; if the file is current, moves on to the first file that has not ended, and writes
+    /// what is buffered of each file reached.
     ///
     /// # Errors
     ///
@@ -166,8 +168,8 @@ impl Picks {
     }
 }
 
-/// Writes the header and the chosen records of the files of a run, in the order of files and of each file; returns what
-/// is lacking in each file.
+/// Runs lanes over the files of a run, and writes the header and the chosen records to the sink, in the order of files
+/// and of each file; returns what is lacking in each file.
 ///
 /// Each record is written as it is decided whether it is chosen: those of the first file that has not ended go to the
 /// sink, and those of later files are buffered. If the buffered records hold `waiting` bytes of memory or more, the

@@ -106,7 +106,7 @@ pub fn found_line(
     }
 }
 
-/// The lanes that make output lines in this style.
+/// The kind of lanes that make output lines in this style. No lane is started.
 ///
 /// The report shows no coordinates, so its lines are of quick drawings, whatever kind is asked for.
 pub fn line_lanes<J: KnownFiles>(style: Style) -> Answering<PrintLines<J>>

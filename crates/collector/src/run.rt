@@ -34,6 +34,7 @@ impl RecordSink for Entries {
 
     ghost accepts = { λ _ _ _ _. ⊤ };
 
+    /// Answers the record on this thread, and appends its entry.
     fn keep(
         &mut self,
         alloc: Global,
@@ -106,7 +107,7 @@ fn plain_books<O: Opener>(
     Ok(Batch::new(books))
 }
 
-/// The book of one file.
+/// Reads one file on this thread, through `buffer`, and answers its records; returns its book.
 fn read_book<O: Opener>(
     alloc: Global,
     opener: &O,

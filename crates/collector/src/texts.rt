@@ -65,7 +65,8 @@ impl Lines {
         })
     }
 
-    /// Takes in the line of one more entry.
+    /// Takes in the line of one more entry, or if it has none, a line saying that memory ran out. The line goes on to
+    /// the sink if its file is current, and is buffered otherwise.
     ///
     /// # Errors
     ///
@@ -104,7 +105,8 @@ impl Lines {
         }
     }
 
-    /// Takes in the end of a file.
+    /// Takes in the end of a file; if the file is current, writes its last line, moves on to the first file that has
+    /// not ended, and writes the text of each file reached.
     ///
     /// # Errors
     ///
@@ -154,7 +156,8 @@ impl Lines {
         }
     }
 
-    /// Adds the line of one more entry that has no answer or no line.
+    /// Takes in a line saying that memory ran out, for one more entry that has no answer or no line; the run is then
+    /// not flawless.
     fn add_lacking<S: Sink>(
         &mut self,
         alloc: Global,
@@ -182,7 +185,8 @@ impl Lines {
         self.order.add(alloc, sink, file, text.as_slice())
     }
 
-    /// Ends the current file and moves on, as long as the current file has its mark.
+    /// While the current file has ended: writes its last line, moves on to the next file, and writes that file's first
+    /// line and its buffered lines.
     fn advance<S: Sink>(&mut self, alloc: Global, sink: &mut S) -> Result<(), RunFault<SinkFault>>
         requires { S.failed sink.old ≡ false }
         ensures written { OnOk result ((start : Option (List ℕ)) (came : ℕ → Came)
@@ -208,7 +212,7 @@ impl Lines {
     }
 }
 
-/// Whether a run is still flawless after one more mark, given whether it was before.
+/// Whether a run is flawless with one more mark: it was `flawless` before, and the mark is complete.
 fn is_flawless_with(flawless: bool, mark: Mark) -> bool
     ensures { IsTrue result ↔ (IsTrue flawless × (mark ≡ Mark.Ended Ending.Complete)) }
 {

@@ -152,7 +152,7 @@ impl Range {
     }
 }
 
-/// Whether a number is at most the limit, if there is one.
+/// Whether a number is at most the limit; true if there is no limit.
 fn is_up_to(limit: Option<u32>, number: u32) -> bool
     ensures { result ≡ is_up_to limit number }
 {
@@ -162,7 +162,8 @@ fn is_up_to(limit: Option<u32>, number: u32) -> bool
     }
 }
 
-/// The range whose ends a text names, in either order; `None` if it names none.
+/// The range that a text names, also an empty one, whose first number is above its last; `None` if the text has another
+/// form.
 fn ends_of(text: &str) -> Option<Range>
     ensures some { IfSome result (NamesEnds text.now) }
     ensures none { IfNone result ((range : Range) → ¬ NamesEnds text.now range) }
@@ -173,7 +174,7 @@ fn ends_of(text: &str) -> Option<Range>
     }
 }
 
-/// The range of the one number that a text is; `None` if it is none.
+/// The range of the single number that a text names; `None` if the text is no number of at most 32 bits.
 fn one_number(text: &str) -> Option<Range>
     ensures some { IfSome result (IsOneNumber text.now) }
     ensures none { IfNone result ((range : Range) → ¬ IsOneNumber text.now range) }
@@ -204,7 +205,7 @@ fn two_ends(low: &str, high: &str) -> Option<Range>
     }
 }
 
-/// The end that a text names, which is missing if the text is empty; `None` if it is not empty and no number.
+/// The number that a text names, or `Some(None)` if it is empty; `None` if it is neither a number nor empty.
 fn end_of(text: &str) -> Option<Option<u32>>
     ensures some { IfSome result (IsEnd text.now) }
     ensures none { IfNone result ((end : Option ℕ) → ¬ IsEnd text.now end) }
@@ -260,7 +261,8 @@ pub struct Selection {
 }
 
 impl Selection {
-    /// Whether a graph is chosen.
+    /// Whether a graph with these facts is chosen: whether it meets the conditions, or if the others are asked for,
+    /// whether it does not.
     pub fn chooses(&self, facts: &Facts) -> bool
         ensures { result ≡ chooses self.now facts.now }
     {
@@ -290,7 +292,7 @@ fn meets_range(condition: Option<Range>, number: Option<u32>) -> bool
     }
 }
 
-/// Whether the first broken rule, if any, meets a condition on it, if there is one.
+/// Whether the first broken rule, `None` if none is broken, meets a condition on it; true without a condition.
 fn meets_rule(condition: Option<RuleCondition>, rule: Option<Rule>) -> bool
     ensures { result ≡ meets_rule condition rule }
 {
@@ -303,7 +305,7 @@ fn meets_rule(condition: Option<RuleCondition>, rule: Option<Rule>) -> bool
 }
 
 impl RuleCondition {
-    /// The condition that a text names: `none`, or the word of a rule; `None` if it names none.
+    /// The condition that a text names: `none`, or the word of a rule; `None` for any other text.
     pub fn parse(text: &str) -> Option<RuleCondition>
         ensures some { IfSome result (IsRuleText text.now) }
         ensures none { IfNone result ((condition : RuleCondition) → ¬ IsRuleText text.now condition) }
@@ -342,8 +344,8 @@ impl Columns {
     }
 }
 
-/// The columns with one more, that with this name; `None` if there are none, if it is one of them, or if no column has
-/// this name.
+/// Adds the column with this name to these columns; `None` if `columns` is `None` or has it already, or if no column
+/// has this name.
 fn with_column(columns: Option<Columns>, name: &str) -> Option<Columns>
     ensures { result ≡ with_column columns name.now }
 {

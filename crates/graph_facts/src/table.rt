@@ -51,7 +51,7 @@ impl Columns {
         self.vertices || self.edges || self.faces || self.bends || self.rule
     }
 
-    /// What a graph has in these columns.
+    /// The combination of a graph with these facts: what it has in these columns, and `None` in all others.
     pub fn combination_of(&self, facts: &Facts) -> Combination
         ensures { result ≡ combination_of self.now facts.now }
     {
@@ -70,7 +70,7 @@ impl Columns {
 }
 
 impl Combination {
-    /// The place of the rule in the order in which rules are tried.
+    /// The place of the rule in the order in which rules are tried, from 1; `None` without a rule.
     fn rule_place(&self) -> Option<u8>
         ensures { result ≡ rule_place self.now }
     {
@@ -191,7 +191,7 @@ impl Counts {
         &self.rows
     }
 
-    /// The number of graphs with a combination.
+    /// The number of graphs with a combination; 0 if it does not occur.
     fn number_of(&self, combination: &Combination) -> u64
         ensures { result ≡ number_at self.now.rows combination.now }
     {
@@ -221,7 +221,8 @@ pub fn write_counts<S: Sink>(counts: &Counts, sink: &mut S) -> Result<(), WriteF
     lines.flush(sink)
 }
 
-/// Writes the line of a combination and its number of graphs, if a column is asked for.
+/// Adds the line of a combination and its number of graphs to the buffer `lines`, if a column is asked for. If the
+/// buffer is nearly full, it is written to the sink first.
 fn write_row<S: Sink>(
     lines: &mut TextBuffer,
     sink: &mut S,
@@ -241,7 +242,8 @@ fn write_row<S: Sink>(
     Ok(())
 }
 
-/// Writes the line of the number of all graphs.
+/// Adds the line of the number of all graphs to the buffer `lines`. If the buffer is nearly full, it is written to the
+/// sink first.
 fn write_total<S: Sink>(lines: &mut TextBuffer, sink: &mut S, total: u64) -> Result<(), WriteFault>
     requires { S.failed sink.old ≡ false }
     ensures { StaysInTransit (S.taken sink.old) lines.old (S.taken sink.new) lines.new
@@ -277,7 +279,7 @@ fn push_total(lines: &mut TextBuffer, total: u64)
     lines.push(b"\n");
 }
 
-/// Appends a column with this name, if it is asked for.
+/// Appends the column with this name and number, if it is asked for; `-` if there is no number.
 fn push_column(lines: &mut TextBuffer, asked: bool, name: &[u8], number: Option<u32>)
     requires { length lines.old + length name.now + 41 ≤ ROOM }
     ensures text { lines.new ≡ lines.old ++ column_text asked name.now (number_text number) }
@@ -294,7 +296,7 @@ fn push_column(lines: &mut TextBuffer, asked: bool, name: &[u8], number: Option<
     lines.push(b" ");
 }
 
-/// Appends the column of the first broken rule, if it is asked for.
+/// Appends the column of the first broken rule, if it is asked for; `none` if no rule is broken.
 fn push_rule(lines: &mut TextBuffer, asked: bool, rule: Option<Rule>)
     requires { length lines.old + 20 ≤ ROOM }
     ensures text { lines.new ≡ lines.old ++ column_text asked (codes "rule=") (rule_text rule) }

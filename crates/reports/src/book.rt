@@ -111,7 +111,8 @@ impl Batch {
     }
 }
 
-/// The batch with a book for each draft; each draft must hold all of its file.
+/// The batch with a book for each draft, in order. It consumes the drafts, each of which must hold all entries and the
+/// mark of its file.
 ///
 /// # Errors
 ///
@@ -138,7 +139,7 @@ fn book_of(draft: Draft<Entry>) -> Book
     Book::new(draft.entries, draft.mark.unwrap())
 }
 
-/// The exit status of a report of records: 0 if the file ended complete, and otherwise 3.
+/// The exit status for a file with this mark: 0 if the file ended complete, and otherwise 3.
 pub fn status_of(mark: Mark) -> u8
     ensures complete { (result ≡ 0) ↔ (mark ≡ Mark.Ended Ending.Complete) }
     ensures other { mark ≢ Mark.Ended Ending.Complete → result ≡ 3 }

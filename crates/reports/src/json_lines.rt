@@ -208,7 +208,8 @@ pub fn write_json<S: Sink>(alloc: Global, batch: &Batch, sink: &mut S) -> Result
     lines.flush(sink)
 }
 
-/// Writes the lines of one file.
+/// Adds the JSON lines of a book to the buffer `lines`, which is written to the sink each time it is nearly full;
+/// `file` is the number to print.
 fn write_book<S: Sink>(
     alloc: Global,
     lines: &mut TextBuffer,
@@ -225,7 +226,8 @@ fn write_book<S: Sink>(
     write_end(alloc, lines, sink, file, book.mark(), entries.len() as u64)
 }
 
-/// Writes a line for each entry.
+/// Adds the JSON line of each entry to the buffer `lines`, which is written to the sink each time it is nearly full;
+/// entries are numbered from 1.
 fn write_entries<S: Sink>(
     alloc: Global,
     lines: &mut TextBuffer,
@@ -243,7 +245,7 @@ fn write_entries<S: Sink>(
     Ok(())
 }
 
-/// Writes the line of one entry.
+/// Adds the JSON line of one entry to the buffer `lines`, which is written to the sink each time it is nearly full.
 fn write_entry<S: Sink>(
     alloc: Global,
     lines: &mut TextBuffer,
@@ -262,7 +264,8 @@ fn write_entry<S: Sink>(
     }
 }
 
-/// Writes the line of a mark.
+/// Adds the JSON line of a file's end, with its mark and its number of graphs, to the buffer `lines`, which is written
+/// to the sink each time it is nearly full.
 fn write_end<S: Sink>(
     alloc: Global,
     lines: &mut TextBuffer,

@@ -18,7 +18,7 @@ use faces::Plane;
 use ortho_rep::{Point, Points, Prices, Shape};
 use std::alloc::AllocError;
 
-/// Appends the angles, by dart.
+/// Appends a JSON array of the angles of the shape, in the order of darts.
 pub(crate) fn put_angles(out: &mut Vec<u8>, plane: &Plane, shape: &Shape) -> Result<(), AllocError>
     requires { HasDarts plane.now shape.now }
     ensures { OnOk result (out.new.items ≡ out.old.items ++ compact_text (array_of natural shape.now.angles)) }
@@ -30,7 +30,7 @@ pub(crate) fn put_angles(out: &mut Vec<u8>, plane: &Plane, shape: &Shape) -> Res
     bytes(out, b"]")
 }
 
-/// Appends the turns, by dart.
+/// Appends a JSON array of the turns: for each dart a string of letters `L` and `R`.
 pub(crate) fn put_turns(out: &mut Vec<u8>, shape: &Shape) -> Result<(), AllocError>
     ensures { OnOk result (out.new.items ≡ out.old.items ++ compact_text (array_of turns_data shape.now.strings)) }
 {
@@ -41,7 +41,7 @@ pub(crate) fn put_turns(out: &mut Vec<u8>, shape: &Shape) -> Result<(), AllocErr
     bytes(out, b"]")
 }
 
-/// Appends the prices of the vertices, in order.
+/// Appends a JSON array of the prices of the vertices, in order.
 pub(crate) fn put_vertex_prices(
     out: &mut Vec<u8>,
     plane: &Plane,
@@ -57,7 +57,7 @@ pub(crate) fn put_vertex_prices(
     bytes(out, b"]")
 }
 
-/// Appends the prices of the faces, in order.
+/// Appends a JSON array of the prices of the faces, in order.
 pub(crate) fn put_face_prices(
     out: &mut Vec<u8>,
     plane: &Plane,
@@ -73,7 +73,8 @@ pub(crate) fn put_face_prices(
     bytes(out, b"]")
 }
 
-/// Appends the corners of the first `edges` edges, in order. An edge without a list has none.
+/// Appends a JSON array with an array of corners for each of the first `edges` edges, in order; an edge without a list
+/// of corners gets an empty one.
 pub(crate) fn put_corners(out: &mut Vec<u8>, points: &Points, edges: u16) -> Result<(), AllocError>
     ensures { OnOk result (out.new.items
         ≡ out.old.items ++ compact_text (array_of (corners_data points.now) (range_with_len 0 edges))) }
@@ -85,7 +86,8 @@ pub(crate) fn put_corners(out: &mut Vec<u8>, points: &Points, edges: u16) -> Res
     bytes(out, b"]")
 }
 
-/// Appends the corners of one edge, after a comma if `later`.
+/// Appends the corners of one edge as a JSON array, after a comma if `later`; it is empty if `points` has no list for
+/// the edge.
 fn put_edge(out: &mut Vec<u8>, later: bool, points: &Points, edge: u16) -> Result<(), AllocError>
     ensures { OnOk result (out.new.items ≡ out.old.items ++ (comma_if later ++ compact_text (corners_data points.now edge))) }
 {
@@ -97,7 +99,7 @@ fn put_edge(out: &mut Vec<u8>, later: bool, points: &Points, edge: u16) -> Resul
     put_points(out, corners)
 }
 
-/// The corners of an edge; empty for an edge without a list.
+/// The corners of an edge; empty if `points` has no list for the edge.
 fn corners_of(points: &Points, edge: u16) -> &[Point]
     ensures { result.now ≡ corners_at points.now edge }
 {
@@ -108,7 +110,7 @@ fn corners_of(points: &Points, edge: u16) -> &[Point]
     }
 }
 
-/// Appends these points, in order.
+/// Appends a JSON array of these points, in order.
 pub(crate) fn put_points(out: &mut Vec<u8>, points: &[Point]) -> Result<(), AllocError>
     ensures { OnOk result (out.new.items ≡ out.old.items ++ compact_text (array_of point_data points.now)) }
 {
@@ -121,7 +123,7 @@ pub(crate) fn put_points(out: &mut Vec<u8>, points: &[Point]) -> Result<(), Allo
     bytes(out, b"]")
 }
 
-/// Appends the beginning of the object, and the members about the shape, up to the number of faces.
+/// Appends `{` and the members `angles`, `bends`, `drawn` and `f` of a graph's JSON object.
 pub(crate) fn put_shape(
     out: &mut Vec<u8>,
     plane: &Plane,
@@ -142,7 +144,7 @@ pub(crate) fn put_shape(
     natural_at(out, b",\"f\":", u64::from(plane.face_count()))
 }
 
-/// Appends a number after a key, which is given as written.
+/// Appends `key` as given, with its punctuation, and then a number in decimal.
 pub(crate) fn natural_at(out: &mut Vec<u8>, key: &[u8], number: u64) -> Result<(), AllocError>
     ensures { OnOk result (out.new.items ≡ out.old.items ++ (key.now ++ decimal number)) }
 {
@@ -150,7 +152,7 @@ pub(crate) fn natural_at(out: &mut Vec<u8>, key: &[u8], number: u64) -> Result<(
     natural(out, false, number)
 }
 
-/// Appends whether there is a drawing, or the word of the cause.
+/// Appends a comma and the member `drawn`: `yes`, or the word of the cause why there is no drawing.
 fn put_drawn(out: &mut Vec<u8>, drawing: Result<&Points, Cause>) -> Result<(), AllocError>
     ensures { OnOk result (out.new.items ≡ out.old.items ++ 44 ∷ member_text (codes "drawn") (drawn_data (points_in drawing.entry))) }
 {
@@ -164,7 +166,7 @@ fn put_drawn(out: &mut Vec<u8>, drawing: Result<&Points, Cause>) -> Result<(), A
     }
 }
 
-/// Appends the number of the graph and that of its file.
+/// Appends a comma and the members `file` and `graph`, with these numbers.
 pub(crate) fn put_place(out: &mut Vec<u8>, file: u32, graph: u64) -> Result<(), AllocError>
     ensures { OnOk result (out.new.items ≡ out.old.items
         ++ 44 ∷ (member_text (codes "file") (natural file) ++ 44 ∷ member_text (codes "graph") (natural graph))) }
@@ -173,7 +175,7 @@ pub(crate) fn put_place(out: &mut Vec<u8>, file: u32, graph: u64) -> Result<(), 
     natural_at(out, b",\"graph\":", graph)
 }
 
-/// Appends the numbers of edges and vertices.
+/// Appends a comma and the members `m` and `n`, with the numbers of edges and of vertices.
 pub(crate) fn put_sizes(out: &mut Vec<u8>, plane: &Plane) -> Result<(), AllocError>
     ensures { OnOk result (out.new.items ≡ out.old.items
         ++ 44 ∷ (member_text (codes "m") (natural (darts plane.now / 2)) ++ 44 ∷ member_text (codes "n") (natural (vertices plane.now)))) }
@@ -182,7 +184,8 @@ pub(crate) fn put_sizes(out: &mut Vec<u8>, plane: &Plane) -> Result<(), AllocErr
     natural_at(out, b",\"n\":", u64::from(plane.graph().vertices()))
 }
 
-/// Appends the member with the points of `edges` edges and of the vertices; null if there is no drawing.
+/// Appends a comma and the member `points`: the corners of the first `edges` edges and the points of the vertices, or
+/// null if there is no drawing.
 pub(crate) fn put_drawing(
     out: &mut Vec<u8>,
     edges: u16,
@@ -196,7 +199,7 @@ pub(crate) fn put_drawing(
     }
 }
 
-/// Appends the member with the points of `edges` edges and of the vertices.
+/// Appends a comma and the member `points`: the corners of the first `edges` edges and the points of the vertices.
 fn put_drawn_points(out: &mut Vec<u8>, edges: u16, points: &Points) -> Result<(), AllocError>
     ensures { OnOk result (out.new.items ≡ out.old.items ++ 44 ∷ member_text (codes "points") (points_data edges (Drawn points.now))) }
 {
@@ -207,7 +210,7 @@ fn put_drawn_points(out: &mut Vec<u8>, edges: u16, points: &Points) -> Result<()
     bytes(out, b"}")
 }
 
-/// Appends the member with the prices of the faces and of the vertices.
+/// Appends a comma and the member `prices`, with the prices of the faces and of the vertices.
 pub(crate) fn put_prices(
     out: &mut Vec<u8>,
     plane: &Plane,
@@ -223,7 +226,7 @@ pub(crate) fn put_prices(
     bytes(out, b"}")
 }
 
-/// Appends the result "ok" and the turns, and ends the object.
+/// Appends a comma, the members `status` (`ok`) and `turns`, and the `}` that ends a graph's JSON object.
 pub(crate) fn put_end(out: &mut Vec<u8>, shape: &Shape) -> Result<(), AllocError>
     ensures { OnOk result (out.new.items ≡ out.old.items
         ++ 44 ∷ (member_text (codes "status") (string (codes "ok"))

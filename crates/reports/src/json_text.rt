@@ -69,7 +69,7 @@ pub(crate) fn integer(out: &mut Vec<u8>, later: bool, number: i32) -> Result<(),
     minus(out, later, number.unsigned_abs())
 }
 
-/// Appends a negative number of this size, after a comma if `later`.
+/// Appends a minus sign and `size`, after a comma if `later`.
 fn minus(out: &mut Vec<u8>, later: bool, size: u32) -> Result<(), AllocError>
     ensures { OnOk result (out.new.items ≡ out.old.items ++ (comma_if later ++ 45 ∷ decimal size)) }
 {
@@ -90,7 +90,7 @@ fn minus_digit(out: &mut Vec<u8>, size: u8) -> Result<(), AllocError>
     out.extend_from_slice(&[b',', b'-', b'0' + size])
 }
 
-/// Appends a point, after a comma if `later`.
+/// Appends a point as `[x,y]`, after a comma if `later`.
 pub(crate) fn point(out: &mut Vec<u8>, later: bool, point: Point) -> Result<(), AllocError>
     ensures { OnOk result (out.new.items ≡ out.old.items ++ (comma_if later ++ compact_text (point_data point))) }
 {
@@ -114,7 +114,7 @@ fn small_point(out: &mut Vec<u8>, x: u8, y: u8) -> Result<(), AllocError>
     out.extend_from_slice(&[b',', b'[', b'0' + x, b',', b'0' + y, b']'])
 }
 
-/// Appends the turns of a dart, after a comma if `later`.
+/// Appends the turns of a dart as a string of letters `L` and `R`, after a comma if `later`.
 pub(crate) fn turns(out: &mut Vec<u8>, later: bool, turns: &[Turn]) -> Result<(), AllocError>
     ensures { OnOk result (out.new.items ≡ out.old.items ++ (comma_if later ++ compact_text (turns_data turns.now))) }
 {
@@ -137,7 +137,7 @@ fn letters(out: &mut Vec<u8>, turns: &[Turn]) -> Result<(), AllocError>
     Ok(())
 }
 
-/// The letter of a turn.
+/// The letter of a turn: `L` for left, `R` for right.
 fn letter(turn: Turn) -> u8
     ensures { result ≡ letter_of turn }
 {

@@ -109,7 +109,7 @@ impl ReportLine {
         line
     }
 
-    /// The line of a graph that is drawn, with this number.
+    /// The line of the graph with this number, plane and shape, saying that it is drawn.
     pub fn of_drawn(number: u64, plane: &Plane, shape: &Shape) -> ReportLine
         ensures { (prices : PricesModel) (points : PointsModel) → result ≡ graph_line number (Laid plane.now shape.now prices (Drawn points)) }
     {
@@ -135,7 +135,8 @@ impl ReportLine {
         line
     }
 
-    /// Appends the answer.
+    /// Appends the text of an answer: the sizes of the plane and whether it is drawn, the rule that is broken, or
+    /// `memory`.
     fn push_answer(&mut self, answer: &Answer)
         requires { length self.old + ANSWER ≤ LONGEST }
         ensures text { self.new ≡ self.old ++ answer_text answer.now }
@@ -176,7 +177,7 @@ impl ReportLine {
         self.push_number(u64::from(shape.bends()));
     }
 
-    /// Appends whether there is a drawing.
+    /// Appends ` drawn=yes` if there is a drawing, and otherwise ` drawn=no cause=WORD`, with the word of the cause.
     fn push_drawn(&mut self, drawing: &Result<Drawing, Cause>)
         requires { length self.old + DRAWN ≤ LONGEST }
         ensures text { self.new ≡ self.old ++ drawn_text drawing.now }
@@ -217,7 +218,8 @@ pub fn write_report<S: Sink>(batch: &Batch, sink: &mut S) -> Result<(), WriteFau
     lines.flush(sink)
 }
 
-/// Writes the lines of one file.
+/// Adds the report lines of a book to the buffer `lines`, which is written to the sink each time it is nearly full;
+/// `number` is the number of the file.
 fn write_book<S: Sink>(
     lines: &mut TextBuffer,
     sink: &mut S,
@@ -235,7 +237,8 @@ fn write_book<S: Sink>(
     write_line(lines, sink, &end)
 }
 
-/// Writes a line for each entry.
+/// Adds the report line of each entry to the buffer `lines`, which is written to the sink each time it is nearly full;
+/// entries are numbered from 1.
 fn write_entries<S: Sink>(
     lines: &mut TextBuffer,
     sink: &mut S,
@@ -255,7 +258,7 @@ fn write_entries<S: Sink>(
     Ok(())
 }
 
-/// Writes one line.
+/// Adds a line to the buffer `lines`, which is written to the sink first if it is nearly full.
 fn write_line<S: Sink>(
     lines: &mut TextBuffer,
     sink: &mut S,
