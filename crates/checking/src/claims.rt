@@ -14,7 +14,7 @@ use ortho_rep::{Prices, Turn};
 use serde_json::Value;
 use std::alloc::Global;
 
-/// The number of bends that a value claims, in the field `bends`.
+/// The number of bends that a JSON value claims, in the field `bends`; `None` if it has no such field.
 ///
 /// # Errors
 ///
@@ -31,7 +31,7 @@ pub(crate) fn bends_in(value: &Value) -> Result<Option<u32>, LineFault>
     }
 }
 
-/// The outer face that a value claims, in the field `outer`.
+/// The outer face that a JSON value claims, in the field `outer`; `None` if it has no such field.
 ///
 /// # Errors
 ///
@@ -48,7 +48,7 @@ pub(crate) fn outer_in(value: &Value) -> Result<Option<u16>, LineFault>
     }
 }
 
-/// The angles that a value claims, in the field `angles`.
+/// The angles that a JSON value claims, in the field `angles`; `None` if it has no such field.
 ///
 /// # Errors
 ///
@@ -68,7 +68,8 @@ pub(crate) fn angles_in(alloc: Global, value: &Value) -> Result<Option<Vec<u8>>,
     }
 }
 
-/// The angles that a value is.
+/// The angles that a JSON value holds as an array; `Angles` if it is no array, `Number` if an element is no integer
+/// from 0 to 255, or `Memory`.
 fn angle_list(alloc: Global, value: &Value) -> Result<Vec<u8>, LineFault>
     ensures ok { IfOk result (λ angles. view value.now ≡ array_of natural angles.items) }
     ensures none { IfErr result (λ fault. fault ≢ Memory
@@ -83,7 +84,7 @@ fn angle_list(alloc: Global, value: &Value) -> Result<Vec<u8>, LineFault>
     Ok(angles)
 }
 
-/// The prices that a value claims, in the field `prices`.
+/// The prices that a JSON value claims, in the field `prices`; `None` if it has no such field.
 ///
 /// # Errors
 ///
@@ -103,7 +104,8 @@ pub(crate) fn prices_in(alloc: Global, value: &Value) -> Result<Option<Prices>, 
     }
 }
 
-/// The prices that a value has in `vertices` and `faces`.
+/// The prices in the fields `vertices` and `faces` of a JSON value, of which neither may be absent. The error is the
+/// first fault, or `Memory`.
 fn two_price_lists(alloc: Global, field: &Value) -> Result<Prices, LineFault>
     ensures ok { IfOk result (HasPriceLists (view field.now)) }
     ensures none { IfErr result (λ fault. fault ≢ Memory
@@ -115,7 +117,8 @@ fn two_price_lists(alloc: Global, field: &Value) -> Result<Prices, LineFault>
     Ok(Prices::new(vertices, faces))
 }
 
-/// The prices that a value has in the field of this name.
+/// The prices in the field `name` of a JSON value; `Prices` if there is no such array, `Number` if an element is no
+/// signed integer of 32 bits, or `Memory`.
 fn prices_at(alloc: Global, value: &Value, name: &str) -> Result<Vec<i32>, LineFault>
     ensures ok { IfOk result (λ prices. HasIntegers name.now (view value.now) prices.items) }
     ensures within { IfOk result (λ prices. All IsOf32Bits prices.items) }
@@ -129,7 +132,8 @@ fn prices_at(alloc: Global, value: &Value, name: &str) -> Result<Vec<i32>, LineF
     }
 }
 
-/// The prices that a value is.
+/// The prices that a JSON value holds as an array; `Prices` if it is no array, `Number` if an element is no signed
+/// integer of 32 bits, or `Memory`.
 fn price_list(alloc: Global, value: &Value) -> Result<Vec<i32>, LineFault>
     ensures ok { IfOk result (λ prices. AreIntegers (view value.now) prices.items) }
     ensures within { IfOk result (λ prices. All IsOf32Bits prices.items) }
@@ -145,7 +149,7 @@ fn price_list(alloc: Global, value: &Value) -> Result<Vec<i32>, LineFault>
     Ok(prices)
 }
 
-/// The turns that a value claims, in the field `turns`.
+/// The turns that a JSON value claims, in the field `turns`; `None` if it has no such field.
 ///
 /// # Errors
 ///
@@ -164,7 +168,8 @@ pub(crate) fn turns_in(alloc: Global, value: &Value) -> Result<Option<Vec<Vec<Tu
     }
 }
 
-/// The strings of turns that a value is.
+/// The lists of turns that a JSON value holds as an array of strings of L and R; `Turns` if it is no such array, or
+/// `Memory`.
 fn string_list(alloc: Global, value: &Value) -> Result<Vec<Vec<Turn>>, LineFault>
     ensures ok { IfOk result (λ strings. view value.now ≡ array_of turns_data (lists_in strings.items)) }
     ensures none { IfErr result (λ fault. fault ≢ Memory
@@ -179,7 +184,7 @@ fn string_list(alloc: Global, value: &Value) -> Result<Vec<Vec<Turn>>, LineFault
     Ok(strings)
 }
 
-/// The turns that a value is.
+/// The turns that a JSON value holds as a string of L and R; `Turns` if it is no such string, or `Memory`.
 fn turns_of(alloc: Global, value: &Value) -> Result<Vec<Turn>, LineFault>
     ensures ok { IfOk result (λ turns. view value.now ≡ turns_data turns.items) }
     ensures none { IfErr result (λ fault. fault ≢ Memory
@@ -190,7 +195,7 @@ fn turns_of(alloc: Global, value: &Value) -> Result<Vec<Turn>, LineFault>
     letters_of(alloc, text.as_bytes())
 }
 
-/// The turns of these letters.
+/// The turns that these letters, L or R, encode; `Turns` if there is any other letter, or `Memory`.
 fn letters_of(alloc: Global, letters: &[u8]) -> Result<Vec<Turn>, LineFault>
     ensures ok { IfOk result (λ turns. letters.now ≡ map letter_of turns.items) }
     ensures none { IfErr result (λ fault. fault ≢ Memory → (turns : List Turn) → letters.now ≢ map letter_of turns) }

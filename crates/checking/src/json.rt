@@ -1,4 +1,4 @@
-//! Parts of a JSON value: its fields, numbers, texts and lists. Also why a line is none of a drawing.
+//! Parts of a JSON value (fields, numbers and lists), and the reasons why a line describes no drawing.
 ghost use Rattle.std.specs.Prelude.{◌≡◌, ◌≢◌, ◌≤◌, ℕ, ℤ, IfOk, IfErr, Some, None, map};
 ghost use Rattle.checking.specs.declared.json.LineFault.TheVariants.{Memory, Malformed, Points, Number};
 ghost use Rattle.serde_json.specs.Data.{Items, array};
@@ -62,7 +62,7 @@ impl From<Error> for LineFault {
     }
 }
 
-/// The field of this name that a value must have.
+/// The field with this name of a JSON value; `Points` if it has none.
 ///
 /// # Errors
 ///
@@ -75,7 +75,7 @@ pub(crate) fn needed_field_in<'v>(value: &'v Value, name: &str) -> Result<&'v Va
     value.get(name).ok_or(LineFault::Points)
 }
 
-/// The elements of the list that a value is; otherwise this fault.
+/// The elements of a JSON array; the fault `otherwise` if the value is no array.
 pub(crate) fn list_in(value: &Value, otherwise: LineFault) -> Result<&[Value], LineFault>
     ensures ok { IfOk result (λ values. view value.now ≡ array (items_of (map view values.now))) }
     ensures none { IfErr result (λ _. (items : Items) → view value.now ≢ array items) }
@@ -87,7 +87,7 @@ pub(crate) fn list_in(value: &Value, otherwise: LineFault) -> Result<&[Value], L
     }
 }
 
-/// The natural number, at most `most`, that a value is.
+/// The integer from 0 to `most` that a JSON value is; `Number` if it is none.
 pub(crate) fn number_in(value: &Value, most: u64) -> Result<u64, LineFault>
     ensures ok { IfOk result (λ n. view value.now ≡ natural n) }
     ensures within { IfOk result (λ n. n ≤ most) }
@@ -100,7 +100,7 @@ pub(crate) fn number_in(value: &Value, most: u64) -> Result<u64, LineFault>
     }
 }
 
-/// The integer of 32 bits that a value is.
+/// The signed integer of 32 bits that a JSON value is; `Number` if it is none.
 pub(crate) fn integer_in(value: &Value) -> Result<i32, LineFault>
     ensures ok { IfOk result (λ z. integer_of (view value.now) ≡ Some z) }
     ensures within { IfOk result IsOf32Bits }

@@ -60,10 +60,12 @@ impl Scratch {
     }
 }
 
-/// The verdict on a record and its line; with `faces`, also on the regions of the drawing.
+/// The verdict on a record and the input that its line gave; with `faces`, each region of the drawing must also be its
+/// face.
 ///
-/// `Memory` if memory ran out for the line, which may then be the end of a run. `Ok` exactly if, unless memory runs out, the record breaks no rule, and points are given that draw a representation
-/// of its embedding, with whatever outer face, of which all claims hold.
+/// `Memory` if memory ran out for the line, which may then be the end of a run. `Ok` exactly if, unless memory runs
+/// out, the record breaks no rule, and points are given that draw a representation of its embedding, with whatever
+/// outer face, of which all claims hold.
 pub(crate) fn record_verdict(
     alloc: Global,
     scratch: &mut Scratch,
@@ -95,7 +97,8 @@ pub(crate) fn record_verdict(
     verdict
 }
 
-/// The verdict on the input for a plane.
+/// The verdict on the input for a plane's record: that on its drawing, or why there is none. A drawing may change the
+/// plane's outer face.
 fn input_verdict(
     alloc: Global,
     scratch: &mut Scratch,
@@ -135,7 +138,8 @@ fn drawing_verdict(
     claims_verdict(alloc, scratch, faces, plane, &judged, &claims).unwrap_or(Verdict::Memory)
 }
 
-/// The verdict on the regions and the claims of a drawing, and the numbers of its bends.
+/// The verdict on the regions (if `faces`) and the claims of a drawing: `Regions`, `Claim`, or `Ok` with the numbers of
+/// bends; `AllocError` if memory runs out.
 fn claims_verdict(
     alloc: Global,
     scratch: &mut Scratch,

@@ -20,7 +20,7 @@ impl LineBuffer {
     ghost use Rattle.std.specs.Prelude.{ℕ, List, [], ◌++◌};
     ghost use Rattle.checking.specs.Lines.{IsCollected};
 
-    /// No bytes, and room for those of the longest line.
+    /// An empty line buffer; it allocates `MAX_LINE` bytes, the room for the longest line.
     ///
     /// # Errors
     ///
@@ -32,7 +32,7 @@ impl LineBuffer {
         })
     }
 
-    /// Removes all bytes, for a new line.
+    /// Empties the buffer for a new line, which is not too long yet; its memory is kept.
     pub(crate) fn clear(&mut self)
         ensures { IsCollected [] self.new.bytes.items self.new.long }
     {
@@ -40,7 +40,8 @@ impl LineBuffer {
         self.long = false;
     }
 
-    /// Adds bytes to the line, unless it is then too long.
+    /// Appends `part` to the line; if the line would exceed `MAX_LINE` bytes, or already has, only marks it as too
+    /// long.
     pub(crate) fn add(&mut self, part: &[u8])
         ensures { (seen : List ℕ) → IsCollected seen self.old.bytes.items self.old.long
             → IsCollected (seen ++ part.now) self.new.bytes.items self.new.long }

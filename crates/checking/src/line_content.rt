@@ -54,7 +54,8 @@ pub(crate) fn content_of(alloc: Global, line: &[u8]) -> Result<LineContent, Line
     Ok(LineContent::Drawing(drawing_in(alloc, &value)?))
 }
 
-/// The drawing that a value describes.
+/// The points and claims that a JSON value describes; `Malformed` if it is no object, otherwise the fault of its first
+/// wrong field, or `Memory`.
 fn drawing_in(alloc: Global, value: &Value) -> Result<ClaimedDrawing, LineFault>
     ensures ok { IfOk result (λ said. HasFields (view value.now) said.points said.claims) }
     ensures none { IfErr result (λ fault. fault ≢ Memory → (points : PointsModel) (claims : Claims)
@@ -69,7 +70,8 @@ fn drawing_in(alloc: Global, value: &Value) -> Result<ClaimedDrawing, LineFault>
     Ok(ClaimedDrawing { points, claims })
 }
 
-/// What a value claims of its points.
+/// The claims that a JSON value makes of its points, `None` for each absent field. The error is the fault of the first
+/// wrong field, or `Memory`.
 fn claims_in(alloc: Global, value: &Value) -> Result<Claims, LineFault>
     ensures ok { IfOk result (HasClaims (view value.now)) }
     ensures none { IfErr result (λ fault. fault ≢ Memory → (claims : Claims)
@@ -118,7 +120,8 @@ pub(crate) enum Trailing {
     OutOfMemory,
 }
 
-/// The input for the next record: the next line that is no end of a run.
+/// Reads the next line that is no end of a run, and returns its drawing or fault; `Missing` if there are no more lines,
+/// `Unread` if a read failed.
 pub(crate) fn next_input<R: Wait, L: Tap>(
     rt: &R,
     alloc: Global,
@@ -143,7 +146,7 @@ pub(crate) fn next_input<R: Wait, L: Tap>(
     unreachable!()
 }
 
-/// Reads the lines after those of the records, and returns how many they are.
+/// Reads all lines after those of the records; returns how many of them are no end of a run, and whether a read failed.
 ///
 /// # Errors
 ///
@@ -169,7 +172,8 @@ pub(crate) fn read_trailing<R: Wait, L: Tap>(
     unreachable!()
 }
 
-/// What was read after the line of the last record, given the input for a further one.
+/// Classifies the input that was read after the last record's line, and drops it: a further line, no line, or out of
+/// memory.
 fn trailing_of(input: DrawingInput) -> Trailing
     ensures { result ≡ trailing_of input }
 {

@@ -45,7 +45,7 @@ fn line_end(bytes: &[u8]) -> Option<usize>
 }
 
 impl ReadBuffer {
-    /// No bytes, and room for a piece.
+    /// An empty buffer; it allocates the room for one piece of a source.
     ///
     /// # Errors
     ///
@@ -154,7 +154,8 @@ impl<T: Tap> Lines<T> {
         })
     }
 
-    /// Reads the next line, and returns the outcome.
+    /// Reads the next line into the reader's buffer, and returns the outcome: a line, one that is too long, the end, or
+    /// a failed read.
     ///
     /// Once the source has ended or a read has failed, it is read no more.
     pub(crate) fn next<R: Wait>(&mut self, rt: &R) -> LineOutcome
@@ -213,7 +214,8 @@ fn ended_line(line: &LineBuffer) -> LineOutcome
     }
 }
 
-/// The outcome of reading a line that the end of the source ended, if it has one.
+/// The outcome at the end of the source, given the bytes after its last byte 0A: `End` if there are none, otherwise as
+/// for a line that has ended.
 fn last_line(line: &LineBuffer) -> LineOutcome
     ensures { IsLast line.now.bytes.items line.now.long result }
 {

@@ -35,7 +35,8 @@ pub(crate) fn points_in(alloc: Global, value: &Value) -> Result<Points, LineFaul
     Ok(Points::new(vertices, corners))
 }
 
-/// The lists of corners that a value is, one for each edge.
+/// The lists of corners, one for each edge, that a JSON value holds as an array of arrays of points. The error is the
+/// first fault, or `Memory`.
 fn corner_lists(alloc: Global, value: &Value) -> Result<Vec<Vec<Point>>, LineFault>
     ensures ok { IfOk result (λ lists. view value.now ≡ lists_data (lists_in lists.items)) }
     ensures short { IfOk result (λ lists. All (All IsShort) (lists_in lists.items)) }
@@ -51,7 +52,8 @@ fn corner_lists(alloc: Global, value: &Value) -> Result<Vec<Vec<Point>>, LineFau
     Ok(lists)
 }
 
-/// The points that a value is.
+/// The points that a JSON value holds as an array, in order. The error is `Points` if it is no array, the fault of the
+/// first wrong point, or `Memory`.
 fn point_list(alloc: Global, value: &Value) -> Result<Vec<Point>, LineFault>
     ensures ok { IfOk result (λ points. view value.now ≡ list_data points.items) }
     ensures short { IfOk result (λ points. All IsShort points.items) }
@@ -67,7 +69,8 @@ fn point_list(alloc: Global, value: &Value) -> Result<Vec<Point>, LineFault>
     Ok(points)
 }
 
-/// The point that a value is.
+/// The point that a JSON value holds as `[x, y]`; `Points` if it is no array of two, `Number` if one of them is no
+/// integer from 0 to `MAX_COORDINATE`.
 fn point_in(value: &Value) -> Result<Point, LineFault>
     ensures ok { IfOk result (λ point. view value.now ≡ point_data point) }
     ensures short { IfOk result IsShort }

@@ -42,7 +42,8 @@ pub struct CheckOutcome {
     pub status: u8,
 }
 
-/// Writes a verdict for each record of a file of graphs, and a last line; returns the outcome.
+/// Checks the drawings in `lines` against the records of `graphs`, writes a verdict for each record and a last line to
+/// `out`, and returns the outcome.
 ///
 /// Line K that is no end of a run belongs to record K. Records are checked as they are read, one after another; those of
 /// one piece, one line and one drawing are kept in memory.
@@ -143,7 +144,8 @@ impl<L: Tap> Checker<L> {
         })
     }
 
-    /// Writes the verdicts on records, in order, and takes them out of the list. The first one has the place `first`.
+    /// Reads a line for each record, writes the verdicts in order, and empties the list; the first record has the place
+    /// `first`. The text goes to `out` whenever the buffer is full.
     ///
     /// # Errors
     ///
@@ -173,7 +175,8 @@ impl<L: Tap> Checker<L> {
         Ok(())
     }
 
-    /// Writes the verdict on the next record, which has this place.
+    /// Reads the line of `rec`, the next record, which has this place, and appends the verdict to the buffered text.
+    /// The text goes to `out` first if the buffer is full.
     fn write_verdict<R: Wait, S: Sink>(
         &mut self,
         rt: &R,
@@ -205,7 +208,7 @@ impl<L: Tap> Checker<L> {
         Ok(())
     }
 
-    /// Notes whether a verdict is `Ok`, and whether it is `Memory`.
+    /// Clears `all_ok` unless the verdict is `Ok`, and sets `wants_memory` if it is `Memory`.
     fn note(&mut self, verdict: Verdict)
         ensures ok { (self.new.all_ok ≡ true) ↔ ((self.old.all_ok ≡ true) × IsOk verdict) }
         ensures wants { (self.new.wants_memory ≡ false) ↔ ((self.old.wants_memory ≡ false) × (verdict ≢ found.Memory)) }
@@ -223,7 +226,8 @@ impl<L: Tap> Checker<L> {
         }
     }
 
-    /// Reads the lines after the last record, writes the last line, and returns the outcome of the check.
+    /// Reads the lines after the last record, writes the last line and all buffered text to `out`, and returns the
+    /// outcome of the check.
     pub(crate) fn finish<R: Wait, S: Sink>(
         mut self,
         rt: &R,
@@ -266,7 +270,7 @@ fn is_whole(mark: Mark, lines_failed: bool, wants_memory: bool) -> bool
     mark == Mark::Ended(Ending::Complete) && !lines_failed && !wants_memory
 }
 
-/// The exit status of a run: whether all was read, whether each verdict is `Ok`, and the number of lines that are left.
+/// The exit status of a run: 3 if not all was read, otherwise 0 if each verdict is `Ok` and no line is left, or else 4.
 fn status_of(whole: bool, all_ok: bool, surplus: u64) -> u8
     ensures unread { (whole ≡ false) ↔ (result ≡ 3) }
     ensures well { ((whole ≡ true) × (all_ok ≡ true) × (surplus ≡ 0)) ↔ (result ≡ 0) }

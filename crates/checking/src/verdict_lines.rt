@@ -59,7 +59,7 @@ fn claim_word(claim: FalseClaim) -> &'static str
     }
 }
 
-/// Appends the word of a verdict, for which there must be room.
+/// Appends the word of a verdict: at most 24 bytes, for which there must be room.
 pub(crate) fn push_word(lines: &mut TextBuffer, verdict: Verdict)
     requires { length lines.old + 24 ≤ ROOM }
     ensures text { lines.new ≡ lines.old ++ word_of verdict }
@@ -120,7 +120,8 @@ fn push_head(lines: &mut TextBuffer, form: Form, number: u64)
     lines.push_number(number);
 }
 
-/// Appends the word of a verdict: at most 60 bytes, for which there must be room. A JSON object has it as a fault, if it is one.
+/// Appends the word of a verdict; in JSON whether it is ok, and if not, the word as its fault. There must be room for
+/// 60 bytes.
 fn push_result(lines: &mut TextBuffer, form: Form, verdict: Verdict)
     requires { length lines.old + 60 ≤ ROOM }
     ensures text { lines.new ≡ lines.old ++ result_text form verdict }

@@ -87,9 +87,10 @@ impl From<WriteFault> for Fault {
 /// The system's error code for an output whose reader has closed it (`EPIPE`).
 const BROKEN_PIPE: i32 = 32;
 
-/// Writes `planarbend: ` and the message of the fault to `err`. A failure of this write changes nothing.
+/// Writes `planarbend: ` and the message of the fault to `err`, in a line; nothing if the output failed because its
+/// reader closed it. A failure of this write changes nothing.
 ///
-/// The reason is the system's for an output that failed. If its reader has closed it, nothing is written.
+/// For an output that failed, `reason` is that of the system.
 pub fn write_fault<E: Sink>(fault: Fault, reason: Reason, err: &mut E)
     requires { E.failed err.old ≡ false }
 {

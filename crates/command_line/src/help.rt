@@ -42,7 +42,7 @@ fn valued<'a>(alloc: Global, name: &'a str, value: &'a str) -> Arg<'a> {
     Arg::new(alloc, name).long(name).value_name(value)
 }
 
-/// The files of a run: one or more.
+/// The clap argument for the files of a run, one or more.
 fn run_files<'a>(alloc: Global) -> Arg<'a> {
     Arg::new(alloc, "FILE")
         .required(true)
@@ -59,7 +59,8 @@ fn describe_check<'a>(alloc: Global) -> Result<Command<'a>, AllocError> {
         .arg(file_of(alloc, "LINES"))
 }
 
-/// The command with this name, which selects graphs: the options of such commands, its own, and the files.
+/// The definition for clap of the command with this name, which selects graphs: the options of such commands, the
+/// option `own`, and the files.
 fn describe_selection<'a>(
     alloc: Global,
     name: &'a str,
@@ -286,8 +287,8 @@ A graph for which memory ran out is not counted.
 Exit status: 0 if every file is complete and memory ran out for no graph, otherwise 3, and a line on standard error.
 ";
 
-/// The help that arguments ask for: that for the command that is the first argument, or, if this is `help`, the second;
-/// for other arguments that for the program.
+/// The help text that arguments ask for: that of the command that the first one names, or the second if the first is
+/// `help`; otherwise that of the program.
 pub fn help_text(words: &[String]) -> &'static str
     ensures { result.now ≡ help_in words.now }
 {

@@ -109,7 +109,7 @@ impl<'c, C: Console> Meter<'c, C> {
         &self.opened
     }
 
-    /// Shows the final progress, if the run began a file, and ends the line.
+    /// Shows the final progress and ends its line; does nothing if progress is hidden or no file was begun.
     pub fn finish(&self) {
         if self.mode != ConsoleMode::Hidden && self.opened.load(Ordering::SeqCst) > 0 {
             self.tell(self.time(), "\n");
@@ -141,7 +141,8 @@ impl<'c, C: Console> Meter<'c, C> {
         }
     }
 
-    /// Shows the counts after `time` milliseconds in a line.
+    /// Shows the counts, and the rate of graphs in `time` milliseconds, in one line of the console that ends with
+    /// `end`.
     fn tell(&self, time: u64, end: &str) {
         let opened = self.opened.load(Ordering::SeqCst);
         let graphs = self.graphs.load(Ordering::SeqCst);
@@ -179,6 +180,8 @@ fn write_grouped(line: &mut ShortLine, number: u64) -> fmt::Result {
 }
 
 impl<C: Console + Sync> Gate for Meter<'_, C> {
+    /// Counts a record that enters the last stage, and shows the progress if it is time; does nothing if progress is
+    /// hidden.
     fn pass(&self, _lane: u32, stage: Stage, _ordinal: u32) {
         if stage == Stage::Draw && self.mode != ConsoleMode::Hidden {
             self.graphs.fetch_add(1, Ordering::SeqCst);

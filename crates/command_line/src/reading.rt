@@ -64,7 +64,7 @@ pub enum Setting {
 }
 
 impl Role {
-    /// The role of the argument after this one, which has this role.
+    /// The role of the argument that follows `word`, an argument in this role.
     fn role_after(self, word: &str) -> Role
         ensures { result ≡ role_after self word.now }
     {
@@ -83,7 +83,8 @@ impl Role {
         }
     }
 
-    /// Whether an argument in this role is a file.
+    /// Whether `word` in this role is a file: in the role `File` always, in `Any` if it does not begin with `--`,
+    /// otherwise never.
     fn is_file(self, word: &str) -> bool
         ensures { result ≡ is_file self word.now }
     {
@@ -94,8 +95,8 @@ impl Role {
         }
     }
 
-    /// Whether an argument of this command may stand in this role: it is no option, or one of the command, and a value
-    /// is one that its option takes.
+    /// Whether `word` may have this role in the command: an option must be one of the command's, and the value of
+    /// `--outer` or `--drawing` one of its values. Other values are not checked.
     fn fits(self, command: Keyword, word: &str) -> bool
         ensures { result ≡ fits command self word.now }
     {
@@ -163,7 +164,8 @@ impl Role {
     }
 }
 
-/// The option of this group of commands whose value is the argument after this one, if this is its name.
+/// The option that `word` names without a value (`--lanes`, not `--lanes=2`), so that its value is the next argument;
+/// `None` if it names none in this group of commands.
 fn setting_of(group: Group, word: &str) -> Option<Setting>
     ensures { result ≡ setting_of group word.now }
 {
@@ -182,7 +184,7 @@ fn setting_of(group: Group, word: &str) -> Option<Setting>
     }
 }
 
-/// What an argument begins with that has this option and its value.
+/// The prefix, such as `--lanes=`, of an argument that has both this option and its value.
 fn prefix_of(setting: Setting) -> &'static str
     ensures { result.now ≡ prefix_of setting }
 {
@@ -224,7 +226,8 @@ fn is_of(name: &str, word: &str) -> bool
     }
 }
 
-/// Whether an argument is an option of this command.
+/// Whether an argument is an option of this command; if it begins with `--outer=` or `--drawing=`, its value must be
+/// valid.
 fn is_option_of(command: Keyword, word: &str) -> bool
     ensures { result ≡ is_option_of command word.now }
 {
@@ -241,7 +244,8 @@ fn is_option_of(command: Keyword, word: &str) -> bool
     }
 }
 
-/// Whether an argument is an option of each of `layout`, `pick` and `count`.
+/// Whether an argument is an option that `layout`, `pick` and `count` have in common; if it begins with `--outer=`, its
+/// value must be valid.
 fn is_run_option(word: &str) -> bool
     ensures { result ≡ is_run_option word.now }
 {
@@ -265,22 +269,22 @@ fn is_condition(word: &str) -> bool
     }
 }
 
-/// Whether an argument is a choice of the outer face.
+/// Whether a text is a value of `--outer`: `first` or `best`.
 fn is_outer(word: &str) -> bool
     ensures { result ≡ is_outer word.now }
 {
     word == "first" || word == "best"
 }
 
-/// Whether an argument is a kind of drawing.
+/// Whether a text is a value of `--drawing`: `short` or `quick`.
 fn is_drawing(word: &str) -> bool
     ensures { result ≡ is_drawing word.now }
 {
     word == "short" || word == "quick"
 }
 
-/// Whether arguments are valid for this command, which is the first of them: each fits, no value is missing after them,
-/// and no option but `--progress` is used twice.
+/// Whether arguments, the first of which is this command, are valid: each fits, no value is missing at the end, and no
+/// option but `--progress` is used twice. The number of files, and most values, are not checked.
 pub fn are_valid(command: Keyword, words: &[String]) -> bool
     ensures { (result ≡ true) ↔ AreValid command words.now }
 {
@@ -330,7 +334,7 @@ pub fn uses(name: &str, words: &[String]) -> usize
     count
 }
 
-/// The value of the first of these options, unparsed; `None` if there is none.
+/// The value that the arguments first give for this option, unparsed; `None` if they give none.
 pub fn setting_text<'a>(setting: Setting, words: &'a [String]) -> Option<&'a str>
     ensures { option_map (λ text. text.now) result ≡ setting_text_in setting words.now }
 {

@@ -132,7 +132,8 @@ pub fn parse<'a>(alloc: Global, words: &'a [String]) -> Result<Request<'a>, Pars
     }
 }
 
-/// The reason why arguments that ask for nothing make no request.
+/// The fault to report for arguments that make no request, found with clap. It is never `Memory`: if memory runs out,
+/// it is `Told` with an error that says so.
 fn fault_of(alloc: Global, words: &[String]) -> ParseFault
     ensures known { result ≢ ParseFault.Memory }
     ensures help { result ≡ ParseFault.Help → asks_in Keyword.Help words.now ≡ true }
@@ -151,7 +152,8 @@ fn fault_of(alloc: Global, words: &[String]) -> ParseFault
     ParseFault::Told(error)
 }
 
-/// The error for arguments that make no request, except those of which only the value of `--waiting` is bad.
+/// The error of clap to report for arguments that make no request, as `Ok(Some)` or as `Err`; `Ok(None)` if only the
+/// value of `--waiting` is bad.
 ///
 /// # Errors
 ///
@@ -204,7 +206,8 @@ fn request_of<'a>(words: &[String], files: Vec<&'a str>) -> Option<Request<'a>>
     None
 }
 
-/// The request of arguments for `frames` that name these files.
+/// The `frames` request of arguments that name these files; `None` if they are not valid, or do not name exactly one
+/// file.
 fn frames_of<'a>(words: &[String], files: &[&'a str]) -> Option<Request<'a>>
     requires command { asks_in Keyword.Frames words.now ≡ true }
     requires no_help { asks_in Keyword.Help words.now ≡ false }
@@ -221,7 +224,8 @@ fn frames_of<'a>(words: &[String], files: &[&'a str]) -> Option<Request<'a>>
     }
 }
 
-/// The request of arguments for `check` that name these files.
+/// The `check` request of arguments that name these files; `None` if they are not valid, do not name two files, or name
+/// standard input twice.
 fn check_of<'a>(words: &[String], files: &[&'a str]) -> Option<Request<'a>>
     requires command { asks_in Keyword.Check words.now ≡ true }
     requires no_help { asks_in Keyword.Help words.now ≡ false }
@@ -246,7 +250,8 @@ fn check_of<'a>(words: &[String], files: &[&'a str]) -> Option<Request<'a>>
     }
 }
 
-/// The request of arguments for `layout` that name these files.
+/// The `layout` request of arguments that name these files; `None` if an option, a value or the list of files is not
+/// valid.
 fn layout_of<'a>(words: &[String], files: Vec<&'a str>) -> Option<Request<'a>>
     requires command { asks_in Keyword.Layout words.now ≡ true }
     requires no_help { asks_in Keyword.Help words.now ≡ false }
@@ -269,7 +274,8 @@ fn layout_of<'a>(words: &[String], files: Vec<&'a str>) -> Option<Request<'a>>
     }))
 }
 
-/// The request of arguments for `pick` that name these files.
+/// The `pick` request of arguments that name these files; `None` if an option, a value or the list of files is not
+/// valid.
 fn pick_of<'a>(words: &[String], files: Vec<&'a str>) -> Option<Request<'a>>
     requires command { asks_in Keyword.Pick words.now ≡ true }
     requires no_help { asks_in Keyword.Help words.now ≡ false }
@@ -287,7 +293,8 @@ fn pick_of<'a>(words: &[String], files: Vec<&'a str>) -> Option<Request<'a>>
     }))
 }
 
-/// The request of arguments for `count` that name these files.
+/// The `count` request of arguments that name these files; `None` if an option, a value or the list of files is not
+/// valid.
 fn count_of<'a>(words: &[String], files: Vec<&'a str>) -> Option<Request<'a>>
     requires command { asks_in Keyword.Count words.now ≡ true }
     requires no_help { asks_in Keyword.Help words.now ≡ false }
@@ -305,8 +312,8 @@ fn count_of<'a>(words: &[String], files: Vec<&'a str>) -> Option<Request<'a>>
     }))
 }
 
-/// The run over these files that arguments for this command ask for; `None` if they are not valid, or the files are none
-/// or have standard input twice.
+/// The run over these files that arguments for this command ask for; `None` if they are not valid, there are no files,
+/// or standard input is named twice.
 fn run_of<'a>(command: Keyword, words: &[String], files: Vec<&'a str>) -> Option<RunRequest<'a>>
     requires no_help { asks_in Keyword.Help words.now ≡ false }
     requires files { map (λ file. file.now) files.items ≡ files_in words.now }
@@ -335,7 +342,8 @@ fn has_files(files: &[&str]) -> bool
     !files.is_empty() && inputs_among(files) <= 1
 }
 
-/// The limit on buffered text that the arguments ask for, in megabytes; `None` if it is not in range.
+/// The limit on buffered text that the arguments ask for, in megabytes, or 64 if they name none; `None` if it is not 1
+/// to 65536.
 fn waiting_of(words: &[String]) -> Option<u32>
     ensures asked { IfSome result (IsWaitingIn words.now) }
     ensures in_range { IfSome result IsWaiting }
@@ -391,7 +399,8 @@ fn form_of(words: &[String]) -> Form
     }
 }
 
-/// The kind of drawing that the arguments ask for.
+/// The kind of drawing that the arguments ask for; without `--drawing`, it is `Short` with `--json` and otherwise
+/// `Quick`.
 fn drawing_of(words: &[String]) -> DrawingKind
     ensures { result ≡ drawing_in words.now }
 {

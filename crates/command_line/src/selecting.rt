@@ -9,7 +9,8 @@ use crate::reading::{Keyword, Setting, asks, setting_text};
 use graph_facts::{Columns, Conditions, Range, RuleCondition, Selection};
 use std::alloc::{AllocError, Global};
 
-/// The graphs that the arguments select; `None` if a value of a condition is not valid.
+/// The selection of graphs that the arguments ask for, by conditions and `--not`; `None` if a value of a condition is
+/// not valid.
 pub(crate) fn selection_of(words: &[String]) -> Option<Selection>
     ensures some { IfSome result (IsSelectedBy words.now) }
     ensures none { IfNone result ((selection : Selection) → ¬ IsSelectedBy words.now selection) }
@@ -29,7 +30,7 @@ pub(crate) fn selection_of(words: &[String]) -> Option<Selection>
     })
 }
 
-/// The range that a text names, if there is a text; `None` if the text names none.
+/// The range that a text names, as `Some(Some(range))`; `Some(None)` if there is no text, `None` if it names no range.
 fn range_of(text: Option<&str>) -> Option<Option<Range>>
     ensures some { IfSome result (IsRangeOf (option_map (λ t. t.now) text.entry)) }
     ensures none { IfNone result ((range : Option Range) → ¬ IsRangeOf (option_map (λ t. t.now) text.entry) range) }
@@ -43,7 +44,7 @@ fn range_of(text: Option<&str>) -> Option<Option<Range>>
     }
 }
 
-/// The columns that a text lists, and none if there is no text; `None` if the text is no list of columns.
+/// The columns that a text lists, or `Columns::NONE` if there is no text; `None` if the text is no list of columns.
 pub(crate) fn columns_of(text: Option<&str>) -> Option<Columns>
     ensures { result ≡ requests.columns_of (option_map (λ t. t.now) text.entry) }
 {

@@ -58,6 +58,8 @@ impl<R: Clock + Wait, E: io::Write + IsTerminal + Copy> Console for ErrorConsole
     }
 
     // The beginning of a line of text is not overwritten.
+    /// Writes `text` to standard error, or nothing if the last line of the terminal is the beginning of a line of
+    /// output.
     fn show(&self, text: &[u8]) {
         let mut last = self.last.lock(&self.rt);
         if *last == LastLine::Text {
@@ -101,6 +103,8 @@ impl<W: io::Write, R: Clock + Wait, E: io::Write + IsTerminal + Copy> io::Write
     for SharedTerminal<'_, W, R, E> {
     ghost contents = { λ w. W.contents w.writer };
 
+    /// Writes to the output, and returns the number of bytes; on a shared terminal, first clears the console's line of
+    /// progress.
     fn write(&mut self, buf: &[u8]) -> io::Result<usize> {
         if !self.is_shared {
             return self.writer.write(buf);

@@ -23,7 +23,8 @@ use std::sync::Wait;
 use std::thread::Threads;
 use streams::{Sink, SinkFault};
 
-/// Answers all records of the first `files` files, streams the text to `sink`, and returns the exit status of the run.
+/// Answers all records of the first `files` files on the threads of `lanes` lanes, streams the text to `sink`, and
+/// returns the exit status of the run.
 ///
 /// Each record is answered under this choice of the outer face. The text is that of the files' books in the format of
 /// this style, as `write_report` and `write_json` write books, and is written while the files are read. JSON lines have
@@ -79,7 +80,8 @@ pub fn write_batch<'r, R: Threads + Wait + Sync, O: Opener, G: Gate, S: Sink>(
     Ok(write_text(&run, style, waiting, sink)?)
 }
 
-/// Writes the text of a run in this style; the reading of later files pauses from `waiting` buffered bytes on.
+/// Runs the lanes on threads, streams the text of the run in this style to `sink`, and returns the exit status; from
+/// `waiting` buffered bytes on, the reading of later files pauses.
 pub(crate) fn write_text<R: Threads + Wait + Sync, O: Opener, G: Gate, S: Sink>(
     run: &Run<'_, R, O, G>,
     style: Style,
@@ -145,8 +147,8 @@ fn let_go<S: Sink>(texts: Texts<'_, S, Lines>)
     let Texts { .. } = texts;
 }
 
-/// Writes the answers that a `layout` request asks for, the progress, and the lines about files; returns the exit status
-/// of the answers.
+/// Answers the records of a `layout` request's files on the threads of lanes, writes the answers to `out`, shows the
+/// progress, writes the lines about files to `err`, and returns the exit status of the answers.
 ///
 /// They are written while the files are read. `files` opens the files that are named. Later files pause once `waiting`
 /// megabytes of their text are buffered.

@@ -33,9 +33,10 @@ use streams::{Sink, WriteFault, piece_buffer, put_all, write_frames_of};
 /// The toolchain is given by the kit's number and its logic, as `rt version` prints them.
 pub const VERSION: &str = "planarbend 2.0.0\ntoolchain rattle-kit-13 logic dac8208d650f15bf\n";
 
-/// Writes the verdicts that a `check` request asks for; returns the exit status.
+/// Writes to `out` the verdicts that a `check` request asks for, and to `err` lines about the two files; returns the
+/// exit status.
 ///
-/// It checks the drawings in one file of the graphs in another one. Lines about the two files are written to `err`.
+/// It checks the drawings in one file of the graphs in another one.
 ///
 /// # Errors
 ///
@@ -71,7 +72,8 @@ pub fn check<R: AllocGlobal + Wait, N: NamedFiles, S: Sink, E: Sink>(
     Ok(checked.status)
 }
 
-/// Does what the arguments after the program's name ask for, and returns the program's exit status.
+/// Does what the arguments after the program's name ask for, with output to `out` and messages to `err`, and returns
+/// the program's exit status.
 ///
 /// `files` opens the files that are named, and standard input by its name. Output is written to `out`; the message of a
 /// fault and a line for each file that fails or is not planar_code are written to `err`. A failure of these writes to
@@ -149,9 +151,9 @@ pub fn command<
     }
 }
 
-/// Does what a request asks for, and returns the exit status. It is 0, 3 or 4 only if the whole text was written, of all
-/// files that the request names, and then as `command` says; and 2 only if there are too many files or the number of
-/// lanes is bad.
+/// Does what a request asks for, and returns the exit status. It is 0, 3 or 4 only if the whole text was written, of
+/// all files that the request names, and then as `command` says; and 2 only if the request is refused: too many files,
+/// a bad number of lanes, or records for a terminal.
 fn perform<
     R: AllocGlobal + Threads + Wait + Sync,
     N: NamedFiles,
@@ -200,7 +202,8 @@ fn end_by<E: Sink>(fault: Fault, reason: Reason, err: &mut E) -> u8
     fault.status()
 }
 
-/// Writes the records of one file and how it ends, and the line about the file. Returns the exit status of the records.
+/// Writes to `out` a line for each record of the file with this name and how it ends, and to `err` any line about the
+/// file. Returns the exit status of the records.
 fn frames<R: AllocGlobal, N: NamedFiles, S: Sink, E: Sink>(
     rt: &R,
     name: &str,
@@ -244,7 +247,8 @@ fn refuse<E: Sink>(alloc: Global, error: &Error, err: &mut E) -> u8
     }
 }
 
-/// Writes the version or help, and returns the exit status.
+/// Writes `text`, the version or help, to `out`, and returns the exit status: 0, or 1 if the write failed, which it
+/// reports on `err` as `write_fault` does.
 fn show<S: Sink + KeepsReason, E: Sink>(text: &str, out: &mut S, err: &mut E) -> u8
     requires out_is_intact { S.failed out.old ≡ false }
     requires err_is_intact { E.failed err.old ≡ false }
@@ -259,7 +263,7 @@ fn show<S: Sink + KeepsReason, E: Sink>(text: &str, out: &mut S, err: &mut E) ->
 /// The maximum number of bytes of an argument on Linux, with the 0 after it.
 const LONGEST: usize = 131_072;
 
-/// Runs the whole program as its arguments ask, like `command`, and ends it with the exit status.
+/// Reads the arguments of the process, does what they ask for as `command` does, and returns the exit status.
 ///
 /// `files` opens the files that are named, and standard input by its name. If an argument is not valid UTF-8 or memory
 /// for the arguments runs out, the message of that fault is written to `err`, and the status is that of the fault.

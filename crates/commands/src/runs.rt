@@ -28,7 +28,7 @@ pub(crate) fn bytes_of(megabytes: u32) -> usize {
     (megabytes as usize).saturating_mul(MEGABYTE)
 }
 
-/// The number of files of a run over this many files on this many lanes.
+/// Checks that a run may have this many files and lanes, and returns the number of files.
 ///
 /// # Errors
 ///
@@ -68,7 +68,8 @@ pub(crate) struct NamedRun<'a, R, N, C> {
 }
 
 impl<'a, R: AllocGlobal, N, C: Console> NamedRun<'a, R, N, C> {
-    /// A run that begins now. `files` opens the files, and the console shows the progress.
+    /// The run that `asked` describes, whose time begins now; it opens no file yet. `files` opens the files, and the
+    /// console shows the progress.
     ///
     /// # Errors
     ///
@@ -107,7 +108,8 @@ impl<'a, R: AllocGlobal, N, C: Console> NamedRun<'a, R, N, C> {
         })
     }
 
-    /// The opener of the files.
+    /// The opener of the run's files, which counts in the meter the files that it tries to open, and notes why they
+    /// fail.
     pub(crate) fn opener(&self) -> FileOpener<'_, '_, N>
         ensures files { result.files.now ≡ self.now.files.now }
         ensures names { result.names.now ≡ self.now.names.now }
@@ -120,7 +122,7 @@ impl<'a, R: AllocGlobal, N, C: Console> NamedRun<'a, R, N, C> {
         }
     }
 
-    /// The run, with this opener of its files.
+    /// The description of the run for the lanes, with this opener of its files; it starts nothing.
     pub(crate) fn over<'s>(
         &'s self,
         opener: &'s FileOpener<'s, 's, N>,
@@ -144,8 +146,8 @@ impl<'a, R: AllocGlobal, N, C: Console> NamedRun<'a, R, N, C> {
     }
 }
 
-/// Writes a line for each file that does not end complete, which says why if that is known, and one for each file in
-/// which memory ran out for graphs. A failure of this write changes nothing.
+/// Writes to `err` a line for each file that does not end complete, which says why if that is known, and one for each
+/// file in which memory ran out for graphs. A failure of this write changes nothing.
 pub(crate) fn write_flaws<E: Sink>(
     alloc: Global,
     names: &[&str],
@@ -170,7 +172,7 @@ pub(crate) fn write_flaws<E: Sink>(
     }
 }
 
-/// Writes the lines about one file, with the reason why it does not end complete.
+/// Writes to `err` the lines about the flaws of one file, if it has any; `why` says why it does not end complete.
 ///
 /// # Errors
 ///

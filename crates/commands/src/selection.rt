@@ -16,8 +16,8 @@ use std::sync::Wait;
 use std::thread::Threads;
 use streams::Sink;
 
-/// Writes the header and the records that a `pick` request selects, the progress, and the lines about files; returns the
-/// exit status.
+/// Reads the files on the threads of lanes, writes to `out` the header and the records that a `pick` request selects,
+/// shows the progress, writes the lines about files to `err`, and returns the exit status.
 ///
 /// They are written while the files are read. `files` opens the files that are named. Later files pause once `waiting`
 /// megabytes of their records are buffered.
@@ -73,8 +73,8 @@ pub(crate) fn pick<
     Ok(status_of_flaws(flaws))
 }
 
-/// Writes the table of the graphs that a `count` request selects, once all files are read, the progress, and the lines
-/// about files; returns the exit status.
+/// Reads the files on the threads of lanes, then writes to `out` the table of the graphs that a `count` request
+/// selects; shows the progress, writes the lines about files to `err`, and returns the exit status.
 ///
 /// `files` opens the files that are named.
 ///
@@ -121,7 +121,8 @@ pub(crate) fn count<
     Ok(status_of_flaws(flaws))
 }
 
-/// Writes the table of the graphs of a run that a `count` request selects; returns what is lacking in each file.
+/// Reads the files of a run on the threads of its lanes, writes to `out` the table of the graphs that a `count` request
+/// selects, and returns the flaws of each file.
 fn write_table<R: Threads + Wait + Sync, O: Opener, G: Gate, S: Sink>(
     run: &Run<'_, R, O, G>,
     asked: &CountRequest<'_>,

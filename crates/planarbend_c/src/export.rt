@@ -18,11 +18,12 @@ use crate::lists::{
 use crate::request::{Layout, Outcome, Request, asks_nothing, choice_of, drawing_of};
 use std::alloc::Global;
 
-/// Lays out the record of a request, under its conditions if it has any, and returns the code of the outcome.
+/// Lays out the record of a request, under its conditions if it has any, writes what it finds to `counts`, `lists` or
+/// `cut`, and returns the code of the outcome.
 ///
-/// The shape has the fewest bends of all that keep the conditions. `planarbend.h` says what each number of an outer face and
-/// of a drawing means. The counts are written if the record is laid out, and the lists too if each has room. If no shape
-/// keeps the angles and turns, the cut is written instead.
+/// The shape has the fewest bends of all that keep the conditions. `planarbend.h` says what each number of an outer
+/// face and of a drawing means. The counts are written if the record is laid out, and the lists too if each has room.
+/// If no shape keeps the angles and turns, the cut is written instead.
 #[unsafe(no_mangle)]
 pub extern "C" fn planarbend_c_layout(
     alloc: Global,
@@ -43,7 +44,8 @@ pub extern "C" fn planarbend_c_layout(
     answer(alloc, request, counts, lists, cut).code()
 }
 
-/// Lays out the record as requested, under its conditions if it has any; returns the outcome.
+/// Lays out the record as requested, under its conditions if it has any, and writes what it finds to `counts`, `lists`
+/// or `cut`; returns the outcome.
 fn answer(
     alloc: Global,
     request: &Request<'_>,
@@ -79,7 +81,8 @@ fn answer(
     }
 }
 
-/// Writes the counts of a layout, and the lists if each has room.
+/// Writes the counts of a layout, and the lists if each has room; returns `Laid`, or `Room` if one has not. Returns
+/// `Memory` and writes nothing if there are too many corners to count.
 fn tell(layout: &Layout, counts: &mut Counts, lists: &mut Lists<'_>) -> Outcome
     requires { IsDrawnIfAsked layout.now.laid.plane layout.now.laid.shape layout.now.drawing }
     ensures told { IsTold (finding_of layout.now) counts.new (contents lists.new) result }

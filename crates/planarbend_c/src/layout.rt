@@ -23,7 +23,8 @@ use embedding::ReadFault;
 use ortho_rep::Points;
 use std::alloc::{AllocError, Global};
 
-/// The layout of the record that the source is, with this drawing or none.
+/// Parses a source and lays out its record, with a drawing of this kind or none; the error is the outcome if that
+/// fails.
 pub(crate) fn lay_out(
     alloc: Global,
     source: &Source<'_>,
@@ -112,7 +113,7 @@ pub struct CutLists<'a> {
     pub outer: u32,
 }
 
-/// Puts the vertices and faces, and the outer face.
+/// Writes the marks of the vertices and faces of a cut, and its outer face, to `out`.
 pub(crate) fn put_cut(out: &mut CutLists<'_>, why: &Unkept)
     ensures held { HoldsCut why.now (cut_contents out.new) }
     ensures long { AreAsLong (cut_contents out.old) (cut_contents out.new) }
@@ -122,7 +123,7 @@ pub(crate) fn put_cut(out: &mut CutLists<'_>, why: &Unkept)
     out.outer = u32::from(why.outer);
 }
 
-/// Puts 1 for each mark, and 0 everywhere else.
+/// Fills `out` with 1 for each mark that is set, and 0 everywhere else; marks after its end are left out.
 fn put_marks(out: &mut [u8], marks: &[bool])
     ensures held { HoldsMarks out.new marks.now }
     ensures long { length out.new ≡ length out.old }
@@ -132,7 +133,8 @@ fn put_marks(out: &mut [u8], marks: &[bool])
     }
 }
 
-/// The layout that keeps conditions of the record that the source is, with this drawing or none.
+/// Parses a source and lays out its record so that the conditions are kept, with a drawing of this kind or none; the
+/// error is the outcome if that fails.
 ///
 /// If no shape keeps the angles and turns, the cut is written.
 pub(crate) fn lay_out_keeping(
@@ -157,7 +159,8 @@ pub(crate) fn lay_out_keeping(
     }
 }
 
-/// The layout that keeps conditions of a record, with this drawing or none.
+/// Lays out a parsed record so that the conditions are kept, with a drawing of this kind or none. The error is the
+/// outcome if that fails; if it is `NoShape`, the cut is written to `cut`.
 fn laid_keeping(
     alloc: Global,
     rec: &Parsed,
@@ -194,8 +197,8 @@ fn laid_keeping(
     }
 }
 
-/// The outcome of a call if the plane of a record has no shape that keeps the conditions for this reason. If none keeps
-/// the angles and turns, the cut is written.
+/// The outcome for the reason why no shape that keeps the conditions was found. If none keeps the angles and turns, the
+/// cut that proves it is written to `cut`.
 fn unkept(fault: KeepFault, cut: &mut CutLists<'_>) -> Outcome
     ensures told { (conditions : Conditions) (choice : Choice) (g : List (List ℕ))
         → IsUnkept conditions choice g fault → IsKeepingFault conditions choice g (cut_contents cut.new) result }

@@ -43,7 +43,7 @@ pub(crate) fn counts_of(layout: &Layout) -> Option<Counts>
     })
 }
 
-/// How many corners the drawing of a layout has, if there is one and the number has 32 bits.
+/// The number of corners in the drawing of a layout, or 0 without a drawing; `None` if it takes more than 32 bits.
 fn corners_of(layout: &Layout) -> Option<u32>
     requires { IsDrawnIfAsked layout.now.laid.plane layout.now.laid.shape layout.now.drawing }
     ensures { IfSome result (λ count. count ≡ corners_drawn layout.now.drawing) }
@@ -90,7 +90,8 @@ pub struct Lists<'a> {
 }
 
 impl Lists<'_> {
-    /// Whether each list has room for what is counted, or is left out.
+    /// Whether each list has room for what is counted, or is left out; those of points and corners matter only if
+    /// `drawn`.
     pub(crate) fn have_room(&self, counts: &Counts, drawn: bool) -> bool
         ensures { IsTrue result ↔ HaveRoom drawn counts.now (contents self.now) }
     {
@@ -102,7 +103,7 @@ impl Lists<'_> {
             && (!drawn || self.have_point_room(counts))
     }
 
-    /// Whether each list of points has.
+    /// Whether each list of points and corners has room for what is counted, or is left out.
     fn have_point_room(&self, counts: &Counts) -> bool
         ensures { IsTrue result ↔ HavePointRoom counts.now (contents self.now) }
     {
@@ -119,7 +120,7 @@ fn has_room(length: usize, count: usize) -> bool
     length == 0 || count <= length
 }
 
-/// Puts points, in order.
+/// Writes points to `out`, in order from its beginning; nothing if `out` is empty.
 pub(crate) fn put_points(out: &mut [GridPoint], points: &[Point])
     requires grid { All IsInGrid points.now }
     requires room { HasRoom out.old (length points.now) }
@@ -157,7 +158,8 @@ pub(crate) fn corner_count(edges: u16, points: &Points) -> Option<u32>
     u32::try_from(count).ok()
 }
 
-/// Puts how many corners the edges before each edge have, and at last how many all have.
+/// Writes to `out`, for each edge, how many corners the edges before it have, and at last how many all have; nothing if
+/// `out` is empty.
 pub(crate) fn put_corner_starts(out: &mut [u32], edges: u16, points: &Points)
     requires edges { edges ≡ length points.now.corners }
     requires few { length (all_corners points.now.corners) < 2 ^ 32 }
@@ -176,7 +178,7 @@ pub(crate) fn put_corner_starts(out: &mut [u32], edges: u16, points: &Points)
     }
 }
 
-/// Puts the corners of all edges, one edge after another.
+/// Writes the corners of all edges to `out`, one edge after another; nothing if `out` is empty.
 pub(crate) fn put_corners(out: &mut [GridPoint], edges: u16, points: &Points)
     requires edges { edges ≡ length points.now.corners }
     requires grid { All (All IsInGrid) points.now.corners }
@@ -195,7 +197,7 @@ pub(crate) fn put_corners(out: &mut [GridPoint], edges: u16, points: &Points)
     }
 }
 
-/// Puts the corners of an edge from a place on.
+/// Writes the corners of one edge to `out`, from the index `start` on.
 fn put_corners_at(out: &mut [GridPoint], start: usize, corners: &[Point])
     requires grid { All IsInGrid corners.now }
     requires room { start + length corners.now ≤ length out.old }
@@ -207,7 +209,7 @@ fn put_corners_at(out: &mut [GridPoint], start: usize, corners: &[Point])
     }
 }
 
-/// Puts the angles by dart.
+/// Writes the angle of each dart to `out`, in the order of darts; nothing if `out` is empty.
 pub(crate) fn put_angles(out: &mut [u8], plane: &Plane, shape: &Shape)
     requires darts { HasDarts plane.now shape.now }
     requires room { HasRoom out.old (length shape.now.angles) }
@@ -222,7 +224,7 @@ pub(crate) fn put_angles(out: &mut [u8], plane: &Plane, shape: &Shape)
     }
 }
 
-/// Puts the turns by dart.
+/// Writes to `out` how many left and right turns each dart has, in the order of darts; nothing if `out` is empty.
 pub(crate) fn put_turns(out: &mut [DartTurns], plane: &Plane, shape: &Shape)
     requires darts { HasDarts plane.now shape.now }
     requires room { HasRoom out.old (length shape.now.strings) }
@@ -249,7 +251,7 @@ fn turns_counted(turns: &[Turn]) -> DartTurns
     }
 }
 
-/// Puts the prices of the vertices, in order.
+/// Writes the price of each vertex to `out`, in order; nothing if `out` is empty.
 pub(crate) fn put_vertex_prices(out: &mut [i32], plane: &Plane, prices: &Prices)
     requires prices { HasPrices plane.now prices.now }
     requires room { HasRoom out.old (length prices.now.vertices) }
@@ -264,7 +266,7 @@ pub(crate) fn put_vertex_prices(out: &mut [i32], plane: &Plane, prices: &Prices)
     }
 }
 
-/// Puts the prices of the faces, in order.
+/// Writes the price of each face to `out`, in order; nothing if `out` is empty.
 pub(crate) fn put_face_prices(out: &mut [i32], plane: &Plane, prices: &Prices)
     requires prices { HasPrices plane.now prices.now }
     requires room { HasRoom out.old (length prices.now.faces) }

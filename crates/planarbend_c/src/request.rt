@@ -50,7 +50,8 @@ pub(crate) fn asks_nothing(conditions: &Conditions<'_>) -> bool
     conditions.turns.is_empty() && conditions.angles.is_empty() && conditions.inner.is_empty()
 }
 
-/// The outer face with this number: 0 the face with the most darts, 1 the one that minimises bends.
+/// The choice of the outer face with this number: 0 the face with the most darts, 1 the one that minimises bends;
+/// `None` for others.
 pub(crate) fn choice_of(outer: u32) -> Option<Choice>
     ensures { result ≡ choice_in outer }
 {
@@ -61,7 +62,7 @@ pub(crate) fn choice_of(outer: u32) -> Option<Choice>
     }
 }
 
-/// The kind of drawing with this number: 0 none, 1 quick, 2 short.
+/// The kind of drawing with this number: 0 none (`Some(None)`), 1 quick, 2 short; `None` for others.
 pub(crate) fn drawing_of(drawing: u32) -> Option<Option<DrawingKind>>
     ensures { result ≡ drawing_in drawing }
 {
@@ -110,7 +111,8 @@ pub(crate) enum Outcome {
 }
 
 impl Outcome {
-    /// Its number.
+    /// The number of the outcome for C: 0 if the record is laid out, 1 to 8 the first rule that it breaks, 9 to 18 the
+    /// others.
     pub(crate) fn code(self) -> u32
         ensures { result ≡ code_of self }
     {
@@ -164,7 +166,8 @@ pub(crate) enum Parsed {
 }
 
 impl Parsed {
-    /// The plane of the record, as [`RecordScratch::embed`].
+    /// The plane of the record, as [`RecordScratch::embed`]. The error is the first rule that the record breaks, or
+    /// `Memory`.
     fn embed(&self, alloc: Global, scratch: &mut RecordScratch) -> Result<Plane, ReadFault>
         ensures { IsEmbedded (parsed_lists self.now) result }
     {
@@ -174,7 +177,8 @@ impl Parsed {
         }
     }
 
-    /// The plane of the record with a least shape, as [`RecordScratch::shape`].
+    /// The plane of the record with the chosen outer face, a least shape and its prices, as [`RecordScratch::shape`].
+    /// The error is the first rule that the record breaks, or `Memory`.
     pub(crate) fn shape(
         &self,
         alloc: Global,
@@ -189,7 +193,8 @@ impl Parsed {
         scratch.shape(alloc, plane, choice, drawing_kind)
     }
 
-    /// The plane of the record with a shape that keeps the conditions, as [`RecordScratch::shape_keeping`].
+    /// The plane of the record with a least shape that keeps the conditions, as [`RecordScratch::shape_keeping`]. The
+    /// outer error is that of `embed`; the inner one says why no such shape was found.
     pub(crate) fn shape_keeping(
         &self,
         alloc: Global,
@@ -208,7 +213,8 @@ impl Parsed {
     }
 }
 
-/// The record that a source is.
+/// Parses a source as exactly one record, with entries of 8 or 16 bits; `NotARecord`, `Large` or `Memory` if that
+/// fails.
 pub(crate) fn parse(alloc: Global, source: &Source<'_>) -> Result<Parsed, Outcome>
     ensures lists { IfOk result (λ rec. parsed_lists rec ≡ input_lists (input_of source.now)) }
     ensures is_record { IfOk result (λ _. IsOneRecord (input_of source.now)) }
@@ -221,7 +227,8 @@ pub(crate) fn parse(alloc: Global, source: &Source<'_>) -> Result<Parsed, Outcom
     }
 }
 
-/// The record that the bytes are.
+/// Parses bytes as exactly one record, which owns a copy of them; `NotARecord` if they are none, `Memory` if memory
+/// runs out.
 fn parsed_bytes(alloc: Global, bytes: &[u8]) -> Result<Parsed, Outcome>
     ensures lists { IfOk result (λ rec. parsed_lists rec ≡ input_lists (Bytes bytes.now)) }
     ensures is_record { IfOk result (λ _. IsOneRecord (Bytes bytes.now)) }
@@ -234,7 +241,8 @@ fn parsed_bytes(alloc: Global, bytes: &[u8]) -> Result<Parsed, Outcome>
     }
 }
 
-/// The wide record that the entries are. More than a record can have are not copied.
+/// Parses entries of 16 bits as exactly one record, which owns a copy of them; `Large` if it has too many vertices,
+/// `NotARecord` if they are none, or `Memory`. More entries than a record can have are not copied.
 fn parsed_entries(alloc: Global, entries: &[u16]) -> Result<Parsed, Outcome>
     ensures lists { IfOk result (λ rec. parsed_lists rec ≡ input_lists (Entries entries.now)) }
     ensures is_record { IfOk result (λ _. IsOneRecord (Entries entries.now)) }
@@ -253,7 +261,8 @@ fn parsed_entries(alloc: Global, entries: &[u16]) -> Result<Parsed, Outcome>
     }
 }
 
-/// The outcome for more entries than a record can have.
+/// The outcome for more entries than a record can have: `Large` if the first, the number of vertices, is above the
+/// maximum, otherwise `NotARecord`.
 fn fault_of_many(entries: &[u16]) -> Outcome
     requires { MAX_ENTRIES < length entries.now }
     ensures fault { IsUnparsed (Entries entries.now) result }

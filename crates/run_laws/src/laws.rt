@@ -140,8 +140,8 @@ pub fn laid_bends()
         → IsRecord bytes → IsLaid choice (lists_of bytes) plane shape prices drawing → bends plane shape ≤ 1534 }
 {}
 
-/// The boxes that a shape with the fewest bends is cut into have at most 15 vertices for each vertex, and 13: 18,013, and
-/// 3,838 for a record.
+/// The boxes that a shape with the fewest bends is cut into have at most 15n + 13 vertices, for a plane with n
+/// vertices: 18,013, and 3,838 for a record.
 pub fn boxes_are_few()
     ensures fifteen { (p : PlaneModel) (shape : ShapeModel) (b : BoxesModel) → IsPlane p → IsLeast p shape → IsBoxed p shape b
         → b.vertices ≤ 15 * vertices p + 13 }
@@ -160,7 +160,8 @@ pub fn units_supplied()
         → supply_sum n.network ≡ supplied_quarters p + inner_triangles p }
 {}
 
-/// The plane, the shape, the prices and the coordinates of a laid answer are right for its graph.
+/// The plane of a laid answer is that of its graph with the chosen outer face, the shape has the fewest bends, the
+/// prices prove so, and the points, if given, draw the shape.
 ///
 /// The plane has the neighbour lists of the graph, which break no rule, their faces and the chosen outer face. The
 /// shape is an orthogonal representation with no more bends than any other, with strings of any length, and the prices
@@ -247,12 +248,14 @@ pub fn least_points_are_unique()
     ensures { (b : BoxesModel) (points others : PointsModel) → AreBoxes b → AreLeastPoints b points → AreLeastPoints b others → points ≡ others }
 {}
 
-/// Where just points are given, no vertices and faces turn more than can leave them.
+/// If just points are given (at some vertices all angles, which make a whole turn, and no turns), no set of vertices
+/// and faces turns more than can leave it.
 pub fn points_have_no_cut()
     ensures { (p : PlaneModel) (given : GivenModel) (vertices faces : List Bool) → IsPlane p → CanBeGiven given.angles given.turns → ArePoints p given → ¬ ShowsNone p given vertices faces }
 {}
 
-/// Where just points and frames are given, no vertices and faces turn more than can leave them.
+/// If just points and frames (cycles of straight edges with four corners) are given, no set of vertices and faces turns
+/// more than can leave it.
 pub fn parts_have_no_cut()
     ensures { (p : PlaneModel) (given : GivenModel) (frames : ℕ) (inside : ℕ → FaceSet) (vertices faces : List Bool) → IsPlane p → CanBeGiven given.angles given.turns → AreParts p given frames inside → ¬ ShowsNone p given vertices faces }
 {}
@@ -304,13 +307,13 @@ pub fn one_report()
         → text ≡ other }
 {}
 
-/// The facts of a graph under a choice of the outer face are determined.
+/// Two `Facts` of one graph under the same choice of the outer face are equal.
 pub fn one_facts()
     ensures { (choice : Choice) (g : List (List ℕ)) (facts other : Facts)
         → AreFacts choice g (Some facts) → AreFacts choice g (Some other) → facts ≡ other }
 {}
 
-/// What is picked of files with the same known bytes is one text, unless memory ran out.
+/// Two picks by one selection, from files with the same known bytes, have the same text, unless memory ran out.
 ///
 /// This holds for any lanes, capacity and schedule.
 pub fn one_picked_text()
@@ -323,7 +326,8 @@ pub fn one_picked_text()
         → picked_text selection books ≡ picked_text selection others }
 {}
 
-/// The table of the chosen graphs of files with the same known bytes has one text in given columns, unless memory ran out.
+/// Two tables with the same columns, of the graphs that one selection chooses from files with the same known bytes,
+/// have the same text, unless memory ran out.
 ///
 /// This holds for any lanes, capacity and schedule.
 pub fn one_counted_text()
