@@ -40,7 +40,7 @@ impl LineBuffer {
         self.long = false;
     }
 
-    /// Appends `part` to the line; if the line would exceed `MAX_LINE` bytes, or already has, only marks it as too
+    /// Appends `part` to the line, without allocating; if the line would exceed `MAX_LINE` bytes, or already has, only marks it as too
     /// long.
     pub(crate) fn add(&mut self, part: &[u8])
         ensures { (seen : List ℕ) → IsCollected seen self.old.bytes.items self.old.long

@@ -219,7 +219,7 @@ fn low_along(
 }
 
 /// Raises coordinates that are nowhere above any that grow along the darts of an axis until they grow along them too,
-/// and returns them: the least that do. `Wide` if one would exceed 65,535; `constraints` is overwritten.
+/// and returns them: the least that do. `Wide` if one would exceed 65,535, or `Memory`; `constraints` is overwritten.
 fn relaxed_along(
     boxes: &Boxes,
     axis: Axis,

@@ -138,8 +138,8 @@ pub(crate) fn is_order_kept(segments: &[Segment], coordinates: &[u16]) -> bool
     true
 }
 
-/// Whether with these coordinates the segment at `place` stays before all those that it is before now. Linear in the
-/// segments.
+/// Whether with these coordinates the segment at `place` stays before each segment that crosses a common level and that
+/// it is before now. Linear in the segments.
 fn keeps_order(segments: &[Segment], coordinates: &[u16], place: usize) -> bool
     requires count { length coordinates.now ≡ length segments.now }
     requires place { place < length segments.now }

@@ -57,7 +57,7 @@ pub(crate) fn put_vertex_prices(
     bytes(out, b"]")
 }
 
-/// Appends a JSON array of the prices of the faces, in order.
+/// Appends a JSON array of the prices of the faces, in order. If memory runs out, a part may have been appended.
 pub(crate) fn put_face_prices(
     out: &mut Vec<u8>,
     plane: &Plane,

@@ -65,7 +65,7 @@ impl ReportLine {
         self.len = end;
     }
 
-    /// Appends a number in decimal, for which there must be room.
+    /// Appends a number in decimal; there must be room for 40 bytes, whatever the number.
     pub(crate) fn push_number(&mut self, number: u64)
         requires { length self.old + 40 ≤ LONGEST }
         ensures text { self.new ≡ self.old ++ decimal number }

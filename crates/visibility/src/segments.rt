@@ -314,7 +314,7 @@ impl Segments {
         self.firsts.resize(usize::from(greatest) + 1, 0)
     }
 
-    /// Lists all segments anew, by the coordinates that they have now.
+    /// Makes the lists of segments anew, one for each coordinate. The old lists are gone also if memory runs out.
     pub(crate) fn list_anew(&mut self) -> Result<(), AllocError>
         requires few { AreFew self.old.segments.items }
         ensures listed { OnOk result (AreListed self.new.segments.items self.new.firsts.items) }
