@@ -40,8 +40,8 @@ impl LineBuffer {
         self.long = false;
     }
 
-    /// Appends `part` to the line, without allocating; if the line would exceed `MAX_LINE` bytes, or already has, only marks it as too
-    /// long.
+    /// Appends `part` to the line, without allocating; if the line would exceed `MAX_LINE` bytes, or already has, only
+    /// marks it as too long.
     pub(crate) fn add(&mut self, part: &[u8])
         ensures { (seen : List ℕ) → IsCollected seen self.old.bytes.items self.old.long
             → IsCollected (seen ++ part.now) self.new.bytes.items self.new.long }

@@ -207,8 +207,8 @@ impl Graph {
         Graph::of(alloc, scratch, &lists)
     }
 
-    /// The graph of lists, or the first of rules 1 to 7 that they break, or `Memory`. Unless a rule is broken, both buffers
-    /// are gone from the scratch; each that is too small for a plane is enlarged to just what a plane needs.
+    /// The graph of lists, or the first of rules 1 to 7 that they break, or `Memory`. Unless a rule is broken, it takes
+    /// both buffers out of the scratch, and enlarges each that is too small, to just what a plane needs.
     fn of(alloc: Global, scratch: &mut Scratch, lists: &Lists<'_>) -> Result<Graph, ReadFault>
         requires { length lists.now ≤ MAX_VERTICES }
         ensures lists { IfOk result (λ graph. graph ≡ lists.now) }
