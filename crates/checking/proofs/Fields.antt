@@ -1,8 +1,7 @@
 -- What a line does not say.
-use Rattle.std.proofs.Common.{◌≡◌, ℕ, List, Option, None, Some, is_some, option_map, true, false, IsUtf8, refl, codes, sym, subst, ◌∙◌}
+use Rattle.std.proofs.Common.{◌≡◌, ℕ, List, Option, None, Some, is_some, option_map, true, false, refl, codes, sym, subst, ◌∙◌}
 use Rattle.serde_json.specs.Data.{Data}
 use Rattle.serde_json.specs.Find.{get}
-use Rattle.serde_json.specs.Read.{read}
 use Rattle.ortho_rep.specs.Points.{PointsModel}
 use Rattle.referee.specs.declared.claims.Claims.{Claims}
 use Rattle.checking.specs.Values.{IsTextOf}
@@ -34,10 +33,3 @@ some_of (Some x) is none = cc
 pub not_named : {A B : Type 0} (f : A → B) (o : Option A) (found : Option B) → option_map f o ≡ found → is_some o ≡ false → found ≡ None
 not_named f None found is none = sym is
 not_named f (Some x) found is none = cc
-
--- a line that is no text in UTF-8, or cannot be read, is the text of no value
-pub no_text : (line : List ℕ) → (IsUtf8 line → read line ≡ None) → (value : Data) → IsTextOf line value → ⊥
-no_text line none value text =
-    let e : read line ≡ None = none text.utf8 in
-    let said : read line ≡ Some value = text.text in
-    cc

@@ -1,5 +1,5 @@
 //! What a line claims of its points. A claim that is not made is `None`.
-ghost use Rattle.std.specs.Prelude.{◌≡◌, ◌≢◌, ◌^◌, ◌<◌, ◌≤◌, ℕ, ℤ, List, IfOk, IfErr, All, MatchOption, None, Some, option_map, codes, map};
+ghost use Rattle.std.specs.Prelude.{◌≡◌, ◌≢◌, ◌^◌, ◌<◌, ◌≤◌, ℕ, ℤ, List, IfOk, IfErr, IfNone, IfSome, All, MatchOption, None, Some, option_map, codes, map};
 ghost use Rattle.serde_json.specs.Find.{get};
 ghost use Rattle.serde_json.specs.View.{view};
 ghost use Rattle.ortho_rep.specs.declared.turn_strings.Turn.{Turn};
@@ -9,7 +9,7 @@ ghost use Rattle.checking.specs.Values.{natural, array_of, letter_of, turns_data
 ghost use Rattle.checking.specs.Wrong.{IsWrongField, IsWrongAngles, IsWrongTurns, IsWrongPriceList, IsWrongPrices, IsWrongPriceValue};
 ghost use Rattle.checking.specs.declared.json.LineFault.TheVariants.{Number, Turns, Memory};
 
-use crate::json::{LineFault, integer_in, list_in, number_in};
+use crate::json::{LineFault, integer_in, list_in, number_in, text_in};
 use ortho_rep::{Prices, Turn};
 use serde_json::Value;
 use std::alloc::Global;
@@ -191,7 +191,7 @@ fn turns_of(alloc: Global, value: &Value) -> Result<Vec<Turn>, LineFault>
         → (turns : List Turn) → view value.now ≢ turns_data turns) }
     ensures fault { IfErr result (λ fault. fault ≢ Memory → fault ≡ Turns) }
 {
-    let text = value.as_str().ok_or(LineFault::Turns)?;
+    let text = text_in(value, LineFault::Turns)?;
     letters_of(alloc, text.as_bytes())
 }
 
@@ -203,12 +203,23 @@ fn letters_of(alloc: Global, letters: &[u8]) -> Result<Vec<Turn>, LineFault>
 {
     let mut turns = Vec::new(alloc);
     for letter in letters {
-        let turn = match *letter {
-            b'L' => Turn::Left,
-            b'R' => Turn::Right,
-            _ => return Err(LineFault::Turns),
+        let turn = match turn_of(*letter) {
+            Some(turn) => turn,
+            None => return Err(LineFault::Turns),
         };
         turns.push(turn)?;
     }
     Ok(turns)
+}
+
+/// The turn of a letter, L or R; `None` for others.
+fn turn_of(letter: u8) -> Option<Turn>
+    ensures some { IfSome result (λ turn. letter ≡ letter_of turn) }
+    ensures none { IfNone result ((turn : Turn) → letter ≢ letter_of turn) }
+{
+    match letter {
+        b'L' => Some(Turn::Left),
+        b'R' => Some(Turn::Right),
+        _ => None,
+    }
 }

@@ -1,11 +1,11 @@
-//! Parts of a JSON value (fields, numbers and lists), and the reasons why a line describes no drawing.
-ghost use Rattle.std.specs.Prelude.{◌≡◌, ◌≢◌, ◌≤◌, ℕ, ℤ, IfOk, IfErr, Some, None, map};
+//! Parts of a JSON value (fields, numbers, strings and lists), and the reasons why a line describes no drawing.
+ghost use Rattle.std.specs.Prelude.{◌≡◌, ◌≢◌, ◌≤◌, ℕ, ℤ, List, IfOk, IfErr, Some, None, map};
 ghost use Rattle.checking.specs.declared.json.LineFault.TheVariants.{Memory, Malformed, Points, Number};
-ghost use Rattle.serde_json.specs.Data.{Items, array};
+ghost use Rattle.serde_json.specs.Data.{Data, Items, array, string};
 ghost use Rattle.serde_json.specs.Errors.{IsMemory};
 ghost use Rattle.serde_json.specs.Find.{get};
 ghost use Rattle.serde_json.specs.View.{view, items_of};
-ghost use Rattle.checking.specs.Values.{natural, integer_of, IsOf32Bits};
+ghost use Rattle.checking.specs.Values.{IsTextOf, natural, integer_of, IsOf32Bits};
 
 use serde_json::{Error, Value};
 use std::alloc::{AllocError, AllocFailed, Global};
@@ -49,16 +49,31 @@ impl<T: Drop> From<AllocFailed<T>> for LineFault {
     }
 }
 
-impl From<Error> for LineFault {
-    ghost from_gives = { λ error fault. fault ≢ Memory → (fault ≡ Malformed) × (¬ IsMemory error) };
+/// The JSON value of a line.
+///
+/// # Errors
+///
+/// `Memory` if memory runs out. Otherwise `Malformed`: the line is not JSON text in UTF-8.
+pub(crate) fn value_in(alloc: Global, line: &[u8]) -> Result<Value, LineFault>
+    ensures ok { IfOk result (λ value. IsTextOf line.now (view value)) }
+    ensures none { IfErr result (λ fault. fault ≢ Memory → (value : Data) → IsTextOf line.now value → ⊥) }
+    ensures fault { IfErr result (λ fault. fault ≢ Memory → fault ≡ Malformed) }
+{
+    match Value::from_slice(alloc, line) {
+        Ok(value) => Ok(value),
+        Err(error) => Err(fault_of(&error)),
+    }
+}
 
-    /// `Memory` if memory ran out. Otherwise `Malformed`: a line is not JSON text in UTF-8.
-    fn from(error: Error) -> LineFault {
-        if error.is_memory() {
-            LineFault::Memory
-        } else {
-            LineFault::Malformed
-        }
+/// The fault that parsing a line as JSON returned.
+fn fault_of(error: &Error) -> LineFault
+    ensures real { result ≢ Memory → ¬ IsMemory error.now }
+    ensures kind { result ≢ Memory → result ≡ Malformed }
+{
+    if error.is_memory() {
+        LineFault::Memory
+    } else {
+        LineFault::Malformed
     }
 }
 
@@ -111,4 +126,13 @@ pub(crate) fn integer_in(value: &Value) -> Result<i32, LineFault>
         Some(number) if -2_147_483_648 <= number && number <= 2_147_483_647 => Ok(number as i32),
         _ => Err(LineFault::Number),
     }
+}
+
+/// The text that a value is; otherwise this fault.
+pub(crate) fn text_in(value: &Value, otherwise: LineFault) -> Result<&str, LineFault>
+    ensures ok { IfOk result (λ text. view value.now ≡ string text.now) }
+    ensures none { IfErr result (λ _. (text : List ℕ) → view value.now ≢ string text) }
+    ensures fault { IfErr result (λ fault. fault ≡ otherwise) }
+{
+    value.as_str().ok_or(otherwise)
 }

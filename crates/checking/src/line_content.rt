@@ -9,7 +9,7 @@ ghost use Rattle.checking.specs.Lines.{state_in};
 ghost use Rattle.checking.specs.UnderWay.{trailing_of, HasKept, KeepsNext, KeepsRest};
 
 use crate::claims::{angles_in, bends_in, outer_in, prices_in, turns_in};
-use crate::json::LineFault;
+use crate::json::{LineFault, value_in};
 use crate::line_reader::{LineOutcome, Lines};
 use crate::points::points_in;
 use ortho_rep::Points;
@@ -47,7 +47,7 @@ pub(crate) fn content_of(alloc: Global, line: &[u8]) -> Result<LineContent, Line
     ensures none { IfErr result (λ fault. fault ≢ Memory → SaysNothing line.now) }
     ensures fault { IfErr result (λ fault. fault ≢ Memory → IsWrongLine line.now fault) }
 {
-    let value = Value::from_slice(alloc, line)?;
+    let value = value_in(alloc, line)?;
     if value.get("end").is_some() {
         return Ok(LineContent::End);
     }
