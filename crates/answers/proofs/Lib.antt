@@ -1,6 +1,0 @@
-pub mod Held
-pub mod Lengths
-pub mod Straight
-pub mod Remaining
-pub mod WideOnly
-pub mod DrawnAnswers

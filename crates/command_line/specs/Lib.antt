@@ -1,4 +1,0 @@
-pub mod Refusals
-pub mod Faults
-pub mod Requests
-pub mod Helps

@@ -1,3 +1,0 @@
-pub mod FlawLines
-pub mod Statuses
-pub mod TextRuns

@@ -1,3 +1,0 @@
-pub mod Constraints
-pub mod Monotone
-pub mod Neighbours

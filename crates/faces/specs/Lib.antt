@@ -1,5 +1,0 @@
-pub mod Planes
-pub mod Faces
-pub mod Faults
-pub mod Greatest
-pub mod Numbering

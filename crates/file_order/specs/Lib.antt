@@ -1,4 +1,0 @@
-pub mod Concatenated
-pub mod Waits
-pub mod Writing
-pub mod FileOrder

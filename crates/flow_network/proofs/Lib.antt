@@ -1,8 +1,0 @@
-pub mod VertexDegrees
-pub mod Flowing
-pub mod GrowingLists
-pub mod WrittenLists
-pub mod Faultless
-pub mod OuterSet
-pub mod GivenParts
-pub mod Taken

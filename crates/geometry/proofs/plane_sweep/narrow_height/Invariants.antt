@@ -1,9 +1,0 @@
-use Rattle.std.proofs.Common.{◌<◌, ◌≤◌, ℕ}
-use Rattle.geometry.proofs.Holdings.{at}
-use Rattle.geometry.proofs.plane_sweep.narrow_height.Given as goal
-
-abbrev pub invariant-loop-rectangle : goal.invariant-loop-rectangle
-invariant-loop-rectangle l = record {
-  right : (m : ℕ) → m < l.rectangle-index → (at l.rectangles m).right ≤ l.right;
-  top : (m : ℕ) → m < l.rectangle-index → (at l.rectangles m).top ≤ l.top;
-}

@@ -1,9 +1,0 @@
-pub mod Stream
-pub mod Split
-pub mod FramerState
-pub mod Started
-pub mod Scan
-pub mod Framer
-pub mod Step
-pub mod Plain
-pub mod Parse

@@ -1,3 +1,0 @@
-mod Corners
-mod Told
-mod Written

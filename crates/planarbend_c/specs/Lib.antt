@@ -1,9 +1,0 @@
-pub mod Codes
-pub mod Sources
-pub mod Requests
-pub mod Held
-pub mod Found
-pub mod Cuts
-pub mod Left
-pub mod Faults
-pub mod Outcomes

@@ -1,4 +1,0 @@
-pub mod Drawings
-pub mod Claims
-pub mod Taken
-pub mod Faults

@@ -1,7 +1,0 @@
-pub mod Counts
-pub mod Deals
-pub mod Fans
-pub mod Links
-pub mod Pools
-pub mod Settling
-pub mod Views

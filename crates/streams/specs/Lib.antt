@@ -1,9 +1,0 @@
-pub mod Tap
-pub mod Sink
-pub mod FramesModel
-pub mod Marks
-pub mod Memory
-pub mod Reading
-pub mod Placing
-pub mod Text
-pub mod FrameLines

@@ -1,1 +1,0 @@
-"""Draws a graph: it is made planar, its boxes and outer face are chosen, and the shape gets its pixels."""
