@@ -26,16 +26,20 @@ impl<P: Purpose> Staged for Item<P, Record, ()> {
 
     const STAGE: Stage = Stage::Embed;
 
+    /// A new, empty scratch for this stage, without queues on which buffers return. It allocates nothing.
     fn scratch(alloc: Global) -> EmbedScratch {
         EmbedScratch::empty(alloc)
     }
 
+    /// If the next stage has sent back a holder, keeps it in `scratch` for the next plane, and moves the lists of the
+    /// spent plane in it, if any, to `scratch`. It never waits.
     fn exchange<R: Wait>(rt: &R, scratch: &mut EmbedScratch) {
         scratch.restock(rt);
     }
 
-    /// Reads the record's graph and traces its faces; the item then has its plane or the fault, and the record only if
-    /// it is carried.
+    /// Reads the record's graph and traces its faces, and returns the item with its plane, or with the fault in place
+    /// of it: the first rule that the record breaks, or else `Memory` if memory runs out. The work takes buffers and
+    /// the holder out of `scratch`. The record stays in the item only if the purpose carries it.
     fn work(self, alloc: Global, scratch: &mut EmbedScratch) -> Embedded<P> {
         let plane = embed(alloc, &mut scratch.planes, &self.rec);
         Item {
@@ -57,17 +61,21 @@ impl<P: Purpose> Staged for Item<P, <P as Purpose>::Carried, Traced> {
 
     const STAGE: Stage = Stage::Shape;
 
+    /// A new, empty scratch for this stage, without queues on which buffers return. It allocates nothing.
     fn scratch(alloc: Global) -> ShapeScratch {
         ShapeScratch::empty(alloc)
     }
 
+    /// If the next stage has sent back a holder, keeps it in `scratch` for the next shaped plane, with the lists in it;
+    /// then sends the holder of the last plane, if `scratch` still has it, back to the stage before. It never waits.
     fn exchange<R: Wait>(rt: &R, scratch: &mut ShapeScratch) {
         scratch.restock(rt);
         scratch.send_back(rt);
     }
 
-    /// Finds a shape of the plane with the fewest bends, and the directions of its darts; an item without a plane keeps
-    /// its fault.
+    /// Finds a shape of the plane with the fewest bends, and the directions of its darts, and returns the item with
+    /// them, or with `Memory` in place of them if memory runs out; an item without a plane keeps its fault. The work
+    /// uses the buffers of `scratch` and leaves the plane's holder there.
     fn work(self, alloc: Global, scratch: &mut ShapeScratch) -> Shaped<P> {
         let task = self.task;
         let plane = taken(self.state, &mut scratch.plane_shell);
@@ -91,15 +99,18 @@ impl<P: Purpose> Staged for Item<P, <P as Purpose>::Carried, ShapeFound> {
 
     const STAGE: Stage = Stage::Draw;
 
+    /// A new, empty scratch for this stage, without queues on which buffers return. It allocates nothing.
     fn scratch(alloc: Global) -> DrawScratch {
         DrawScratch::empty(alloc)
     }
 
+    /// Sends the holder of the last shaped plane, if `scratch` still has it, back to the stage before. It never waits.
     fn exchange<R: Wait>(rt: &R, scratch: &mut DrawScratch) {
         scratch.send_back(rt);
     }
 
-    /// Returns what the purpose makes of the record and its shaped plane, which it may draw.
+    /// Returns what `Purpose::finish` makes of the record and its shaped plane, or of the fault in place of it. The
+    /// holder of the shaped plane stays in `scratch`, whose buffers serve for a drawing if one is made.
     fn work(self, alloc: Global, scratch: &mut DrawScratch) -> P::Entry {
         let task = self.task;
         let shaped_plane = taken(self.state, &mut scratch.shell);
@@ -130,6 +141,8 @@ impl<P: Purpose> LaneKind for Answering<P> {
 
     ghost ends = { P.ends };
 
+    /// The first item for `rec`, the record at place `ordinal` of the file `file`, to be answered with the outer face
+    /// of `choice` and with this lane's kind of drawing.
     fn framed(&self, file: u32, ordinal: u32, rec: Record, choice: Choice) -> Framed<P>
         requires { P.accepts file ordinal rec }
         ensures about { ⟦<Framed<P> as Numbered>⟧.about result
@@ -151,10 +164,13 @@ impl<P: Purpose> LaneKind for Answering<P> {
         }
     }
 
+    /// Returns what the purpose knows of this end of the file `file` besides its mark.
     fn end(&self, file: u32, end: SourceEnd) -> P::End {
         P::end(file, end)
     }
 
+    /// New scratches for the second, third and fourth stage of a lane whose links have room for `capacity` messages,
+    /// joined by new queues on which holders return; `AllocError` if there is no memory for the queues.
     fn scratch(
         &self,
         alloc: Global,
@@ -164,7 +180,7 @@ impl<P: Purpose> LaneKind for Answering<P> {
     }
 }
 
-/// A record is encoded by its lists. This function does nothing.
+/// Theorem: the bytes of a record are the code of its lists. The call does nothing.
 fn spelt(rec: &Record)
     ensures { IsSpelt rec.now }
 {

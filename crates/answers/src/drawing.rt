@@ -23,8 +23,8 @@ use std::alloc::{AllocError, Global};
 use std::sync::Wait;
 use visibility::compact_by_visibility_in;
 
-/// Whether the edges of the plane, drawn by `points`, are together no longer than drawn by `others`; false if a length
-/// takes more than 64 bits.
+/// Whether the edges of the plane, drawn by `points`, are together no longer than drawn by `others`; false if one of
+/// the two lengths takes more than 64 bits.
 pub(crate) fn is_no_longer(plane: &Plane, points: &Points, others: &Points) -> bool
     requires points { HasPoints plane.now points.now }
     requires others { HasPoints plane.now others.now }
@@ -36,7 +36,8 @@ pub(crate) fn is_no_longer(plane: &Plane, points: &Points, others: &Points) -> b
     }
 }
 
-/// The length of all edges together; `None` if it takes more than 64 bits.
+/// The length of all edges of the plane together, drawn by `points`, in steps of the grid; `None` if it takes more than
+/// 64 bits.
 fn edge_length(plane: &Plane, points: &Points) -> Option<u64>
     requires points { HasPoints plane.now points.now }
     ensures { IfSome result (λ found. found ≡ edge_length plane.now points.now) }
@@ -56,7 +57,8 @@ fn edge_length(plane: &Plane, points: &Points) -> Option<u64>
     Some(length)
 }
 
-/// The number of steps along a path; `None` if it takes more than 64 bits.
+/// The length of the path of one edge, from its start along its corners to its end, in steps of the grid; `None` if it
+/// takes more than 64 bits.
 fn path_length(route: &Route<'_>) -> Option<u64>
     ensures { IfSome result (λ found. found ≡ path_length (path_of route.now)) }
 {
@@ -69,7 +71,8 @@ fn path_length(route: &Route<'_>) -> Option<u64>
     length.checked_add(distance(from, route.end))
 }
 
-/// Whether all coordinates of the vertices and of the corners of all `edges` edges are less than a limit.
+/// Whether both coordinates of each vertex and of each corner are less than `limit`; `edges` must be the number of all
+/// edges.
 pub(crate) fn are_below(points: &Points, edges: u16, limit: u32) -> bool
     requires { edges ≡ length points.now.corners }
     ensures { IsTrue result ↔ AreBelow limit points.now }
@@ -85,7 +88,7 @@ pub(crate) fn are_below(points: &Points, edges: u16, limit: u32) -> bool
     true
 }
 
-/// Whether both coordinates of all points of a list are less than a limit.
+/// Whether both coordinates of each point of `points` are less than `limit`; true if there are no points.
 fn all_below(points: &[Point], limit: u32) -> bool
     ensures { IsTrue result ↔ All (IsBelow limit) points.now }
 {
@@ -119,23 +122,24 @@ impl DrawScratch {
         }
     }
 
-    /// Consumes a shaped plane and its points, whose lists are reused.
-    ///
-    /// Those of the points stay here; those of the shaped plane return in its holder.
+    /// Consumes a shaped plane and its points: keeps the list of the points for the next points, and puts the shaped
+    /// plane into the holder kept here, in which its lists will return to an earlier stage. Without a holder it is
+    /// dropped.
     pub fn take_back(&mut self, shaped_plane: ShapedPlane, points: Points) {
         self.points.take_back(points);
         self.take_back_shaped(shaped_plane);
     }
 
-    /// Consumes a shaped plane that is no longer needed: puts it into the last holder, in which its lists will return
-    /// to an earlier stage. Without a holder it is dropped.
+    /// Consumes a shaped plane that is no longer needed: puts it into the holder kept here, in which its lists will
+    /// return to an earlier stage. Without a holder it is dropped.
     pub fn take_back_shaped(&mut self, shaped_plane: ShapedPlane) {
         if let Some(shell) = &mut self.shell {
             shell.refill(shaped_plane);
         }
     }
 
-    /// Sends back the holder of the shaped plane that was taken last.
+    /// Sends the holder of the shaped plane that was taken last, with what was put back into it, to the stage before,
+    /// if it is still here. It never waits; without a queue, or if the queue is full, the holder is dropped.
     pub(crate) fn send_back<R: Wait>(&mut self, rt: &R) {
         if let Some(shell) = self.shell.take() {
             self.back.send(rt, shell);
@@ -143,8 +147,9 @@ impl DrawScratch {
     }
 }
 
-/// The drawing, of this kind, of a shape whose darts arrive in these directions, or the cause why there is none. Its
-/// points are checked to draw the shape.
+/// Returns the drawing of `shape`, of the kind `drawing_kind` and checked to draw it, or (`Ok(Err(..))`) the cause why
+/// there is none. Works in the buffers of `scratch`; `AllocError` if memory runs out, and buffers may then be gone.
+/// `directions` must be those in which the darts of `shape` arrive at their heads.
 ///
 /// For a short drawing the points are compacted. The compacted points are returned only if their edges are together no
 /// longer than before, no coordinate is as great as the number of boxes' vertices, they are checked to draw the shape,
@@ -192,9 +197,12 @@ pub(crate) fn draw(
     }
 }
 
-/// Points that draw a shaped plane, in this kind of drawing; its shape has the fewest bends, so there are such points.
+/// Returns points that draw the shaped plane, in a drawing of the kind `drawing_kind`; there are such points, since its
+/// shape must have the fewest bends. Works in the buffers of `scratch`; `AllocError` if memory runs out, and buffers
+/// may then be gone.
 ///
-/// Those of a quick drawing are the least points of its boxes. That they draw the shape is proved, so they are not checked.
+/// Those of a quick drawing are the least points of its boxes. That they draw the shape is proved, so they are not
+/// checked.
 pub(crate) fn points_of(
     alloc: Global,
     scratch: &mut DrawScratch,
@@ -230,8 +238,9 @@ pub(crate) fn points_of(
     }
 }
 
-/// The drawing that compaction makes of points, if its edges are together no longer, all its coordinates are less than
-/// a limit, it is checked to draw the shape, and its regions are the faces; otherwise `None`.
+/// The drawing that compaction makes of `points`, if its edges are together no longer, all its coordinates are less
+/// than `limit`, it is checked to draw the shape, and its regions are the faces; otherwise `None`. Works in the buffers
+/// of `scratch`; `AllocError` if memory runs out, and buffers may then be gone.
 fn shorter_drawing(
     alloc: Global,
     scratch: &mut DrawScratch,

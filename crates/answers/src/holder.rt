@@ -48,19 +48,19 @@ impl<T: Drop> Model for Holder<T> {
 }
 
 impl<T: Drop> Shell<T> {
-    /// A new, empty shell. It allocates one box.
+    /// A new, empty shell, which allocates one box; `AllocError` if there is no memory for it.
     pub(crate) fn new(alloc: Global) -> Result<Shell<T>, AllocError> {
         Ok(Shell {
             slot: Box::new(alloc, Slot::Empty)?,
         })
     }
 
-    /// Puts a spent value into the holder.
+    /// Puts a spent value into this shell; a value that was in it is dropped.
     pub(crate) fn refill(&mut self, spent: T) {
         *self.slot = Slot::Spent(spent);
     }
 
-    /// Takes the spent value out of the holder, if there is one.
+    /// Takes the spent value out of this shell and returns it; `None` if there is none. The shell is then empty.
     pub(crate) fn unload(&mut self) -> Option<T> {
         match mem::replace(&mut *self.slot, Slot::Empty) {
             Slot::Spent(spent) => Some(spent),
@@ -69,8 +69,9 @@ impl<T: Drop> Shell<T> {
     }
 }
 
-/// Puts a value into this shell, or into a new one if there is none, and returns the holder; a fault is returned as it
-/// is, and the shell is dropped.
+/// Puts `value` into `shell`, or into a new one if that is `None`, and returns the holder; a fault in place of `value`
+/// is returned as it is, and `shell` is dropped. `Memory` if there is no memory for a new shell; the value is then
+/// dropped.
 ///
 /// # Errors
 ///
@@ -91,8 +92,8 @@ pub(crate) fn held<T: Drop>(
     Ok(Holder { slot })
 }
 
-/// Takes a value out of its holder and puts the emptied holder into `shell`; a fault is returned as it is, and `shell`
-/// stays unchanged.
+/// Takes a value out of its holder and returns it, and puts the emptied holder into `shell`, where one that was there
+/// is dropped; a fault in place of the holder is returned as it is, and `shell` stays unchanged.
 pub(crate) fn taken<T: Drop>(
     value: Result<Holder<T>, ReadFault>,
     shell: &mut Option<Shell<T>>,
@@ -128,8 +129,8 @@ impl EmbedScratch {
         }
     }
 
-    /// If a holder has returned, keeps it for the next plane, and takes over the lists of the spent plane in it. It
-    /// never waits.
+    /// If a holder has returned, keeps it for the next plane, in place of one kept so far, and moves the lists of the
+    /// spent plane in it, if any, to `planes`. It never waits; if none has returned, nothing changes.
     pub(crate) fn restock<R: Wait>(&mut self, rt: &R) {
         if let Some(mut shell) = self.spent.receive(rt) {
             if let Some(plane) = shell.unload() {
@@ -140,8 +141,8 @@ impl EmbedScratch {
     }
 }
 
-/// New scratches of the stages of a lane whose links have room for `capacity` messages, with new queues on which each
-/// stage returns buffers to the one before.
+/// New scratches of the stages that read, shape and draw, in a lane whose links have room for `capacity` messages, with
+/// new queues on which each stage returns buffers to the one before; `AllocError` if there is no memory for the queues.
 ///
 /// A holder is in transit in one link, alone or in a list, in use in a stage, or on its return.
 ///

@@ -69,7 +69,8 @@ pub trait Carried: Drop + Send {
     /// The record's bytes.
     ghost bytes: { Self → List ℕ };
 
-    /// Consumes a record and returns what is carried of it once its graph is read.
+    /// Consumes a record and returns what is carried of it once its graph is read: the record, or nothing but its bytes
+    /// for proofs.
     fn carried(rec: Record) -> Self
         ensures { bytes result ≡ rec };
 }
@@ -77,7 +78,7 @@ pub trait Carried: Drop + Send {
 impl Carried for Record {
     ghost bytes = { λ rec. rec };
 
-    /// The record itself.
+    /// Returns the record itself.
     fn carried(rec: Record) -> Record {
         rec
     }
@@ -86,7 +87,7 @@ impl Carried for Record {
 impl Carried for Snapshot<Record> {
     ghost bytes = { λ rec. rec.value };
 
-    /// Nothing but its bytes for proofs: the record is dropped.
+    /// Drops the record and returns a snapshot of it, which holds its bytes for proofs and nothing at run time.
     fn carried(rec: Record) -> Snapshot<Record> {
         Snapshot::of(&rec)
     }
@@ -109,10 +110,12 @@ pub struct Item<P: Purpose, R: Carried, S: State> {
 impl<P: Purpose, R: Carried, S: State> Numbered for Item<P, R, S> {
     ghost about = { λ i. about_in i.task (R.bytes i.rec) };
 
+    /// The number of the record's file, from 0.
     fn file(&self) -> u32 {
         self.task.file
     }
 
+    /// The record's place in its file, from 0.
     fn ordinal(&self) -> u32 {
         self.task.ordinal
     }
@@ -135,16 +138,16 @@ pub trait Purpose: Drop + Send + Sync {
     // Which ends it may be passed: of which file, with how many records and which mark.
     ghost ends: { ℕ → ℕ → Mark → Type 0 };
 
-    /// The same purpose, for one record.
+    /// Returns the same purpose, for the item of one record.
     fn of_record(&self) -> Self
         ensures { result ≡ self.now };
 
-    /// What is known of this end of a file besides its mark.
+    /// Returns what is known of this end of the file `file` besides its mark.
     fn end(file: u32, end: SourceEnd) -> Self::End
         requires { ends file end.count end.mark };
 
-    /// Makes what a lane gives for a record, from its shaped plane or the fault in place of it. The scratch may take
-    /// back lists that the result does not keep.
+    /// Returns what a lane gives for a record, made from its shaped plane or from the fault in place of it. It may draw
+    /// with the buffers of `scratch`, and give back to `scratch` lists that the result does not keep.
     fn finish(
         self,
         alloc: Global,
@@ -173,13 +176,17 @@ impl Purpose for KeepEntries {
 
     ghost ends = { λ _ _ _. ⊤ };
 
+    /// Returns `KeepEntries`.
     fn of_record(&self) -> KeepEntries {
         KeepEntries
     }
 
+    /// Returns nothing: entries need no more of a file's end than its mark.
     fn end(_file: u32, _end: SourceEnd) {}
 
-    /// Draws the shaped plane, and returns the entry of the record with its answer.
+    /// Draws the shaped plane with the buffers of `scratch`, and returns the entry of the record: the record with its
+    /// answer. The answer is `Refused` if the fault in place of the shaped plane is a rule, and `NoMemory` if memory
+    /// ran out, here or before.
     fn finish(
         self,
         alloc: Global,

@@ -46,8 +46,9 @@ impl RecordScratch {
         }
     }
 
-    /// Reads a record into its plane, whose outer face is the one with the most darts; it fails with the first rule
-    /// that the record breaks.
+    /// Reads a record into its plane, whose outer face is the one with the most darts, among equals the first; `Rule`
+    /// with the first rule that the record breaks, or `Memory` if it breaks none, but memory runs out. This scratch can
+    /// be used again after an error.
     ///
     /// # Errors
     ///
@@ -58,15 +59,17 @@ impl RecordScratch {
         embed(alloc, &mut self.planes, rec)
     }
 
-    /// The plane of a wide record, exactly as [`RecordScratch::embed`] of a record.
+    /// Reads a wide record into its plane, exactly as [`RecordScratch::embed`] reads a record; `Rule` with the first
+    /// rule that the record breaks, or `Memory` if it breaks none, but memory runs out.
     pub fn embed_wide(&mut self, alloc: Global, rec: &WideRecord) -> Result<Plane, ReadFault>
         ensures { IsEmbedded (lists_of rec.now) result }
     {
         embed_wide(alloc, &mut self.planes, rec)
     }
 
-    /// Returns the plane with the chosen outer face, a shape of it with the fewest bends, and prices that prove this; a
-    /// fault in place of the plane is returned as it is.
+    /// Returns the plane with the outer face of `choice` (with `First` the one that it has), a shape of it with the
+    /// fewest bends, and prices that prove this; a fault in place of the plane is returned as it is. `Memory` if memory
+    /// runs out for the shape; the plane is then dropped.
     ///
     /// The shape is for this kind of drawing, which the plane names. Nothing is drawn.
     ///
@@ -88,7 +91,8 @@ impl RecordScratch {
         shape(alloc, &mut self.shapes, plane, choice, drawing_kind)
     }
 
-    /// Returns points that draw a plane with a least shape: a drawing of the kind that its shape is for.
+    /// Returns points that draw a plane whose shape must have the fewest bends, in a drawing of the kind that its shape
+    /// is for; `AllocError` if memory runs out.
     ///
     /// Each least shape has a drawing. The edges of a short one are in all no longer than those of a quick one. For n
     /// vertices and b bends, coordinates are below 3n + 2b + 5.
@@ -115,7 +119,8 @@ impl RecordScratch {
     }
 
     /// Consumes a plane and returns it with the chosen outer face, a shape with the fewest bends of all that keep the
-    /// conditions, and prices that prove this.
+    /// conditions, and prices that prove this. An error says what is wrong with the conditions, or that no shape keeps
+    /// them, or is `Memory` if memory runs out; the plane is then dropped.
     ///
     /// The outer face is the chosen one of those that may be outside. `First` is the face with the most darts, and
     /// `Best` the one that minimises bends; among equals both are the one with the least number, which has the least
@@ -152,15 +157,16 @@ impl RecordScratch {
         })
     }
 
-    /// A drawing, of the kind that the plane names, of a shape that keeps conditions.
+    /// Returns a drawing, of the kind that `kept` names, of its shape, which keeps conditions; `Wide` if the shape
+    /// needs points outside the grid, `Memory` if memory runs out.
     ///
-    /// It has the angles and turns that are asked for, and an edge without turns has no corners. Lengths and coordinates are
-    /// as for [`RecordScratch::points`].
+    /// It has the angles and turns that are asked for, and an edge without turns has no corners. Lengths and
+    /// coordinates are as for [`RecordScratch::points`].
     ///
     /// # Errors
     ///
-    /// `Wide` if the shape, which may have more bends than a least one, needs points outside the grid; `Memory` if memory
-    /// runs out.
+    /// `Wide` if the shape, which may have more bends than a least one, needs points outside the grid; `Memory` if
+    /// memory runs out.
     pub fn draw_keeping(
         &mut self,
         alloc: Global,

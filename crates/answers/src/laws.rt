@@ -20,17 +20,18 @@ ghost use Rattle.answers.specs.Remaining.{MayShow};
 ghost use Rattle.reports.specs.declared.answer.Answer.{Answer};
 ghost use Rattle.answers.specs.DrawnAnswers.{IsDrawnIfLaid};
 
-/// Least points and their corners are within the grid, so boxes of a shape never show the cause `OutOfGrid`.
+/// Theorem: least points and their corners are within the grid, so boxes of a shape never show the cause `OutOfGrid`.
 pub fn least_points_are_in_grid()
     ensures points { (b : BoxesModel) (points : PointsModel) → AreBoxes b → AreLeastPoints b points → AreInGrid points }
     ensures cause { (plane : PlaneModel) (shape : ShapeModel) (b : BoxesModel)
         → IsBoxed plane shape b → ¬ ShowsCause plane shape b Cause.OutOfGrid }
 {}
 
-/// Boxes with at most 65,536 vertices show the cause `Wide` only if no coordinates grow along their darts.
+/// Theorem: boxes with at most 65,536 vertices show the cause `Wide` only if no coordinates grow along their darts, and
+/// never `OutOfGrid`.
 ///
-/// This is the number of columns of the grid. The boxes of a shape with the fewest bends have fewer vertices, so this
-/// holds for each cause in place of points in a laid answer.
+/// The grid has 65,536 columns. The boxes of a shape with the fewest bends have fewer vertices, so this holds for each
+/// cause in place of points in a laid answer.
 pub fn remaining_causes()
     ensures vertices { (plane : PlaneModel) (shape : ShapeModel) (b : BoxesModel) (cause : Cause)
         → IsBoxed plane shape b → b.vertices ≤ MAX_COORDINATE + 1
@@ -43,7 +44,7 @@ pub fn remaining_causes()
         → (boxes : BoxesModel) × IsBoxed plane shape boxes × MayShow boxes cause }
 {}
 
-/// The only cause that boxes of a shape can show is `Wide`, since their least points draw the shape.
+/// Theorem: the only cause that boxes of a shape can show is `Wide`, since their least points draw the shape.
 ///
 /// In place of points a laid answer has it only if some boxes of its shape have no coordinates that grow along their
 /// darts at all.
@@ -55,7 +56,7 @@ pub fn only_wide()
         → (boxes : BoxesModel) × IsBoxed plane shape boxes × HasNoCoordinates boxes × (cause ≡ Cause.Wide) }
 {}
 
-/// Boxes that dissect a shape with the fewest bends have a drawing: they show no cause.
+/// Theorem: boxes that dissect a shape with the fewest bends have a drawing: they show no cause.
 ///
 /// Some coordinates grow along their darts, so the least ones are within the grid, and points that are derived from
 /// these draw the shape.
@@ -64,7 +65,7 @@ pub fn no_cause_is_shown()
         → IsPlane plane → IsLeast plane shape → IsBoxed plane shape b → ¬ ShowsCause plane shape b cause }
 {}
 
-/// A laid answer has points that draw its shape, with each face where it belongs, and never a cause.
+/// Theorem: a laid answer has points that draw its shape, with each face where it belongs, and never a cause.
 pub fn laid_answers_are_drawn()
     ensures cause { (choice : Choice) (g : List (List ℕ)) (plane : PlaneModel) (shape : ShapeModel) (prices : PricesModel) (cause : Cause)
         → ¬ IsLaid choice g plane shape prices (Err cause) }
@@ -73,7 +74,7 @@ pub fn laid_answers_are_drawn()
         → (points : PointsModel) × (drawing ≡ Ok points) × IsDrawingOf plane shape points }
 {}
 
-/// An answer to a graph that has a shape has a drawing of it.
+/// Theorem: an answer to a graph has a drawing of its shape if it is `Laid`.
 pub fn answers_are_drawn()
     ensures { (choice : Choice) (g : List (List ℕ)) (answer : Answer) → Answers choice g answer → IsDrawnIfLaid answer }
 {}

@@ -62,7 +62,8 @@ impl ShapeScratch {
     }
 
     /// If a holder of a shaped plane has returned, keeps it for the next one, and takes over the lists of the spent
-    /// shaped plane in it. It never waits.
+    /// shaped plane in it, if any; those kept here so far are dropped. It never waits; if none has returned, nothing
+    /// changes.
     pub(crate) fn restock<R: Wait>(&mut self, rt: &R) {
         if let Some(mut shell) = self.return_queues.shaped_planes.receive(rt) {
             if let Some(spent) = shell.unload() {
@@ -82,8 +83,9 @@ impl ShapeScratch {
         }
     }
 
-    /// Sends the holder of the last plane, if it is still here, back to the stage before, with a spent plane in it if
-    /// there is one.
+    /// Sends the holder of the last plane, if it is still here, back to the stage before, with the spent plane in it
+    /// that is kept here, if there is one. It never waits; without a queue, or if the queue is full, the holder is
+    /// dropped.
     pub(crate) fn send_back<R: Wait>(&mut self, rt: &R) {
         if let Some(mut shell) = self.plane_shell.take() {
             if let Some(plane) = self.plane.take() {
@@ -94,8 +96,9 @@ impl ShapeScratch {
     }
 }
 
-/// Returns the plane with the chosen outer face, a shape with the fewest bends for this kind of drawing, prices that
-/// prove this, and the directions of its darts; a fault in place of the plane is returned as it is.
+/// Returns the plane with the outer face of `choice` (with `First` the one that it has), a shape with the fewest bends
+/// for this kind of drawing, prices that prove this, and the directions of its darts; a fault in place of the plane is
+/// returned as it is. Works in `scratch`; `Memory` if memory runs out, and the plane is then dropped.
 ///
 /// The directions of the darts are found here, and not where the shape is drawn, since drawing takes longest of all
 /// stages.
@@ -138,8 +141,9 @@ pub(crate) fn shape(
     })
 }
 
-/// The direction in which each dart arrives at its head when the shape is drawn, in quarter turns to the left from
-/// east. It works in the lists of the scratch, one of which becomes the result.
+/// Returns, by dart, the direction in which it arrives at its head when the shape is drawn: 0 east, 1 north, 2 west, 3
+/// south. Works in the lists of `scratch`, one of which becomes the result; `AllocError` if memory runs out, and these
+/// lists are then gone.
 pub(crate) fn directions_of(
     alloc: Global,
     scratch: &mut ShapeScratch,

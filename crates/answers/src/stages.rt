@@ -21,7 +21,8 @@ use planar_code::Record;
 use reports::{Answer, Entry};
 use std::alloc::{AllocError, Global};
 
-/// Why lists have no plane if there is no memory for their graph: the first rule that they break, or else out of memory.
+/// The fault of lists for whose graph there is no memory: `Rule` with the rule in `broken`, which must be the first
+/// that they break, or `Memory` if it is `None`.
 fn fault_without_graph(broken: Option<Rule>) -> ReadFault
     ensures { (g : List (List ℕ))
         → MatchOption broken (KeepsBefore g 9) (λ rule. FirstBroken g rule) → IsRefused g result }
@@ -32,8 +33,8 @@ fn fault_without_graph(broken: Option<Rule>) -> ReadFault
     }
 }
 
-/// Consumes a graph and returns its plane, or `Rule::Genus` if the graph breaks that rule; its lists then go to the
-/// scratch.
+/// Consumes a graph and returns its plane, whose outer face is the one with the most darts; `Rule(Genus)` if the graph
+/// breaks that rule, and its lists then go to `scratch`. It allocates nothing.
 fn trace(alloc: Global, scratch: &mut faces::Scratch, graph: Graph) -> Result<Plane, ReadFault>
     ensures { IsEmbedded graph result }
 {
@@ -47,8 +48,11 @@ fn trace(alloc: Global, scratch: &mut faces::Scratch, graph: Graph) -> Result<Pl
     }
 }
 
-/// The plane of a record, or why there is none; reuses the caller's scratch. If there is no memory for the graph, the
-/// rules are tried without one, which allocates nothing.
+/// The plane of a record, whose outer face is the one with the most darts; `Rule` with the first rule that the record
+/// breaks, or `Memory` if it breaks none, but memory runs out. The plane takes lists of `scratch` with it; after
+/// `Memory` some may be gone.
+///
+/// If there is no memory for the graph, the rules are tried without one, which allocates nothing.
 pub(crate) fn embed(
     alloc: Global,
     scratch: &mut faces::Scratch,
@@ -63,7 +67,9 @@ pub(crate) fn embed(
     }
 }
 
-/// The plane of a wide record, or why there is none; it works as `embed` does for a record.
+/// The plane of a wide record, exactly as `embed` of a record: `Rule` with the first rule that the record breaks, or
+/// `Memory` if it breaks none, but memory runs out. The plane takes lists of `scratch` with it; after `Memory` some may
+/// be gone.
 pub(crate) fn embed_wide(
     alloc: Global,
     scratch: &mut faces::Scratch,
@@ -78,8 +84,9 @@ pub(crate) fn embed_wide(
     }
 }
 
-/// The answer to a record: draws its shaped plane, or names the rule that the record breaks; `NoMemory` if memory ran
-/// out, here or before.
+/// Returns the answer to a record: `Laid` with its plane, shape, prices and drawing, or a cause in place of the
+/// drawing; `Refused` with the rule that it breaks; or `NoMemory` if memory ran out, here or before. The drawing is of
+/// the kind `drawing_kind` and is made in the buffers of `scratch`.
 pub(crate) fn answer_with(
     alloc: Global,
     scratch: &mut DrawScratch,
@@ -116,8 +123,9 @@ pub(crate) fn answer_with(
     }
 }
 
-/// Returns a shaped plane with points that draw it, in this kind of drawing; a fault in place of the plane is returned
-/// as it is, and lack of memory as `Memory`.
+/// Returns a shaped plane, whose shape must have the fewest bends, with points that draw it in the kind `drawing_kind`;
+/// a fault in place of it is returned as it is. The points are made in the buffers of `scratch`; `Memory` if memory
+/// runs out, and the shaped plane is then dropped.
 ///
 /// The points of a quick drawing are not checked: it is proved that they draw the shape.
 pub fn find_points(
@@ -140,7 +148,9 @@ pub fn find_points(
     }
 }
 
-/// The entry of a record: all stages, one after another, on the caller's thread, with the quick drawing.
+/// Returns the entry of a record, which holds the record: its answer with a quick drawing, found by all stages, one
+/// after another, on the caller's thread. The answer is `Refused` with the first rule that the record breaks, and
+/// otherwise `NoMemory` if memory runs out.
 ///
 /// The outer face is that of this choice. If the record breaks a rule, the answer names the first one, whatever memory
 /// there is. Otherwise it is `NoMemory` if any call on the way runs out of memory.

@@ -14,7 +14,8 @@ use ortho_rep::{Prices, Turn};
 use serde_json::Value;
 use std::alloc::Global;
 
-/// The number of bends that a JSON value claims, in the field `bends`; `None` if it has no such field.
+/// The number of bends that the field `bends` of a JSON value claims; `None` if the value has no such field or is no
+/// object. `Number` if the field is no integer from 0 to 4,294,967,295.
 ///
 /// # Errors
 ///
@@ -31,7 +32,8 @@ pub(crate) fn bends_in(value: &Value) -> Result<Option<u32>, LineFault>
     }
 }
 
-/// The outer face that a JSON value claims, in the field `outer`; `None` if it has no such field.
+/// The index of the outer face that the field `outer` of a JSON value claims; `None` if the value has no such field or
+/// is no object. `Number` if the field is no integer from 0 to 65,535.
 ///
 /// # Errors
 ///
@@ -48,7 +50,9 @@ pub(crate) fn outer_in(value: &Value) -> Result<Option<u16>, LineFault>
     }
 }
 
-/// The angles that a JSON value claims, in the field `angles`; `None` if it has no such field.
+/// The angles that the field `angles` of a JSON value claims, in order; `None` if the value has no such field or is no
+/// object. `Angles` if the field is no array, `Number` if an element is no integer from 0 to 255, `Memory` if memory
+/// runs out.
 ///
 /// # Errors
 ///
@@ -68,8 +72,8 @@ pub(crate) fn angles_in(alloc: Global, value: &Value) -> Result<Option<Vec<u8>>,
     }
 }
 
-/// The angles that a JSON value holds as an array; `Angles` if it is no array, `Number` if an element is no integer
-/// from 0 to 255, or `Memory`.
+/// The angles that a JSON value holds as an array, in order. `Angles` if the value is no array, `Number` if an element
+/// is no integer from 0 to 255, `Memory` if memory runs out.
 fn angle_list(alloc: Global, value: &Value) -> Result<Vec<u8>, LineFault>
     ensures ok { IfOk result (λ angles. view value.now ≡ array_of natural angles.items) }
     ensures none { IfErr result (λ fault. fault ≢ Memory
@@ -84,12 +88,14 @@ fn angle_list(alloc: Global, value: &Value) -> Result<Vec<u8>, LineFault>
     Ok(angles)
 }
 
-/// The prices that a JSON value claims, in the field `prices`; `None` if it has no such field.
+/// The prices that the field `prices` of a JSON value claims; `None` if the value has no such field or is no object.
+/// `Prices` if the field lacks an array `vertices` or `faces`, `Number` if an element of these is no signed integer of
+/// 32 bits, `Memory` if memory runs out; the first error counts.
 ///
 /// # Errors
 ///
-/// `Memory` if memory runs out. Otherwise `Prices` if the field has no list in `vertices` or `faces`, and `Number` if an
-/// element is no integer of 32 bits. `vertices` is read before `faces`; the first error counts.
+/// `Memory` if memory runs out. Otherwise `Prices` if the field has no list in `vertices` or `faces`, and `Number` if
+/// an element is no signed integer of 32 bits. `vertices` is read before `faces`; the first error counts.
 pub(crate) fn prices_in(alloc: Global, value: &Value) -> Result<Option<Prices>, LineFault>
     ensures ok { IfOk result (λ said. MatchOption said (get (codes "prices") (view value.now) ≡ None)
         (SaysPrices (view value.now))) }
@@ -104,8 +110,8 @@ pub(crate) fn prices_in(alloc: Global, value: &Value) -> Result<Option<Prices>, 
     }
 }
 
-/// The prices in the fields `vertices` and `faces` of a JSON value, of which neither may be absent. The error is the
-/// first fault, or `Memory`.
+/// The prices in the arrays `vertices` and `faces` of a JSON value, read in this order. `Prices` if one is absent or no
+/// array, `Number` if an element is no signed integer of 32 bits, `Memory` if memory runs out; the first error counts.
 fn two_price_lists(alloc: Global, field: &Value) -> Result<Prices, LineFault>
     ensures ok { IfOk result (HasPriceLists (view field.now)) }
     ensures none { IfErr result (λ fault. fault ≢ Memory
@@ -117,8 +123,8 @@ fn two_price_lists(alloc: Global, field: &Value) -> Result<Prices, LineFault>
     Ok(Prices::new(vertices, faces))
 }
 
-/// The prices in the field `name` of a JSON value; `Prices` if there is no such array, `Number` if an element is no
-/// signed integer of 32 bits, or `Memory`.
+/// The prices in the field `name` of a JSON value, in order. `Prices` if there is no such field or it is no array,
+/// `Number` if an element is no signed integer of 32 bits, `Memory` if memory runs out.
 fn prices_at(alloc: Global, value: &Value, name: &str) -> Result<Vec<i32>, LineFault>
     ensures ok { IfOk result (λ prices. HasIntegers name.now (view value.now) prices.items) }
     ensures within { IfOk result (λ prices. All IsOf32Bits prices.items) }
@@ -132,8 +138,8 @@ fn prices_at(alloc: Global, value: &Value, name: &str) -> Result<Vec<i32>, LineF
     }
 }
 
-/// The prices that a JSON value holds as an array; `Prices` if it is no array, `Number` if an element is no signed
-/// integer of 32 bits, or `Memory`.
+/// The prices that a JSON value holds as an array, in order. `Prices` if the value is no array, `Number` if an element
+/// is no signed integer of 32 bits, `Memory` if memory runs out.
 fn price_list(alloc: Global, value: &Value) -> Result<Vec<i32>, LineFault>
     ensures ok { IfOk result (λ prices. AreIntegers (view value.now) prices.items) }
     ensures within { IfOk result (λ prices. All IsOf32Bits prices.items) }
@@ -149,7 +155,9 @@ fn price_list(alloc: Global, value: &Value) -> Result<Vec<i32>, LineFault>
     Ok(prices)
 }
 
-/// The turns that a JSON value claims, in the field `turns`; `None` if it has no such field.
+/// The turns that the field `turns` of a JSON value claims: a list for each string of its array, in order; `None` if
+/// the value has no such field or is no object. `Turns` if the field is no array of strings of the letters L and R,
+/// `Memory` if memory runs out.
 ///
 /// # Errors
 ///
@@ -168,8 +176,8 @@ pub(crate) fn turns_in(alloc: Global, value: &Value) -> Result<Option<Vec<Vec<Tu
     }
 }
 
-/// The lists of turns that a JSON value holds as an array of strings of L and R; `Turns` if it is no such array, or
-/// `Memory`.
+/// The turns that a JSON value holds as an array of strings of the letters L and R: a list for each string, in order.
+/// `Turns` if the value is no such array, `Memory` if memory runs out.
 fn string_list(alloc: Global, value: &Value) -> Result<Vec<Vec<Turn>>, LineFault>
     ensures ok { IfOk result (λ strings. view value.now ≡ array_of turns_data (lists_in strings.items)) }
     ensures none { IfErr result (λ fault. fault ≢ Memory
@@ -184,7 +192,8 @@ fn string_list(alloc: Global, value: &Value) -> Result<Vec<Vec<Turn>>, LineFault
     Ok(strings)
 }
 
-/// The turns that a JSON value holds as a string of L and R; `Turns` if it is no such string, or `Memory`.
+/// The turns that a JSON value holds as a string of the letters L and R, in order. `Turns` if the value is no such
+/// string, `Memory` if memory runs out.
 fn turns_of(alloc: Global, value: &Value) -> Result<Vec<Turn>, LineFault>
     ensures ok { IfOk result (λ turns. view value.now ≡ turns_data turns.items) }
     ensures none { IfErr result (λ fault. fault ≢ Memory
@@ -195,7 +204,8 @@ fn turns_of(alloc: Global, value: &Value) -> Result<Vec<Turn>, LineFault>
     letters_of(alloc, text.as_bytes())
 }
 
-/// The turns that these letters, L or R, encode; `Turns` if there is any other letter, or `Memory`.
+/// The turns that `letters`, each L or R, encode, in order. `Turns` if there is any other byte, `Memory` if memory runs
+/// out.
 fn letters_of(alloc: Global, letters: &[u8]) -> Result<Vec<Turn>, LineFault>
     ensures ok { IfOk result (λ turns. letters.now ≡ map letter_of turns.items) }
     ensures none { IfErr result (λ fault. fault ≢ Memory → (turns : List Turn) → letters.now ≢ map letter_of turns) }
@@ -212,7 +222,7 @@ fn letters_of(alloc: Global, letters: &[u8]) -> Result<Vec<Turn>, LineFault>
     Ok(turns)
 }
 
-/// The turn of a letter, L or R; `None` for others.
+/// The turn of a letter: left for L, right for R; `None` for any other byte.
 fn turn_of(letter: u8) -> Option<Turn>
     ensures some { IfSome result (λ turn. letter ≡ letter_of turn) }
     ensures none { IfNone result ((turn : Turn) → letter ≢ letter_of turn) }

@@ -35,7 +35,7 @@ pub(crate) enum LineFault {
 impl From<AllocError> for LineFault {
     ghost from_gives = { λ _ fault. fault ≡ Memory };
 
-    /// `Memory`: an allocation failed.
+    /// Returns `Memory`: an allocation failed.
     fn from(_error: AllocError) -> LineFault {
         LineFault::Memory
     }
@@ -44,12 +44,14 @@ impl From<AllocError> for LineFault {
 impl<T: Drop> From<AllocFailed<T>> for LineFault {
     ghost from_gives = { λ _ fault. fault ≡ Memory };
 
+    /// Returns `Memory`, and drops the element for which there was no memory.
     fn from(_refused: AllocFailed<T>) -> LineFault {
         LineFault::Memory
     }
 }
 
-/// The JSON value of a line.
+/// The JSON value of a line. `Malformed` if the bytes of the line are not one JSON text in UTF-8, `Memory` if memory
+/// runs out.
 ///
 /// # Errors
 ///
@@ -65,7 +67,8 @@ pub(crate) fn value_in(alloc: Global, line: &[u8]) -> Result<Value, LineFault>
     }
 }
 
-/// The fault that parsing a line as JSON returned.
+/// The fault of a line for which JSON parsing returned `error`: `Memory` if the error is that memory ran out, otherwise
+/// `Malformed`.
 fn fault_of(error: &Error) -> LineFault
     ensures real { result ≢ Memory → ¬ IsMemory error.now }
     ensures kind { result ≢ Memory → result ≡ Malformed }
@@ -77,7 +80,7 @@ fn fault_of(error: &Error) -> LineFault
     }
 }
 
-/// The field with this name of a JSON value; `Points` if it has none.
+/// The field `name` of a JSON value; `Points`, whatever the name, if the value has no such field or is no object.
 ///
 /// # Errors
 ///
@@ -90,7 +93,7 @@ pub(crate) fn needed_field_in<'v>(value: &'v Value, name: &str) -> Result<&'v Va
     value.get(name).ok_or(LineFault::Points)
 }
 
-/// The elements of a JSON array; the fault `otherwise` if the value is no array.
+/// The elements of a JSON array, in order; the error `otherwise` if the value is no array.
 pub(crate) fn list_in(value: &Value, otherwise: LineFault) -> Result<&[Value], LineFault>
     ensures ok { IfOk result (λ values. view value.now ≡ array (items_of (map view values.now))) }
     ensures none { IfErr result (λ _. (items : Items) → view value.now ≢ array items) }
@@ -102,7 +105,7 @@ pub(crate) fn list_in(value: &Value, otherwise: LineFault) -> Result<&[Value], L
     }
 }
 
-/// The integer from 0 to `most` that a JSON value is; `Number` if it is none.
+/// The integer that a JSON value is; `Number` if it is no integer from 0 to `most`.
 pub(crate) fn number_in(value: &Value, most: u64) -> Result<u64, LineFault>
     ensures ok { IfOk result (λ n. view value.now ≡ natural n) }
     ensures within { IfOk result (λ n. n ≤ most) }
@@ -115,7 +118,7 @@ pub(crate) fn number_in(value: &Value, most: u64) -> Result<u64, LineFault>
     }
 }
 
-/// The signed integer of 32 bits that a JSON value is; `Number` if it is none.
+/// The integer that a JSON value is; `Number` if it is no signed integer of 32 bits.
 pub(crate) fn integer_in(value: &Value) -> Result<i32, LineFault>
     ensures ok { IfOk result (λ z. integer_of (view value.now) ≡ Some z) }
     ensures within { IfOk result IsOf32Bits }
@@ -128,7 +131,7 @@ pub(crate) fn integer_in(value: &Value) -> Result<i32, LineFault>
     }
 }
 
-/// The text that a value is; otherwise this fault.
+/// The text of a JSON string; the error `otherwise` if the value is no string.
 pub(crate) fn text_in(value: &Value, otherwise: LineFault) -> Result<&str, LineFault>
     ensures ok { IfOk result (λ text. view value.now ≡ string text.now) }
     ensures none { IfErr result (λ _. (text : List ℕ) → view value.now ≢ string text) }

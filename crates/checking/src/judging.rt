@@ -60,8 +60,9 @@ impl Scratch {
     }
 }
 
-/// The verdict on a record and the input that its line gave; with `faces`, each region of the drawing must also be its
-/// face.
+/// The verdict on `rec` and `input`, which its line gave: `Memory` if memory runs out, or ran out for the line;
+/// otherwise the first variant of `Verdict` that applies. If `faces`, each region of the drawing must also be its face.
+/// The buffers in `scratch` are reused and changed.
 ///
 /// `Memory` if memory ran out for the line, which may then be the end of a run. `Ok` exactly if, unless memory runs
 /// out, the record breaks no rule, and points are given that draw a representation of its embedding, with whatever
@@ -97,8 +98,9 @@ pub(crate) fn record_verdict(
     verdict
 }
 
-/// The verdict on the input for a plane's record: that on its drawing, or why there is none. A drawing may change the
-/// plane's outer face.
+/// The verdict on `input` for the record of `plane`: that on its drawing, or why there is none; `Memory` if memory runs
+/// out, or ran out for the line. A drawing may change the outer face of `plane`, even one that is wrong, and changes
+/// the buffers in `scratch`.
 fn input_verdict(
     alloc: Global,
     scratch: &mut Scratch,
@@ -117,7 +119,9 @@ fn input_verdict(
     }
 }
 
-/// The verdict on a drawing of a plane, whose outer face is then that of the drawing, if there is one.
+/// The verdict on a drawing of `plane`; `Memory` if memory runs out. The outer face of `plane` becomes that of the
+/// drawing; if the verdict is `Drawn` or `Memory`, it may have changed or not. The buffers in `scratch` are reused and
+/// changed.
 fn drawing_verdict(
     alloc: Global,
     scratch: &mut Scratch,
@@ -138,8 +142,9 @@ fn drawing_verdict(
     claims_verdict(alloc, scratch, faces, plane, &judged, &claims).unwrap_or(Verdict::Memory)
 }
 
-/// The verdict on the regions (if `faces`) and the claims of a drawing: `Regions`, `Claim`, or `Ok` with the numbers of
-/// bends; `AllocError` if memory runs out.
+/// The verdict on the regions of a drawing, if `faces`, and then on its claims: `Regions`, `Claim`, or `Ok` with the
+/// bends and the fewest bends. `AllocError` if memory runs out for the fewest bends, which claimed prices prove without
+/// memory. The buffers in `scratch` are reused and changed.
 fn claims_verdict(
     alloc: Global,
     scratch: &mut Scratch,

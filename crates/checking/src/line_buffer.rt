@@ -20,7 +20,7 @@ impl LineBuffer {
     ghost use Rattle.std.specs.Prelude.{ℕ, List, [], ◌++◌};
     ghost use Rattle.checking.specs.Lines.{IsCollected};
 
-    /// An empty line buffer; it allocates `MAX_LINE` bytes, the room for the longest line.
+    /// An empty line buffer, with memory for a line of `MAX_LINE` bytes; `AllocError` if there is no memory for them.
     ///
     /// # Errors
     ///
@@ -40,8 +40,8 @@ impl LineBuffer {
         self.long = false;
     }
 
-    /// Appends `part` to the line, without allocating; if the line would exceed `MAX_LINE` bytes, or already has, only
-    /// marks it as too long.
+    /// Appends `part` to the line, in the memory that the buffer has. If the line would exceed `MAX_LINE` bytes, or is
+    /// already marked as too long, drops `part` and only marks the line as too long.
     pub(crate) fn add(&mut self, part: &[u8])
         ensures { (seen : List ℕ) → IsCollected seen self.old.bytes.items self.old.long
             → IsCollected (seen ++ part.now) self.new.bytes.items self.new.long }

@@ -35,7 +35,9 @@ pub(crate) enum LineContent {
     Drawing(ClaimedDrawing),
 }
 
-/// The content of a line: the drawing that it describes, or `End` if it ends a run.
+/// The content of a line: `End` if it is a JSON object with a field `end`, otherwise the drawing that it describes.
+/// `Malformed` if it is no JSON object, `Memory` if memory runs out, otherwise the fault of its first wrong field, in
+/// the order `points`, `angles`, `turns`, `prices`, `bends`, `outer`.
 ///
 /// # Errors
 ///
@@ -54,8 +56,9 @@ pub(crate) fn content_of(alloc: Global, line: &[u8]) -> Result<LineContent, Line
     Ok(LineContent::Drawing(drawing_in(alloc, &value)?))
 }
 
-/// The points and claims that a JSON value describes; `Malformed` if it is no object, otherwise the fault of its first
-/// wrong field, or `Memory`.
+/// The points and claims that a JSON value describes; a claim is `None` if its field is absent. `Malformed` if the
+/// value is no object, `Memory` if memory runs out, otherwise the fault of its first wrong field, in the order
+/// `points`, `angles`, `turns`, `prices`, `bends`, `outer`.
 fn drawing_in(alloc: Global, value: &Value) -> Result<ClaimedDrawing, LineFault>
     ensures ok { IfOk result (λ said. HasFields (view value.now) said.points said.claims) }
     ensures none { IfErr result (λ fault. fault ≢ Memory → (points : PointsModel) (claims : Claims)
@@ -70,8 +73,8 @@ fn drawing_in(alloc: Global, value: &Value) -> Result<ClaimedDrawing, LineFault>
     Ok(ClaimedDrawing { points, claims })
 }
 
-/// The claims that a JSON value makes of its points, `None` for each absent field. The error is the fault of the first
-/// wrong field, or `Memory`.
+/// The claims that a JSON value makes of its points, `None` for each absent field. `Memory` if memory runs out,
+/// otherwise the fault of the first wrong field, in the order `angles`, `turns`, `prices`, `bends`, `outer`.
 fn claims_in(alloc: Global, value: &Value) -> Result<Claims, LineFault>
     ensures ok { IfOk result (HasClaims (view value.now)) }
     ensures none { IfErr result (λ fault. fault ≢ Memory → (claims : Claims)
@@ -120,8 +123,9 @@ pub(crate) enum Trailing {
     OutOfMemory,
 }
 
-/// Reads the next line that is no end of a run, and returns its drawing or fault; `Missing` if there are no more lines,
-/// `Unread` if a read failed.
+/// Reads the next line of `lines` that is no end of a run, and returns its drawing, or `Fault` with the reason why
+/// there is none: `Malformed` if the line is too long, `Memory` if memory runs out for it (it may then be the end of a
+/// run). `Missing` if there are no more lines, `Unread` if a read failed.
 pub(crate) fn next_input<R: Wait, L: Tap>(
     rt: &R,
     alloc: Global,
@@ -146,7 +150,8 @@ pub(crate) fn next_input<R: Wait, L: Tap>(
     unreachable!()
 }
 
-/// Reads all lines after those of the records; returns how many of them are no end of a run, and whether a read failed.
+/// Reads all lines that are left in `lines`; returns how many of them are no end of a run, and whether a read failed,
+/// which is no error. `Memory`, the only error, if memory runs out for a line; the lines after it are then not read.
 ///
 /// # Errors
 ///
@@ -172,8 +177,8 @@ pub(crate) fn read_trailing<R: Wait, L: Tap>(
     unreachable!()
 }
 
-/// Classifies the input that was read after the last record's line, and drops it: a further line, no line, or out of
-/// memory.
+/// What `input`, read after the line of the last record, says, and drops it: `Line` for a drawing or a fault of a line,
+/// `End` if there was no line, with whether a read failed, and `OutOfMemory` if memory had run out for a line.
 fn trailing_of(input: DrawingInput) -> Trailing
     ensures { result ≡ trailing_of input }
 {

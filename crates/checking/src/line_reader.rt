@@ -29,7 +29,7 @@ impl Model for ReadBuffer {
     ghost invariant = { λ h. (0 < vec_len h.piece) × (h.at ≤ h.end) × (h.end ≤ vec_len h.piece) };
 }
 
-/// The place of the first byte 0A, if there is one.
+/// The index of the first byte 0A (a newline) in `bytes`; `None` if there is no such byte.
 fn line_end(bytes: &[u8]) -> Option<usize>
     ensures some { IfSome result (λ k. k < length bytes.now) }
     ensures ended { IfSome result (λ k. bytes.now ≡ take k bytes.now ++ 10 ∷ drop (k + 1) bytes.now) }
@@ -45,7 +45,7 @@ fn line_end(bytes: &[u8]) -> Option<usize>
 }
 
 impl ReadBuffer {
-    /// An empty buffer; it allocates the room for one piece of a source.
+    /// An empty buffer, with memory for one piece of a source; `AllocError` if there is no memory for it.
     ///
     /// # Errors
     ///
@@ -60,8 +60,9 @@ impl ReadBuffer {
         })
     }
 
-    /// Moves the bytes up to the first byte 0A to the line, and takes that byte away; returns whether there is one.
-    /// Otherwise it moves all bytes.
+    /// Moves the bytes before the first byte 0A to the end of `line`, removes that byte too, and returns true; if there
+    /// is none, moves all bytes and returns false. If `line` would exceed `MAX_LINE` bytes, the bytes are dropped and
+    /// `line` is marked as too long.
     pub(crate) fn move_to(&mut self, line: &mut LineBuffer) -> bool
         ensures ended { result ≡ true → ((part : List ℕ) × IsNoEnd part × (self.old ≡ part ++ 10 ∷ self.new)
             × Adds part line.old.bytes.items line.old.long line.new.bytes.items line.new.long) }
@@ -83,7 +84,9 @@ impl ReadBuffer {
         }
     }
 
-    /// Reads the next piece of the source, where no bytes are left, and returns whether it may give more.
+    /// Reads the next piece of `source` into the buffer, which must be empty, in the memory that it has. Returns `Open`
+    /// if there were bytes, `Ended` if the source has ended, `Failed` if the read failed; the buffer is then still
+    /// empty.
     pub(crate) fn refill<T: Tap>(&mut self, source: &mut T) -> SourceState
         requires { self.old ≡ [] }
         ensures { IsRefilled (T.to_come source.old) (T.fails source.old) (T.to_come source.new) (T.fails source.new) self.new result }
@@ -137,7 +140,8 @@ pub(crate) struct Lines<T> {
 }
 
 impl<T: Tap> Lines<T> {
-    /// A reader at the beginning of a source, with room for a piece and for the longest line.
+    /// A reader at the beginning of `source`, with memory for one piece of it and for the longest line. `AllocError` if
+    /// there is no memory for them; `source` is then dropped.
     ///
     /// # Errors
     ///
@@ -154,8 +158,9 @@ impl<T: Tap> Lines<T> {
         })
     }
 
-    /// Reads the next line into the reader's buffer, and returns the outcome: a line, one that is too long, the end, or
-    /// a failed read.
+    /// Reads the next line into the memory of the reader, and returns `Line`, `TooLong` if the line exceeds `MAX_LINE`
+    /// bytes, `End` if there are no more lines, or `Failed` if a read failed. Once it has returned `End` or `Failed`,
+    /// it reads nothing and returns the same again.
     ///
     /// Once the source has ended or a read has failed, it is read no more.
     pub(crate) fn next<R: Wait>(&mut self, rt: &R) -> LineOutcome
@@ -172,14 +177,16 @@ impl<T: Tap> Lines<T> {
         }
     }
 
-    /// The line that was read last, without its newline, if it was not too long.
+    /// The bytes of the line that `next` read last, without the byte 0A at its end. They are a whole line only if
+    /// `next` returned `Line`; before the first call they are empty.
     pub(crate) fn line(&self) -> &[u8]
         ensures { result.now ≡ line_in self.now }
     {
         self.line.bytes.as_slice()
     }
 
-    /// Reads the next line of a source that may give more bytes, and returns the outcome.
+    /// Reads the next line into the memory of the reader, and returns `Line`, `TooLong`, `End` or `Failed` as `next`
+    /// does. The source must have neither ended nor failed before the call.
     fn read_on<R: Wait>(&mut self, rt: &R) -> LineOutcome
         requires { state_in self.old ≡ SourceState.Open }
         ensures { (known : Option (List ℕ)) (fails : Bool) (given : List (List ℕ))
@@ -203,7 +210,8 @@ impl<T: Tap> Lines<T> {
     }
 }
 
-/// The outcome of reading a line that byte 0A ended.
+/// The outcome for a line that byte 0A ended: `TooLong` if the line is marked as too long, otherwise `Line`, also if it
+/// is empty.
 fn ended_line(line: &LineBuffer) -> LineOutcome
     ensures { IsWhole line.now.long result }
 {
@@ -214,8 +222,8 @@ fn ended_line(line: &LineBuffer) -> LineOutcome
     }
 }
 
-/// The outcome at the end of the source, given the bytes after its last byte 0A: `End` if there are none, otherwise as
-/// for a line that has ended.
+/// The outcome for the bytes after the last byte 0A of a source that has ended: `End` if there are none, `TooLong` if
+/// they are marked as too long, otherwise `Line`.
 fn last_line(line: &LineBuffer) -> LineOutcome
     ensures { IsLast line.now.bytes.items line.now.long result }
 {

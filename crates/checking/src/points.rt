@@ -16,12 +16,14 @@ use std::alloc::Global;
 /// The maximum coordinate that is read.
 const MAX_COORDINATE: u64 = 4_294_967_295;
 
-/// The points of the field `points` of a value.
+/// The points in the field `points` of a JSON value: those of its `vertices`, then the lists of its `corners`. `Points`
+/// if a field or list is absent, or a list or point has another form, `Number` if a coordinate is no integer from 0 to
+/// 4,294,967,295, `Memory` if memory runs out; the first error counts.
 ///
 /// # Errors
 ///
-/// `Memory` if memory runs out. Otherwise `Points` if a field, a list or a point is missing or malformed, and `Number` if a
-/// coordinate is no integer of 32 bits. `vertices` is read before `corners`; the first error counts.
+/// `Memory` if memory runs out. Otherwise `Points` if a field, a list or a point is missing or malformed, and `Number`
+/// if a coordinate is no integer from 0 to 4,294,967,295. `vertices` is read before `corners`; the first error counts.
 pub(crate) fn points_in(alloc: Global, value: &Value) -> Result<Points, LineFault>
     ensures ok { IfOk result (SaysPoints (view value.now)) }
     ensures short { IfOk result AreShort }
@@ -35,8 +37,9 @@ pub(crate) fn points_in(alloc: Global, value: &Value) -> Result<Points, LineFaul
     Ok(Points::new(vertices, corners))
 }
 
-/// The lists of corners, one for each edge, that a JSON value holds as an array of arrays of points. The error is the
-/// first fault, or `Memory`.
+/// The lists of corners, one for each edge, that a JSON value holds as an array of arrays of points, in order. `Points`
+/// if the value, an element or a point has another form, `Number` if a coordinate is no integer from 0 to
+/// `MAX_COORDINATE`, `Memory` if memory runs out; the first error counts.
 fn corner_lists(alloc: Global, value: &Value) -> Result<Vec<Vec<Point>>, LineFault>
     ensures ok { IfOk result (λ lists. view value.now ≡ lists_data (lists_in lists.items)) }
     ensures short { IfOk result (λ lists. All (All IsShort) (lists_in lists.items)) }
@@ -52,8 +55,9 @@ fn corner_lists(alloc: Global, value: &Value) -> Result<Vec<Vec<Point>>, LineFau
     Ok(lists)
 }
 
-/// The points that a JSON value holds as an array, in order. The error is `Points` if it is no array, the fault of the
-/// first wrong point, or `Memory`.
+/// The points that a JSON value holds as an array, in order. `Points` if it is no array or an element is no array of
+/// two, `Number` if a coordinate is no integer from 0 to `MAX_COORDINATE`, `Memory` if memory runs out; the first error
+/// counts.
 fn point_list(alloc: Global, value: &Value) -> Result<Vec<Point>, LineFault>
     ensures ok { IfOk result (λ points. view value.now ≡ list_data points.items) }
     ensures short { IfOk result (λ points. All IsShort points.items) }
@@ -69,8 +73,8 @@ fn point_list(alloc: Global, value: &Value) -> Result<Vec<Point>, LineFault>
     Ok(points)
 }
 
-/// The point that a JSON value holds as `[x, y]`; `Points` if it is no array of two, `Number` if one of them is no
-/// integer from 0 to `MAX_COORDINATE`.
+/// The point that a JSON value holds as `[x, y]`. `Points` if the value is no array of two elements, `Number` if one of
+/// them is no integer from 0 to `MAX_COORDINATE`.
 fn point_in(value: &Value) -> Result<Point, LineFault>
     ensures ok { IfOk result (λ point. view value.now ≡ point_data point) }
     ensures short { IfOk result IsShort }

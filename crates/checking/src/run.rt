@@ -43,10 +43,11 @@ pub struct CheckOutcome {
 }
 
 /// Checks the drawings in `lines` against the records of `graphs`, writes a verdict for each record and a last line to
-/// `out`, and returns the outcome.
+/// `out`, and returns the mark of `graphs` and the exit status. `Write` exactly if `out` has then failed, `Memory` if
+/// memory runs out for buffers or a line after the last record; `out` has then taken a prefix of the text.
 ///
-/// Line K that is no end of a run belongs to record K. Records are checked as they are read, one after another; those of
-/// one piece, one line and one drawing are kept in memory.
+/// Line K that is no end of a run belongs to record K. Records are checked as they are read, one after another; those
+/// of one piece, one line and one drawing are kept in memory.
 ///
 /// If memory runs out for a line, the verdict on the record is `memory`. If that line was the end of a run, later lines
 /// may be one off, each checked with the record after its own.
@@ -54,8 +55,8 @@ pub struct CheckOutcome {
 /// # Errors
 ///
 /// `Write` exactly if the sink has then failed. `Memory` if memory runs out for the buffers, or before it is known
-/// whether a line after the last record is the end of a run. A prefix of the text was then written; if a byte of the last
-/// line was, that line has the number of lines that are left.
+/// whether a line after the last record is the end of a run. A prefix of the text was then written; if a byte of the
+/// last line was, that line has the number of lines that are left.
 pub fn check_files<R: AllocGlobal + Wait, G: Tap, L: Tap, S: Sink>(
     rt: &R,
     graphs: G,
@@ -81,7 +82,9 @@ pub fn check_files<R: AllocGlobal + Wait, G: Tap, L: Tap, S: Sink>(
     checker.finish(rt, end, out)
 }
 
-/// Writes the verdicts on the records of a file of graphs; returns their number and the mark of the file.
+/// Reads the records of `graphs` through `buffer`; returns their number and the mark, which is `Memory` if memory runs
+/// out in a record. Their verdicts (also `Memory`) are added to the text of `checker`, which goes to `out` when nearly
+/// full. `Write`, the only error, exactly if `out` has then failed; it has then taken a prefix of the text.
 fn check_records<R: Wait, G: Tap, L: Tap, S: Sink>(
     rt: &R,
     alloc: Global,
@@ -119,7 +122,8 @@ pub(crate) struct Checker<L> {
 }
 
 impl<L: Tap> Checker<L> {
-    /// A checker that has read no line and judged no record yet. It allocates the buffers of the reader of lines.
+    /// A checker that has read no line and judged no record yet. `AllocError` if there is no memory for the buffers of
+    /// its reader of `lines`, which is then dropped.
     ///
     /// # Errors
     ///
@@ -144,8 +148,9 @@ impl<L: Tap> Checker<L> {
         })
     }
 
-    /// Reads a line for each record, writes the verdicts in order, and empties the list; the first record has the place
-    /// `first`. The text goes to `out` whenever the buffer is full.
+    /// Reads a line for each of `records`, adds the verdicts (`Memory` if memory runs out) to the buffered text, in
+    /// order, and empties `records`, whose first one has the index `first` in its file. The text goes to `out` when
+    /// nearly full. `Write`, the only error, exactly if `out` has then failed; `records` is then unchanged.
     ///
     /// # Errors
     ///
@@ -175,8 +180,9 @@ impl<L: Tap> Checker<L> {
         Ok(())
     }
 
-    /// Reads the line of `rec`, the next record, which has this place, and appends the verdict to the buffered text.
-    /// The text goes to `out` first if the buffer is full.
+    /// Reads the line of `rec`, the next record, whose index in its file is `place`, and appends the verdict (`Memory`
+    /// if memory runs out) to the buffered text, which first goes to `out` if it is nearly full. `Write`, the only
+    /// error, exactly if `out` has then failed; the verdict is then not appended.
     fn write_verdict<R: Wait, S: Sink>(
         &mut self,
         rt: &R,
@@ -208,7 +214,7 @@ impl<L: Tap> Checker<L> {
         Ok(())
     }
 
-    /// Clears `all_ok` unless the verdict is `Ok`, and sets `wants_memory` if it is `Memory`.
+    /// Sets `all_ok` to false unless the verdict is `Ok`, and `wants_memory` to true if it is `Memory`.
     fn note(&mut self, verdict: Verdict)
         ensures ok { (self.new.all_ok ≡ true) ↔ ((self.old.all_ok ≡ true) × IsOk verdict) }
         ensures wants { (self.new.wants_memory ≡ false) ↔ ((self.old.wants_memory ≡ false) × (verdict ≢ found.Memory)) }
@@ -226,8 +232,9 @@ impl<L: Tap> Checker<L> {
         }
     }
 
-    /// Reads the lines after the last record, writes the last line and all buffered text to `out`, and returns the
-    /// outcome of the check.
+    /// Reads the lines after the last record, appends the last line to the buffered text, writes all of it to `out`,
+    /// and returns the outcome; `end` has the number of records and the mark. `Write` exactly if `out` has then failed,
+    /// with a prefix of the text; `Memory` if memory runs out for a line, and the buffered text is then not written.
     pub(crate) fn finish<R: Wait, S: Sink>(
         mut self,
         rt: &R,
@@ -263,14 +270,16 @@ impl<L: Tap> Checker<L> {
     }
 }
 
-/// Whether all was read: the file of graphs is complete, no read of the lines failed, and memory sufficed.
+/// Whether all was read: `mark` says that the file of graphs ended complete, and neither `lines_failed` nor
+/// `wants_memory` is true.
 fn is_whole(mark: Mark, lines_failed: bool, wants_memory: bool) -> bool
     ensures { (result ≡ true) ↔ ((mark ≡ Mark.Ended Ending.Complete) × (lines_failed ≡ false) × (wants_memory ≡ false)) }
 {
     mark == Mark::Ended(Ending::Complete) && !lines_failed && !wants_memory
 }
 
-/// The exit status of a run: 3 if not all was read, otherwise 0 if each verdict is `Ok` and no line is left, or else 4.
+/// The exit status of a run: 3 if not `whole`; otherwise 0 if `all_ok` and `surplus`, the number of lines that are
+/// left, is 0; or else 4.
 fn status_of(whole: bool, all_ok: bool, surplus: u64) -> u8
     ensures unread { (whole ≡ false) ↔ (result ≡ 3) }
     ensures well { ((whole ≡ true) × (all_ok ≡ true) × (surplus ≡ 0)) ↔ (result ≡ 0) }
@@ -309,6 +318,9 @@ impl<R: Wait, L: Tap, S: Sink> Receiver for CheckedRecords<'_, '_, '_, R, L, S> 
     ghost stays = { λ x y. (x.checker.ghost_name ≡ y.checker.ghost_name) × (x.out.ghost_name ≡ y.out.ghost_name)
         × (y.checker.now.options ≡ x.checker.now.options) };
 
+    /// Writes the verdicts on `records` (`Memory` if memory runs out) as `Checker::write_verdicts`, and empties
+    /// `records`; `first` is the index of the first one in its file. `Write`, the only error, exactly if the sink has
+    /// then failed; `records` is then unchanged.
     fn receive(
         &mut self,
         _alloc: Global,

@@ -9,7 +9,8 @@ use crate::judging::Verdict;
 use referee::{FalseClaim, Fault};
 use streams::{Form, Mark, TextBuffer, mark_word};
 
-/// The word of a line that describes no drawing, for this reason.
+/// The word in a verdict for a line that describes no drawing: `line=` and a word for the fault (`malformed`, `points`,
+/// `range`, `angles`, `turns` or `prices`), or only `memory` for the fault `Memory`. It has at most 24 bytes.
 fn line_word(fault: LineFault) -> &'static str
     ensures word { result.now ≡ line_word fault }
     ensures short { length result.now ≤ 24 }
@@ -25,7 +26,8 @@ fn line_word(fault: LineFault) -> &'static str
     }
 }
 
-/// The word of points that draw no embedding, for this reason.
+/// The word in a verdict for points that draw no embedding: `drawn=` and a word for the fault, such as `drawn=grid`, or
+/// only `embedding`, `outer` or `memory` for these faults. It has at most 24 bytes.
 fn drawn_word(fault: Fault) -> &'static str
     ensures word { result.now ≡ drawn_word fault }
     ensures short { length result.now ≤ 24 }
@@ -45,7 +47,7 @@ fn drawn_word(fault: Fault) -> &'static str
     }
 }
 
-/// The word of a claim that does not hold.
+/// The word in a verdict for a claim that does not hold: `claim=` and the name of its field. It has at most 24 bytes.
 fn claim_word(claim: FalseClaim) -> &'static str
     ensures word { result.now ≡ claim_word claim }
     ensures short { length result.now ≤ 24 }
@@ -59,7 +61,8 @@ fn claim_word(claim: FalseClaim) -> &'static str
     }
 }
 
-/// Appends the word of a verdict: at most 24 bytes, for which there must be room.
+/// Appends the word of a verdict to `lines`, for `Refused` that of the rule after `refused `: at most 24 bytes, which
+/// must be free in `lines`.
 pub(crate) fn push_word(lines: &mut TextBuffer, verdict: Verdict)
     requires { length lines.old + 24 ≤ ROOM }
     ensures text { lines.new ≡ lines.old ++ word_of verdict }
@@ -81,7 +84,8 @@ pub(crate) fn push_word(lines: &mut TextBuffer, verdict: Verdict)
     }
 }
 
-/// Appends the verdict on the graph with this number, as a line of a report or a JSON object.
+/// Appends the verdict on the graph with this number to `lines`, as a line of a report or a JSON object, with its
+/// newline. `LINE` bytes must be free in `lines`.
 ///
 /// There must be room for a line.
 pub(crate) fn push_verdict(lines: &mut TextBuffer, form: Form, number: u64, verdict: Verdict)
@@ -94,7 +98,8 @@ pub(crate) fn push_verdict(lines: &mut TextBuffer, form: Form, number: u64, verd
     push_tail(lines, form);
 }
 
-/// Appends the last line: the graph file's mark, its number of graphs, and the number of lines without a graph.
+/// Appends the last line to `lines`, with its newline: the word of the graph file's mark, its number of graphs, and
+/// `surplus`, the number of lines without a graph. `LINE` bytes must be free in `lines`.
 ///
 /// There must be room for a line.
 pub(crate) fn push_end(lines: &mut TextBuffer, form: Form, mark: Mark, graphs: u64, surplus: u64)
@@ -107,7 +112,8 @@ pub(crate) fn push_end(lines: &mut TextBuffer, form: Form, mark: Mark, graphs: u
     push_tail(lines, form);
 }
 
-/// Appends the beginning of the line of the graph with this number: at most 60 bytes, for which there must be room.
+/// Appends the beginning of the line of the graph with this number to `lines`: `graph NUMBER`, in JSON
+/// `{"graph":NUMBER`. These are at most 60 bytes, which must be free in `lines`.
 fn push_head(lines: &mut TextBuffer, form: Form, number: u64)
     requires { length lines.old + 60 ≤ ROOM }
     ensures text { lines.new ≡ lines.old ++ head_text form number }
@@ -120,8 +126,8 @@ fn push_head(lines: &mut TextBuffer, form: Form, number: u64)
     lines.push_number(number);
 }
 
-/// Appends the word of a verdict; in JSON whether it is ok, and if not, the word as its fault. There must be room for
-/// 60 bytes.
+/// Appends a space and the word of a verdict to `lines`; in JSON a comma and `ok` with true or false, and if false,
+/// also `fault` with the word. These are at most 60 bytes, which must be free in `lines`.
 fn push_result(lines: &mut TextBuffer, form: Form, verdict: Verdict)
     requires { length lines.old + 60 ≤ ROOM }
     ensures text { lines.new ≡ lines.old ++ result_text form verdict }
@@ -143,7 +149,8 @@ fn push_result(lines: &mut TextBuffer, form: Form, verdict: Verdict)
     }
 }
 
-/// Appends the numbers of a verdict: its bends, or where a drawing is wrong. There must be room for 120 bytes.
+/// Appends the numbers of a verdict to `lines`: for `Ok` its bends and the fewest bends, for `Drawn` the place of the
+/// fault, and nothing for others. These are at most 120 bytes, which must be free in `lines`.
 fn push_counts(lines: &mut TextBuffer, form: Form, verdict: Verdict)
     requires { length lines.old + 120 ≤ ROOM }
     ensures text { lines.new ≡ lines.old ++ counts_text form verdict }
@@ -159,7 +166,8 @@ fn push_counts(lines: &mut TextBuffer, form: Form, verdict: Verdict)
     }
 }
 
-/// Appends where a drawing is wrong, if a fault has a place. There must be room for 120 bytes.
+/// Appends the place of a fault to `lines`: its vertex, its edge, or its edge with a corner or part; nothing if the
+/// fault has no place. These are at most 120 bytes, which must be free in `lines`.
 fn push_place(lines: &mut TextBuffer, form: Form, fault: Fault)
     requires { length lines.old + 120 ≤ ROOM }
     ensures text { lines.new ≡ lines.old ++ place_text form fault }
@@ -182,7 +190,8 @@ fn push_place(lines: &mut TextBuffer, form: Form, fault: Fault)
     }
 }
 
-/// Appends a number with its key, which has at most 8 bytes. There must be room for 60 bytes.
+/// Appends a key and a number to `lines`: ` KEY=NUMBER`, in JSON `,"KEY":NUMBER`. The key may have at most 8 bytes.
+/// These are at most 60 bytes, which must be free in `lines`.
 fn push_count(lines: &mut TextBuffer, form: Form, key: &[u8], number: u64)
     requires room { length lines.old + 60 ≤ ROOM }
     requires key { length key.now ≤ 8 }
@@ -204,7 +213,8 @@ fn push_count(lines: &mut TextBuffer, form: Form, key: &[u8], number: u64)
     lines.push_number(number);
 }
 
-/// Appends the beginning of the last line, with the mark of the file of graphs. There must be room for 60 bytes.
+/// Appends the beginning of the last line to `lines`, with the word of the mark: `end WORD`, in JSON `{"end":"WORD"`.
+/// These are at most 60 bytes, which must be free in `lines`.
 fn push_mark(lines: &mut TextBuffer, form: Form, mark: Mark)
     requires { length lines.old + 60 ≤ ROOM }
     ensures text { lines.new ≡ lines.old ++ mark_text form mark }
@@ -223,7 +233,8 @@ fn push_mark(lines: &mut TextBuffer, form: Form, mark: Mark)
     }
 }
 
-/// Appends the end of a line, for which there must be room.
+/// Appends the end of a line to `lines`: a newline, in JSON `}` and a newline. These are at most 2 bytes, which must be
+/// free in `lines`.
 fn push_tail(lines: &mut TextBuffer, form: Form)
     requires { length lines.old + 2 ≤ ROOM }
     ensures { lines.new ≡ lines.old ++ tail_text form }

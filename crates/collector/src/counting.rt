@@ -30,15 +30,16 @@ pub struct Counted {
     pub flaws: Vec<Flaws>,
 }
 
-/// Runs lanes over the files of a run, and counts the chosen graphs; returns their table in these columns, and what is
-/// lacking in each file.
+/// Runs lanes over the files of `run`; returns the table, in `columns`, of the graphs that `selection` chooses, and the
+/// flaws of each file, in order (lack of memory for one record is a flaw, no error). `Memory` if there is no memory for
+/// the run, `LaneLost` if an end of a link is gone or a message is wrong, `Thread` if a thread cannot be started.
 ///
 /// Memory grows with the number of different combinations alone.
 ///
 /// # Errors
 ///
-/// `Memory`: no memory for links, the fan, tickets, buffers, lists of lanes or combinations. `LaneLost`: an end of a link
-/// or of the fan was gone, or a message came that no lane gives. `Thread`: a thread could not be started.
+/// `Memory`: no memory for links, the fan, tickets, buffers, lists of lanes or combinations. `LaneLost`: an end of a
+/// link or of the fan was gone, or a message came that no lane gives. `Thread`: a thread could not be started.
 pub fn count_files<R: Threads + Wait + Sync, O: Opener, G: Gate>(
     run: &Run<'_, R, O, G>,
     selection: Selection,
@@ -54,7 +55,9 @@ pub fn count_files<R: Threads + Wait + Sync, O: Opener, G: Gate>(
     count_known::<Brand, _, _, _>(run, selection, columns)
 }
 
-/// Counts the chosen graphs of the files of a run. The type `J` represents what the files mean.
+/// Runs lanes over the files of `run`, which mean what the type `J` says; returns the table, in `columns`, of the
+/// graphs that `selection` chooses, and the flaws of each file. `Memory` if there is no memory for the run, `LaneLost`
+/// if an end of a link is gone or a message is wrong, `Thread` if a thread cannot be started.
 fn count_known<J: KnownFiles + Send + Sync, R: Threads + Wait + Sync, O: Opener, G: Gate>(
     run: &Run<'_, R, O, G>,
     selection: Selection,
@@ -95,6 +98,9 @@ impl<J: KnownFiles + Send + Sync> Consumer<FoundFacts<J>, KnownEnd<J>> for Count
 
     ghost passed_on = { λ _. ⊤ };
 
+    /// Counts one more record: as a flaw of its file if it has no facts, otherwise in the table if the selection
+    /// chooses it. `Memory` if there is no memory for a new combination, `LaneLost` if the run has no such file or a
+    /// count is at its maximum. After an error everything is as it was.
     fn item(&mut self, item: FoundFacts<J>) -> Result<(), RunFault<SinkFault>> {
         if (item.file as usize) >= self.flaws.len() {
             return Err(RunFault::LaneLost);
@@ -104,6 +110,8 @@ impl<J: KnownFiles + Send + Sync> Consumer<FoundFacts<J>, KnownEnd<J>> for Count
         count_chosen(&mut self.counts, &selection, &item.facts)
     }
 
+    /// Sets the mark in the flaws of file `file` to `mark`; uses nothing of `_known`. `LaneLost` if the run has no such
+    /// file; then nothing changes.
     fn end(
         &mut self,
         file: u32,
@@ -117,10 +125,12 @@ impl<J: KnownFiles + Send + Sync> Consumer<FoundFacts<J>, KnownEnd<J>> for Count
         Ok(())
     }
 
+    /// Always true: graphs are counted at once, and nothing waits for `flush`.
     fn is_flushed(&self) -> bool {
         true
     }
 
+    /// Does nothing, and always returns `Ok`: nothing is buffered here.
     fn flush(&mut self) -> Result<(), RunFault<SinkFault>> {
         Ok(())
     }
@@ -132,7 +142,9 @@ impl<J: KnownFiles + Send + Sync> Consumer<FoundFacts<J>, KnownEnd<J>> for Count
     ghost stays_on = { λ a b c p q. (q.0 ∙ p.0, q.1 ∙ p.1, q.2 ∙ p.2) };
 }
 
-/// Counts a graph with these facts, if it is chosen.
+/// Adds a graph with these `facts` to the table `counts` if `selection` chooses it; does nothing if `facts` is `None`.
+/// `Memory` if there is no memory for a new combination, `LaneLost` if 2^64 - 1 graphs are counted already; after an
+/// error `counts` is as it was.
 ///
 /// # Errors
 ///

@@ -43,7 +43,8 @@ impl Flaws {
         matches!(self.mark, Mark::Ended(Ending::Complete)) && self.unanswered == 0
     }
 
-    /// Counts the record at this place as one for which memory ran out. `LaneLost` if there are too many to count.
+    /// Counts one more record for which memory ran out, and stores `place`, its place in the file, if it is the first
+    /// of them. `LaneLost` if 2^32 - 1 are counted already; then nothing changes.
     fn add_unanswered(&mut self, place: u32) -> Result<(), RunFault<SinkFault>>
         ensures more { OnOk result (self.new ≡ flaws_with self.old place None) }
         ensures astray { IfErr result (λ fault. fault ≡ RunFault.LaneLost) }
@@ -59,7 +60,7 @@ impl Flaws {
     }
 }
 
-/// The exit status for files with these flaws: 0 if they have none, and otherwise 3.
+/// The exit status for files with these `flaws`: 0 if each file is flawless or there are no files, and otherwise 3.
 pub fn status_of_flaws(flaws: &[Flaws]) -> u8
     ensures flawless { (result ≡ 0) ↔ All IsFlawless flaws.now }
     ensures other { (result ≡ 0) ⊎ (result ≡ 3) }
@@ -71,8 +72,8 @@ pub fn status_of_flaws(flaws: &[Flaws]) -> u8
     }
 }
 
-/// A new list of the flaws of `files` files of which nothing has arrived: each has the mark `memory`, and no unanswered
-/// record.
+/// A new list with the flaws of each of `files` files, of which nothing has arrived: the mark `Memory`, as if memory
+/// had run out for the file, and no record without an answer. `AllocError` if there is no memory for the list.
 pub(crate) fn no_flaws(alloc: Global, files: u32) -> Result<Vec<Flaws>, AllocError>
     ensures count { IfOk result (λ flaws. length flaws.items ≡ files) }
     ensures none { IfOk result (λ flaws. All (λ each. each ≡ flaws_of (book_so_far none_arrived)) flaws.items) }
@@ -88,7 +89,9 @@ pub(crate) fn no_flaws(alloc: Global, files: u32) -> Result<Vec<Flaws>, AllocErr
     Ok(flaws)
 }
 
-/// Counts a flaw of a file if nothing is known of its record at this place.
+/// Counts the record at `place` of file `file` in `flaws` as one for which memory ran out if `facts` is `None`;
+/// otherwise changes nothing. `LaneLost` if 2^32 - 1 records of this file are counted already; `flaws` is then as it
+/// was. `file` must be less than the length of `flaws`.
 ///
 /// # Errors
 ///
@@ -113,7 +116,8 @@ pub(crate) fn add_flaw(
     }
 }
 
-/// Sets the mark in the flaws of a file to the one with which the file has ended.
+/// Sets the mark of file `file` in `flaws` to `mark`, whatever it was; its counts and all other files stay as they are.
+/// `file` must be less than the length of `flaws`.
 pub(crate) fn set_mark(flaws: &mut Vec<Flaws>, file: u32, mark: Mark)
     requires { file < length flaws.old.items }
     ensures count { length flaws.new.items ≡ length flaws.old.items }
@@ -148,17 +152,20 @@ pub struct FoundFacts<J: KnownFiles> {
 impl<J: KnownFiles + Send + Sync> Numbered for FoundFacts<J> {
     ghost about = { λ f. record { file = f.file; ordinal = f.ordinal; bytes = f.rec; choice = f.choice } };
 
+    /// The index of the record's file, from 0.
     fn file(&self) -> u32 {
         self.file
     }
 
+    /// The index of the record in its file, from 0.
     fn ordinal(&self) -> u32 {
         self.ordinal
     }
 }
 
 impl<J: KnownFiles> FoundFacts<J> {
-    /// The record's bytes if it is chosen, and otherwise no bytes.
+    /// The bytes of the record if `selection` chooses it, and otherwise no bytes; no bytes also if its facts are
+    /// `None`.
     pub(crate) fn picked(&self, selection: &Selection) -> &[u8]
         ensures { result.now ≡ (if is_chosen selection.now self.now.facts then self.now.rec else []) }
     {
@@ -170,7 +177,8 @@ impl<J: KnownFiles> FoundFacts<J> {
     }
 }
 
-/// The kind of lanes that find facts of graphs and draw nothing. No lane is started.
+/// The value that tells `run_lanes` to run lanes which find facts of graphs and draw nothing; its drawing kind is
+/// `Quick`, and is not used. No lane is started.
 pub(crate) fn fact_lanes<J: KnownFiles>() -> Answering<FindFacts<J>> {
     Answering {
         purpose: FindFacts {
@@ -199,17 +207,21 @@ impl<J: KnownFiles + Send + Sync> Purpose for FindFacts<J> {
 
     ghost ends = { λ file count mark. IsEndAt (J.meaning file) count mark };
 
+    /// The same purpose, for one record: a new value of this type, which has no data.
     fn of_record(&self) -> FindFacts<J> {
         FindFacts {
             known_files: PhantomData,
         }
     }
 
+    /// The `KnownEnd` of file `file`, with the number of records and the mark of `end`.
     fn end(file: u32, end: SourceEnd) -> KnownEnd<J> {
         known_end(file, end)
     }
 
-    // The lists of the shaped plane return once its facts are known.
+    /// Returns the record `rec` of `task` with its facts, which are `None` if memory ran out for its shaped plane. The
+    /// lists of `shaped_plane` go to `scratch` for reuse once the facts are known; without a shaped plane `scratch`
+    /// stays as it is.
     fn finish(
         self,
         _alloc: Global,
@@ -237,7 +249,8 @@ impl<J: KnownFiles + Send + Sync> Purpose for FindFacts<J> {
     }
 }
 
-/// The facts of a record with this shaped plane, or without one; `None` if memory ran out for it.
+/// The facts of `rec`: those of its shaped plane, or if it breaks a rule, those of a record that breaks this rule
+/// first; `None` if `shaped_plane` is the fault that memory ran out.
 fn facts_found(rec: &Record, shaped_plane: &Result<ShapedPlane, ReadFault>) -> Option<Facts>
     ensures { (choice : Choice) → IsShaped choice (lists_of rec.now) shaped_plane.now
         → AreFacts choice (lists_of rec.now) result }

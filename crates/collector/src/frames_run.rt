@@ -50,6 +50,9 @@ impl<R: Wait> Receiver for PieceGiver<'_, R> {
 
     ghost accepts = { λ _ _ _. ⊤ };
 
+    /// Takes all records out of `records`, which is then empty, and sends them as one message; waits while the link is
+    /// full, and sends nothing if there are none. `Closed` with that message if the link's other end is gone; `records`
+    /// is then empty, too. `_first` is not used.
     fn receive(
         &mut self,
         alloc: Global,
@@ -77,8 +80,9 @@ impl<R: Wait> Receiver for PieceGiver<'_, R> {
     ghost stays_on = { λ x y z p q. q ∙ p };
 }
 
-/// Reads a source and sends its records in order, then one mark and one stop; returns the sending end, or `None` if the
-/// link's other end was gone.
+/// Reads `source` through `buffer` and sends its records in order on `giver`, then its mark and one stop; returns
+/// `giver`, or `None` if the other end of the link was gone and not all was sent. If reading fails or runs out of
+/// memory, this is the mark. `buffer` must not be empty.
 ///
 /// It reads to the end of the source, to its failure, or to the first fault in its bytes.
 pub fn give_all<R: Wait, T: Tap>(
@@ -128,7 +132,9 @@ struct GatheredRecords {
     mark: Option<Mark>,
 }
 
-/// Reads one source on a thread of its own, which it starts and joins; returns the records and the mark of the source.
+/// Reads `source` on a thread of its own, which ends before this returns; returns its records, in order, and its mark.
+/// `Memory` if memory runs out anywhere but in the framer, where it is the mark; `LaneLost` if an end of the link was
+/// gone before the last message; `Thread` if no thread could be started.
 ///
 /// At most `capacity` of its messages wait to be gathered. After the first fault in the bytes, the source is read no
 /// more.
@@ -194,8 +200,9 @@ pub fn run_frames<R: Threads + Wait + Sync, T: Tap + Send>(
     )
 }
 
-/// Takes messages until the stop; returns their records, the mark and the receiving end. If it fails, it drops that
-/// end, so that the giver does not wait for it.
+/// Takes messages from `taker` until the stop; returns all their records, in order, the mark (the last one, `None` if
+/// none came) and `taker`. `Memory` if there is no memory for the records, `LaneLost` if the giver is gone before the
+/// stop; after an error `taker` is dropped, so that the giver does not wait for it.
 fn gather<R: Wait>(
     rt: &R,
     alloc: Global,
@@ -227,8 +234,8 @@ fn gather<R: Wait>(
     })
 }
 
-/// Settles the link by both of its ends; returns the gathered records with their mark. This proves that they are all
-/// that were sent, and that there is a mark.
+/// Consumes both ends of the link, and returns the records in `gathered`, in order, with its mark. To settle the link
+/// proves that these are all that were sent, and that there is a mark.
 fn settle<R: Wait>(rt: &R, gathered: GatheredRecords, giver: Giver<ReadMessage>) -> Frames
     requires ends { AreEnds giver gathered.taker }
     requires all { GathersAll gathered.records.items gathered.mark (taken gathered.taker) }

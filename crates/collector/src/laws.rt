@@ -17,7 +17,7 @@ ghost use Rattle.collector.specs.FactBooks.{FactBook};
 ghost use Rattle.collector.specs.Headline.{IsWholeRun, HasMemory};
 ghost use Rattle.collector.specs.Picked.{picked_text};
 
-/// In books that are right for their files, each entry that has a shape has a drawing of it.
+/// Theorem: in books that are right for their files, each entry that has a shape has a drawing of it.
 pub fn books_are_drawn()
     ensures one { (choice : Choice) (meaning : Meaning) (file : ℕ) (book : BookModel)
         → IsBook choice meaning file book → IsDrawnBook book }
@@ -25,12 +25,12 @@ pub fn books_are_drawn()
         → AreBooks choice meaning first books → AreDrawnBooks books }
 {}
 
-/// The line of an answer that has a drawing says so, in either format.
+/// Theorem: the line of an answer that has a drawing says so, in either format.
 pub fn lines_tell_drawings()
     ensures { (answer : Answer) → IsDrawnIfLaid answer → TellsDrawingIfLaid answer }
 {}
 
-/// If memory suffices, a file that is read without error has one right entry for each record.
+/// Theorem: if memory suffices, a file that is read without error has one right entry for each record.
 ///
 /// This holds for the books that `run_plain` or `run_batch` returns. The book of each file that opens and gives all its
 /// bytes, and in which memory did not run out, has one entry for each record of these bytes, each once and in order,
@@ -47,7 +47,8 @@ pub fn whole_run()
         → IsWholeRun choice file bytes (slice_index_or books file other) }
 {}
 
-/// Without a condition, what is picked from a complete file is the file, unless memory ran out for a record.
+/// Theorem: without a condition, what is picked from a complete file is the whole file, unless memory ran out for a
+/// record.
 pub fn all_of_a_file()
     ensures { (file : List ℕ) (records : List (List ℕ)) (book : FactBook)
         → IsSplit file records Ending.Complete

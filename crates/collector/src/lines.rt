@@ -30,7 +30,8 @@ impl Model for Line {
 }
 
 impl Line {
-    /// A line with this text, which is on the heap.
+    /// The line whose text is `text`, with any newline in it. It needs no new memory: it keeps that of `text`, or if
+    /// this has a capacity of at most 48 bytes, stores the text in the value itself.
     pub(crate) fn of(text: Vec<u8>) -> Line
         ensures { result ≡ text.items }
     {
@@ -39,14 +40,15 @@ impl Line {
         }
     }
 
-    /// The bytes of the text.
+    /// All bytes of the text, in order, with any newline that was given.
     pub fn as_slice(&self) -> &[u8]
         ensures value { result.now ≡ self.now }
     {
         self.text.as_slice()
     }
 
-    /// A copy of `text`. It allocates only if the text is not short.
+    /// A line with a copy of `text`, which is on the heap only if it has more than 48 bytes; `AllocError` if there is
+    /// then no memory for it.
     pub(crate) fn copied(alloc: Global, text: &[u8]) -> Result<Line, AllocError>
         ensures { IfOk result (λ line. line ≡ text.now) }
     {
@@ -56,8 +58,9 @@ impl Line {
     }
 }
 
-/// The output line of the answer to the record at this place of this file, in this format. A short line of a report is
-/// not allocated.
+/// The output line in format `form`, with a newline at its end, of `answer` to record `ordinal` of file `file`, both
+/// counted from 0. `AllocError` if there is no memory for it (a line of a report with at most 48 bytes needs none), or
+/// in JSON if `file` + 1 does not fit in 32 bits.
 pub(crate) fn answer_line(
     alloc: Global,
     form: Form,
@@ -79,7 +82,8 @@ pub(crate) fn answer_line(
     }
 }
 
-/// The output line of an entry that has no answer because memory ran out, with a newline (byte 0A) at its end.
+/// The output line in format `form`, with a newline (byte 0A) at its end, of an entry that has no answer because memory
+/// ran out. `AllocError` if there is no memory for the line, or in JSON if `file` + 1 does not fit in 32 bits.
 ///
 /// `file` and `ordinal` are the entry's file and its place there, from 0. It takes a few allocations.
 ///
@@ -106,7 +110,8 @@ pub fn lacking_text(
     }
 }
 
-/// The line before the graphs of a file: the first line of the file in the report, and an empty text in JSON.
+/// The line before the graphs of file `file`, counted from 0, in format `form`: in a report the file's first line, with
+/// a newline at its end, and in JSON an empty text. It is in the returned value, and not on the heap.
 pub fn preamble_line(form: Form, file: u32) -> ReportLine
     ensures { result ≡ preamble_in form (file + 1) }
 {
@@ -116,7 +121,9 @@ pub fn preamble_line(form: Form, file: u32) -> ReportLine
     }
 }
 
-/// The last line of a file in this format: its mark, and the number of entries. It takes a few allocations.
+/// The last line of file `file`, counted from 0, in format `form`, with a newline at its end: it shows `mark` and the
+/// number of entries, `count`. `AllocError` if there is no memory for the line, or in JSON if `file` + 1 does not fit
+/// in 32 bits.
 ///
 /// # Errors
 ///
@@ -138,7 +145,8 @@ pub fn end_text(
     }
 }
 
-/// The number of a file, counted from 1.
+/// The number of the file with index `file`, counted from 1: `file` + 1. `AllocError` if that does not fit in 32 bits,
+/// which is the case for no file of a run; there is no other error, since nothing is allocated.
 ///
 /// # Errors
 ///

@@ -40,7 +40,9 @@ pub struct Picks {
 }
 
 impl Picks {
-    /// An empty reorder buffer for the chosen records of `files` files. The sink gets the header before them.
+    /// An empty reorder buffer for the records of `files` files that `selection` chooses under `choice`. The header
+    /// waits in its fixed buffer to go to the sink before them; nothing is written yet. `AllocError` if there is no
+    /// memory for the fixed buffer or for lists of this many files.
     ///
     /// # Errors
     ///
@@ -67,8 +69,9 @@ impl Picks {
         })
     }
 
-    /// Takes in one more record, and counts a flaw if it has no facts. If it is chosen, it goes on to the sink if its
-    /// file is current, and is buffered otherwise.
+    /// Takes in the record `found`: counts a flaw if it has no facts; if chosen, sends it on to `sink`, or buffers it
+    /// if its file is not current. `Refused` exactly if `sink` fails, `Memory` if there is no memory to buffer it;
+    /// `LaneLost`, and nothing changes, if it is not the next of its file or its choice differs.
     ///
     /// # Errors
     ///
@@ -98,8 +101,9 @@ impl Picks {
         self.order.add(alloc, sink, file, found.picked(&selection))
     }
 
-    /// Takes in the end of a file; if the file is current, moves on to the first file that has not ended, and writes
-    /// what is buffered of each file reached.
+    /// Takes in the end of file `file` with `mark`. If it is current, moves on to the first file that has not ended,
+    /// and sends what is buffered of each file reached on to `sink`. `Refused` exactly if `sink` fails; `LaneLost`, and
+    /// nothing changes, if the file has ended already, is not one to come, or `known` does not fit.
     ///
     /// # Errors
     ///
@@ -127,7 +131,8 @@ impl Picks {
         self.advance(alloc, sink)
     }
 
-    /// Writes the buffered text to the sink, and returns what is lacking in each file.
+    /// Writes the text in the fixed buffer to `sink`, drops records of files that are not current, and returns the
+    /// flaws of each file, in order. `Refused` exactly if `sink` fails, which has then taken a prefix of that text.
     ///
     /// # Errors
     ///
@@ -145,7 +150,9 @@ impl Picks {
         Ok(self.flaws)
     }
 
-    /// Moves on past each file that has ended, and writes what is buffered of the next one.
+    /// While the current file has ended: moves on to the next file, and sends what is buffered of it on to `sink`
+    /// through the fixed buffer. `Refused` exactly if `sink` fails, which has then taken a prefix of the text;
+    /// `LaneLost` if the next index does not fit in 32 bits. The flaws stay as they are.
     fn advance<S: Sink>(&mut self, alloc: Global, sink: &mut S) -> Result<(), RunFault<SinkFault>>
         requires { S.failed sink.old ≡ false }
         ensures written { OnOk result ((start : Option (List ℕ)) (arrived : ℕ → Arrived)
@@ -168,8 +175,9 @@ impl Picks {
     }
 }
 
-/// Runs lanes over the files of a run, and writes the header and the chosen records to the sink, in the order of files
-/// and of each file; returns what is lacking in each file.
+/// Runs lanes over the files of `run`; writes the header and the records that `selection` chooses to `sink`, in order,
+/// and returns the flaws of each file. After an error `sink` has a prefix: `Refused` exactly if it fails, `Memory` if
+/// memory for the run runs out, `LaneLost` if a link's end is gone or a message is wrong, `Thread` if no thread starts.
 ///
 /// Each record is written as it is decided whether it is chosen: those of the first file that has not ended go to the
 /// sink, and those of later files are buffered. If the buffered records hold `waiting` bytes of memory or more, the
@@ -178,9 +186,9 @@ impl Picks {
 /// # Errors
 ///
 /// `Refused` exactly if the sink has then failed. `Memory`: no memory for links, the fan, tickets, buffers, lists of
-/// lanes or buffered records. `LaneLost`: an end of a link or of the fan was gone, or a message came that no lane gives.
-/// `Thread`: a thread could not be started. In each case a prefix is written of what would be, if each file may end
-/// `memory`.
+/// lanes or buffered records. `LaneLost`: an end of a link or of the fan was gone, or a message came that no lane
+/// gives. `Thread`: a thread could not be started. In each case a prefix is written of what would be, if each file may
+/// end `memory`.
 pub fn pick_files<R: Threads + Wait + Sync, O: Opener, G: Gate, S: Sink>(
     run: &Run<'_, R, O, G>,
     selection: Selection,
@@ -205,7 +213,9 @@ pub fn pick_files<R: Threads + Wait + Sync, O: Opener, G: Gate, S: Sink>(
     pick_known::<Brand, _, _, _, _>(run, selection, pace, sink)
 }
 
-/// Writes the chosen records of a run at this pace. The type `J` represents what the files mean.
+/// Writes the header and the records that `selection` chooses to `sink`, in order, and pauses files by `pace`; returns
+/// the flaws of each file. After an error `sink` has a prefix: `Refused` exactly if it fails, `Memory` if memory for
+/// the run runs out, `LaneLost` if a link's end is gone or a message is wrong, `Thread` if no thread starts.
 fn pick_known<J: KnownFiles + Send + Sync, R: Threads + Wait + Sync, O: Opener, G: Gate, S: Sink>(
     run: &Run<'_, R, O, G>,
     selection: Selection,
@@ -239,7 +249,9 @@ fn pick_known<J: KnownFiles + Send + Sync, R: Threads + Wait + Sync, O: Opener, 
 }
 
 impl<S: Sink> Texts<'_, S, Picks> {
-    /// Writes the remaining records to the sink, and returns what is lacking in each file.
+    /// Writes the text in the fixed buffer to the sink, and returns the flaws of each file, in order: how it ended, and
+    /// for how many records memory ran out. `Refused` exactly if the sink fails, which has then taken a prefix of that
+    /// text.
     ///
     /// # Errors
     ///
@@ -260,7 +272,7 @@ impl<S: Sink> Texts<'_, S, Picks> {
     }
 }
 
-/// Drops a consumer, and leaves its sink unchanged.
+/// Drops `texts` with all text that it buffers, and writes nothing: its sink stays as it is.
 fn let_go<S: Sink>(texts: Texts<'_, S, Picks>)
     ensures { texts.exit.0.now ≡ texts.entry.sink.now }
 {
@@ -280,12 +292,18 @@ impl<S: Sink, J: KnownFiles + Send + Sync> Consumer<FoundFacts<J>, KnownEnd<J>>
 
     ghost passed_on = { λ t. IsFlushed t.lines };
 
+    /// Takes in the record `item`: if chosen, it goes on to the sink, or is buffered if its file is not current; then
+    /// pauses later files or lets them go on. `Refused` exactly if the sink fails, `Memory` if there is no memory to
+    /// buffer it, `LaneLost` if it is not the next of its file. After an error no file is paused.
     fn item(&mut self, item: FoundFacts<J>) -> Result<(), RunFault<SinkFault>> {
         let taken = self.lines.item(self.alloc, self.sink, item);
         self.lines.order.keep_pace(&self.pace, taken.is_ok());
         taken
     }
 
+    /// Takes in the end of file `file` with `mark`; if it is current, sends what is buffered of the next files on to
+    /// the sink; then pauses later files or lets them go on. `Refused` exactly if the sink fails, `LaneLost` if the
+    /// file has ended already, is not one to come or `known` does not fit. After an error no file is paused.
     fn end(
         &mut self,
         file: u32,
@@ -297,10 +315,14 @@ impl<S: Sink, J: KnownFiles + Send + Sync> Consumer<FoundFacts<J>, KnownEnd<J>>
         taken
     }
 
+    /// Whether the fixed buffer is empty. Records that are buffered for files which are not current do not count.
     fn is_flushed(&self) -> bool {
         self.lines.order.is_flushed()
     }
 
+    /// Writes the text in the fixed buffer to the sink, not the records buffered for later files; then pauses these
+    /// files or lets them go on. `Refused` exactly if the sink fails, which has then taken a prefix of that text; no
+    /// file is then paused.
     fn flush(&mut self) -> Result<(), RunFault<SinkFault>> {
         let flushed = self.lines.order.flush(self.sink);
         self.lines.order.keep_pace(&self.pace, flushed.is_ok());

@@ -57,16 +57,19 @@ pub struct Printed<J: KnownFiles> {
 impl<J: KnownFiles + Send + Sync> Numbered for Printed<J> {
     ghost about = { λ p. record { file = p.file; ordinal = p.ordinal; bytes = p.rec.value; choice = p.choice } };
 
+    /// The index of the record's file, from 0.
     fn file(&self) -> u32 {
         self.file
     }
 
+    /// The index of the record in its file, from 0.
     fn ordinal(&self) -> u32 {
         self.ordinal
     }
 }
 
-/// Returns the output line of a record with the result `found`; `None` if memory ran out, for the points or the line.
+/// Returns the output line, with a newline at its end, of a record with the result `found`, also if it breaks a rule.
+/// `None` if memory ran out, for the result or for the line, or in JSON if `file` + 1 does not fit in 32 bits.
 ///
 /// The record is number `ordinal`, from 0, of the file with index `file`. The line has the format `form`. A short line
 /// of a report is not allocated.
@@ -106,7 +109,8 @@ pub fn found_line(
     }
 }
 
-/// The kind of lanes that make output lines in this style. No lane is started.
+/// The value that tells `run_lanes` to run lanes which make output lines in the format of `style`. Its drawing kind is
+/// that of `style` in JSON, and `Quick` in a report. No lane is started.
 ///
 /// The report shows no coordinates, so its lines are of quick drawings, whatever kind is asked for.
 pub fn line_lanes<J: KnownFiles>(style: Style) -> Answering<PrintLines<J>>
@@ -148,6 +152,7 @@ impl<J: KnownFiles + Send + Sync> Purpose for PrintLines<J> {
 
     ghost ends = { λ file count mark. IsEndAt (J.meaning file) count mark };
 
+    /// The same purpose, for one record: a new value with the same format.
     fn of_record(&self) -> PrintLines<J> {
         let form = self.form;
         PrintLines {
@@ -156,11 +161,14 @@ impl<J: KnownFiles + Send + Sync> Purpose for PrintLines<J> {
         }
     }
 
+    /// The `KnownEnd` of file `file`, with the number of records and the mark of `end`.
     fn end(file: u32, end: SourceEnd) -> KnownEnd<J> {
         known_end(file, end)
     }
 
-    // The lists of what is found return once its line is made.
+    /// Finds points that draw `shaped_plane`, and returns the record's place and its output line, which is `None` if
+    /// memory ran out for the answer or the line. The call uses the lists of `scratch`; those of the plane and of the
+    /// points go there for reuse once the line is made.
     fn finish(
         self,
         alloc: Global,

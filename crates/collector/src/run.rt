@@ -34,7 +34,9 @@ impl RecordSink for Entries {
 
     ghost accepts = { λ _ _ _ _. ⊤ };
 
-    /// Answers the record on this thread, and appends its entry.
+    /// Answers `rec` on this thread, and appends its entry, with `file`, `ordinal` and `choice`, to `entries`; if
+    /// memory runs out for the answer, the entry says so. `AllocError` if there is no memory to append the entry; then
+    /// `entries` is as it was.
     fn keep(
         &mut self,
         alloc: Global,
@@ -48,6 +50,7 @@ impl RecordSink for Entries {
         Ok(())
     }
 
+    /// Does nothing, and always returns `Ok`: the entries stay here until the file is read.
     fn pass_on(&mut self, _file: u32) -> Result<(), AllocError> {
         Ok(())
     }
@@ -59,7 +62,9 @@ impl RecordSink for Entries {
     ghost stays_on = { λ _ _ _ _ _. tt };
 }
 
-/// Answers all records of the first `files` files on this thread; returns a book for each file.
+/// Answers all records of the first `files` files on this thread; returns a book for each file, in order.
+/// `TooManyFiles` exactly if there are more than `MAX_FILES` (256); `Memory` if there is no memory for the read buffer,
+/// the entries or the books. If it runs out for one file or one answer, its book says so.
 ///
 /// Each record is answered under this choice of the outer face. The mark of a book says how its file ended, also if it
 /// could not be opened, failed, or memory ran out.
@@ -89,7 +94,9 @@ pub fn run_plain<O: Opener>(
     }
 }
 
-/// Reads the first `files` files on this thread, and answers their records; returns a book for each file.
+/// Reads the first `files` files on this thread, and answers their records; returns a book for each file, in order.
+/// `AllocError` if there is no memory for the read buffer, the entries or the books; no book is then returned. If it
+/// runs out for one file or one answer, its book says so.
 fn plain_books<O: Opener>(
     alloc: Global,
     opener: &O,
@@ -107,7 +114,9 @@ fn plain_books<O: Opener>(
     Ok(Batch::new(books))
 }
 
-/// Reads one file on this thread, through `buffer`, and answers its records; returns its book.
+/// Reads file `file` on this thread, through `buffer`, and answers its records; returns its book: an entry for each
+/// record, in order, and its mark, which says if it could not be read. `AllocError` if there is no memory for the list
+/// of entries. The bytes of `buffer` change, and its length, which must not be 0, stays.
 fn read_book<O: Opener>(
     alloc: Global,
     opener: &O,
@@ -134,7 +143,9 @@ const _: () = prove!(MAX_FILES == 256);
 
 const _: () = prove!(MAX_LANES == 8);
 
-/// Answers all records of the first `files` files on `lanes` lanes of four threads each; returns a book for each file.
+/// Answers all records of the first `files` files on `lanes` lanes of four threads each; returns a book for each file,
+/// in order. `TooManyFiles` if they are more than 256; otherwise `BadLanes` if `lanes` is 0 or above 8; `Memory` if
+/// there is no memory for the run, `LaneLost` if an end of a link is gone, `Thread` if a thread cannot be started.
 ///
 /// Each record is answered under this choice of the outer face. The mark of a book says how its file ended, also if it
 /// could not be opened, failed, or memory ran out.

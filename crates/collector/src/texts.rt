@@ -40,7 +40,9 @@ pub struct Lines {
 }
 
 impl Lines {
-    /// An empty reorder buffer for the lines of `files` files.
+    /// An empty reorder buffer for the lines of `files` files in format `form`, answered under `choice`. In a report
+    /// the first line of the first file waits in its fixed buffer; nothing is written yet. `AllocError` if there is no
+    /// memory for the fixed buffer or for a list of this many files.
     ///
     /// The lines are in this format, and their entries are answered under this choice of the outer face.
     ///
@@ -65,13 +67,14 @@ impl Lines {
         })
     }
 
-    /// Takes in the line of one more entry, or if it has none, a line saying that memory ran out. The line goes on to
-    /// the sink if its file is current, and is buffered otherwise.
+    /// Takes in the line of the entry `printed`, or if it has none, one saying that memory ran out: sends it on to
+    /// `sink`, or buffers it if its file is not current. `Refused` exactly if `sink` fails, `Memory` if there is no
+    /// memory for it; `LaneLost`, and nothing changes, if its place, format or choice is wrong.
     ///
     /// # Errors
     ///
-    /// `Refused` exactly if the sink has then failed; `Memory` if there was no memory for a line that has to be buffered
-    /// or that reports a lack of memory; `LaneLost` if no lane gives such a message.
+    /// `Refused` exactly if the sink has then failed; `Memory` if there was no memory for a line that has to be
+    /// buffered or that reports a lack of memory; `LaneLost` if no lane gives such a message.
     pub(crate) fn line<S: Sink, J: KnownFiles>(
         &mut self,
         alloc: Global,
@@ -105,8 +108,9 @@ impl Lines {
         }
     }
 
-    /// Takes in the end of a file; if the file is current, writes its last line, moves on to the first file that has
-    /// not ended, and writes the text of each file reached.
+    /// Takes in the end of file `file` with `mark`; if it is current, sends its last line, and the text of each file up
+    /// to the first that has not ended, on to `sink`. `Refused` exactly if `sink` fails, `Memory` if a last line lacks
+    /// memory; `LaneLost`, and nothing changes, if the file has ended, is not to come, or `known` does not fit.
     ///
     /// # Errors
     ///
@@ -133,8 +137,9 @@ impl Lines {
         self.advance(alloc, sink)
     }
 
-    /// Writes the buffered text to the sink, and returns the exit status of the run: 0 if each file ended complete and
-    /// each entry has an answer and its line, and otherwise 3.
+    /// Writes the text in the fixed buffer to `sink`, and returns the exit status of the run: 0 if each file ended
+    /// complete and each entry has an answer and its line, and otherwise 3. `Write` exactly if `sink` fails, which has
+    /// then taken a prefix of that text. Lines of files that are not current are dropped.
     ///
     /// # Errors
     ///
@@ -156,8 +161,9 @@ impl Lines {
         }
     }
 
-    /// Takes in a line saying that memory ran out, for one more entry that has no answer or no line; the run is then
-    /// not flawless.
+    /// Takes in a line saying that memory ran out for entry `ordinal` of file `file`: sends it on to `sink`, or buffers
+    /// it if the file is not current; the run is then not flawless. `Memory` if there is no memory to make or buffer
+    /// it, `Refused` exactly if `sink` fails, `LaneLost` if the file has 2^32 - 1 entries.
     fn add_lacking<S: Sink>(
         &mut self,
         alloc: Global,
@@ -185,8 +191,9 @@ impl Lines {
         self.order.add(alloc, sink, file, text.as_slice())
     }
 
-    /// While the current file has ended: writes its last line, moves on to the next file, and writes that file's first
-    /// line and its buffered lines.
+    /// While the current file has ended: sends its last line on to `sink`, moves on to the next file, and sends that
+    /// file's first line and its buffered lines. `Memory` if there is no memory for a last line, `Refused` exactly if
+    /// `sink` fails, `LaneLost` if the next index does not fit in 32 bits; `sink` has then taken a prefix of the text.
     fn advance<S: Sink>(&mut self, alloc: Global, sink: &mut S) -> Result<(), RunFault<SinkFault>>
         requires { S.failed sink.old ≡ false }
         ensures written { OnOk result ((start : Option (List ℕ)) (came : ℕ → Came)
@@ -212,7 +219,7 @@ impl Lines {
     }
 }
 
-/// Whether a run is flawless with one more mark: it was `flawless` before, and the mark is complete.
+/// Whether a run is flawless with one more `mark`: it was `flawless` without it, and the mark is complete.
 fn is_flawless_with(flawless: bool, mark: Mark) -> bool
     ensures { IsTrue result ↔ (IsTrue flawless × (mark ≡ Mark.Ended Ending.Complete)) }
 {
@@ -229,15 +236,16 @@ pub struct Texts<'s, S, W: Drop> {
     /// The sink as it was at the beginning. It exists only in proofs.
     pub start: Snapshot<S>,
     pub alloc: Global,
-    /// The text in transit and what is buffered: `Lines`, or `Picks` of records. A type parameter, since contracts do not
-    /// name a `&mut` beside a field that owns memory.
+    /// The text in transit and what is buffered: `Lines`, or `Picks` of records. A type parameter, since contracts do
+    /// not name a `&mut` beside a field that owns memory.
     pub lines: W,
     /// The limit on buffered text above which the reading of later files pauses.
     pub pace: Pace<'s>,
 }
 
 impl<'s, S: Sink, W: Drop> Texts<'s, S, W> {
-    /// A consumer that streams `lines` to `sink`, and pauses reading by `pace`. Nothing is written yet.
+    /// A consumer that streams `lines` to `sink`, and pauses reading by `pace`. It keeps the reference to `sink`;
+    /// nothing is written to it yet.
     pub fn new(alloc: Global, sink: &'s mut S, lines: W, pace: Pace<'s>) -> Texts<'s, S, W>
         ensures same { result.sink.ghost_name ≡ sink.entry.ghost_name }
         ensures now { result.sink.now ≡ sink.old }
@@ -256,9 +264,9 @@ impl<'s, S: Sink, W: Drop> Texts<'s, S, W> {
 }
 
 impl<S: Sink> Texts<'_, S, Lines> {
-    /// Writes the remaining text to the sink, and returns the exit status of the run.
-    ///
-    /// It is 0 if each file ended complete and each entry has an answer and its line, and otherwise 3.
+    /// Writes the text in the fixed buffer to the sink, and returns the exit status of the run: 0 if each file ended
+    /// complete and each entry has an answer and its line, and otherwise 3. `Write` exactly if the sink fails, which
+    /// has then taken a prefix of that text.
     ///
     /// # Errors
     ///
@@ -294,12 +302,18 @@ impl<S: Sink, J: KnownFiles + Send + Sync> Consumer<Printed<J>, KnownEnd<J>>
 
     ghost passed_on = { λ t. IsFlushed t.lines };
 
+    /// Takes in the line of the entry `item`, or one saying that memory ran out: sends it on to the sink or buffers it;
+    /// then pauses later files or lets them go on. `Refused` exactly if the sink fails, `Memory` if there is no memory
+    /// for such a line or to buffer it, `LaneLost` if it is not the next one. After an error no file is paused.
     fn item(&mut self, item: Printed<J>) -> Result<(), RunFault<SinkFault>> {
         let taken = self.lines.line(self.alloc, self.sink, item);
         self.lines.order.keep_pace(&self.pace, taken.is_ok());
         taken
     }
 
+    /// Takes in the end of file `file`; if it is current, sends its last line and the text of the next files on to the
+    /// sink; then pauses later files or lets them go on. `Refused` exactly if the sink fails, `Memory` if a last line
+    /// lacks memory, `LaneLost` if the file has ended or `known` does not fit. After an error no file is paused.
     fn end(
         &mut self,
         file: u32,
@@ -311,10 +325,14 @@ impl<S: Sink, J: KnownFiles + Send + Sync> Consumer<Printed<J>, KnownEnd<J>>
         taken
     }
 
+    /// Whether the fixed buffer is empty. Lines that are buffered for files which are not current do not count.
     fn is_flushed(&self) -> bool {
         self.lines.order.is_flushed()
     }
 
+    /// Writes the text in the fixed buffer to the sink, not the lines buffered for later files; then pauses these files
+    /// or lets them go on. `Refused` exactly if the sink fails, which has then taken a prefix of that text; no file is
+    /// then paused.
     fn flush(&mut self) -> Result<(), RunFault<SinkFault>> {
         let flushed = self.lines.order.flush(self.sink);
         self.lines.order.keep_pace(&self.pace, flushed.is_ok());

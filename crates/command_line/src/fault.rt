@@ -34,7 +34,9 @@ pub enum Fault {
 impl Fault {
     ghost use Rattle.command_line.specs.Refusals.{IsMisuse};
 
-    /// The program's exit status: 2 if the request is refused, and otherwise 1.
+    /// The program's exit status for this fault: 2 for `NotText`, `BadWaiting`, `Terminal`, and `Run` with
+    /// `TooManyFiles` or `BadLanes`, by which a request is refused; 1 for `Memory`, `Write`, and `Run` with any other
+    /// fault.
     pub fn status(self) -> u8
         ensures refused { IsMisuse self → result ≡ 2 }
         ensures failed { ¬ IsMisuse self → result ≡ 1 }
@@ -54,6 +56,7 @@ impl From<AllocError> for Fault {
 
     ghost from_gives = { λ _ e. e ≡ Fault.Memory };
 
+    /// Returns `Fault::Memory`.
     fn from(_refused: AllocError) -> Fault {
         Fault::Memory
     }
@@ -64,6 +67,8 @@ impl From<RunFault<SinkFault>> for Fault {
 
     ghost from_gives = { λ fault e. e ≡ fault_of fault };
 
+    /// The fault for a run that failed: `Memory`, `LaneLost` and `Thread` become `Fault::Run` with the fault of the
+    /// same name, and `Refused` becomes `Fault::Write(WriteFault::Write)`.
     fn from(fault: RunFault<SinkFault>) -> Fault {
         match fault {
             RunFault::Memory => Fault::Run(BatchFault::Memory),
@@ -79,6 +84,7 @@ impl From<WriteFault> for Fault {
 
     ghost from_gives = { λ fault e. e ≡ Fault.Write fault };
 
+    /// Returns `Fault::Write` with this fault.
     fn from(fault: WriteFault) -> Fault {
         Fault::Write(fault)
     }
@@ -87,10 +93,9 @@ impl From<WriteFault> for Fault {
 /// The system's error code for an output whose reader has closed it (`EPIPE`).
 const BROKEN_PIPE: i32 = 32;
 
-/// Writes `planarbend: ` and the message of the fault to `err`, in a line; nothing if the output failed because its
-/// reader closed it. A failure of this write changes nothing.
-///
-/// For an output that failed, `reason` is that of the system.
+/// Appends to `err` one line: `planarbend: ` and the message of `fault`, which has the system's `reason` if the output
+/// failed and the reason has a code. Writes nothing if that code is 32 (`EPIPE`): the output's reader has closed it.
+/// Ignores a failed write to `err`.
 pub fn write_fault<E: Sink>(fault: Fault, reason: Reason, err: &mut E)
     requires { E.failed err.old ≡ false }
 {

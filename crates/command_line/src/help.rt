@@ -5,7 +5,8 @@ ghost use Rattle.command_line.specs.Helps.{help_in, help_of};
 use clap::{Arg, ArgAction, Command};
 use std::alloc::{AllocError, Global};
 
-/// The definition of the command line for clap, which tells why arguments are refused.
+/// The whole definition of the command line for clap: `--version`, and the commands `layout`, `frames`, `check`, `pick`
+/// and `count` with their options and files. `AllocError` if there is no memory for it.
 pub(crate) fn describe<'a>(alloc: Global) -> Result<Command<'a>, AllocError> {
     let waiting = valued(alloc, "waiting", "MB").allow_hyphen_values(true);
     Command::new(alloc, "planarbend")
@@ -20,7 +21,8 @@ pub(crate) fn describe<'a>(alloc: Global) -> Result<Command<'a>, AllocError> {
         .subcommand(describe_selection(alloc, "count", valued(alloc, "by", "COLUMNS"))?)
 }
 
-/// The command `layout` with its options.
+/// The definition for clap of the command `layout`: its options and one or more files. `AllocError` if there is no
+/// memory for it.
 fn describe_layout<'a>(alloc: Global) -> Result<Command<'a>, AllocError> {
     Command::new(alloc, "layout")
         .arg(valued(alloc, "lanes", "N").allow_hyphen_values(true))?
@@ -32,17 +34,17 @@ fn describe_layout<'a>(alloc: Global) -> Result<Command<'a>, AllocError> {
         .arg(run_files(alloc))
 }
 
-/// The option with this name that has no value.
+/// The definition for clap of the option `--` and `name`, which has no value.
 fn flag<'a>(alloc: Global, name: &'a str) -> Arg<'a> {
     Arg::new(alloc, name).long(name).action(ArgAction::SetTrue)
 }
 
-/// The option with this name that has a value, which messages call `value`.
+/// The definition for clap of the option `--` and `name` with one value, which messages call `value`.
 fn valued<'a>(alloc: Global, name: &'a str, value: &'a str) -> Arg<'a> {
     Arg::new(alloc, name).long(name).value_name(value)
 }
 
-/// The clap argument for the files of a run, one or more.
+/// The definition for clap of the argument `FILE`: the files of a run, one or more.
 fn run_files<'a>(alloc: Global) -> Arg<'a> {
     Arg::new(alloc, "FILE")
         .required(true)
@@ -50,7 +52,8 @@ fn run_files<'a>(alloc: Global) -> Arg<'a> {
         .action(ArgAction::Append)
 }
 
-/// The command `check`, with a file of graphs and one of lines.
+/// The definition for clap of the command `check`: its options, a file of graphs and a file of lines. `AllocError` if
+/// there is no memory for it.
 fn describe_check<'a>(alloc: Global) -> Result<Command<'a>, AllocError> {
     Command::new(alloc, "check")
         .arg(flag(alloc, "json"))?
@@ -59,8 +62,8 @@ fn describe_check<'a>(alloc: Global) -> Result<Command<'a>, AllocError> {
         .arg(file_of(alloc, "LINES"))
 }
 
-/// The definition for clap of the command with this name, which selects graphs: the options of such commands, the
-/// option `own`, and the files.
+/// The definition for clap of the command `name`, which selects graphs: the options that `pick` and `count` have in
+/// common, the option `own`, and one or more files. `AllocError` if there is no memory for it.
 fn describe_selection<'a>(
     alloc: Global,
     name: &'a str,
@@ -80,7 +83,7 @@ fn describe_selection<'a>(
         .arg(run_files(alloc))
 }
 
-/// The argument with this name, which is one file.
+/// The definition for clap of the argument `name`: exactly one file, which must be given.
 fn file_of<'a>(alloc: Global, name: &'a str) -> Arg<'a> {
     Arg::new(alloc, name).required(true).action(ArgAction::Set)
 }
@@ -287,8 +290,9 @@ A graph for which memory ran out is not counted.
 Exit status: 0 if every file is complete and memory ran out for no graph, otherwise 3, and a line on standard error.
 ";
 
-/// The help text that arguments ask for: that of the command that the first one names, or the second if the first is
-/// `help`; otherwise that of the program.
+/// The help text that `words` ask for: that of the command that the first word names, or the second one if the first is
+/// `help`; that of the program if there is no such word or it names no command. It does not test whether they ask for
+/// help.
 pub fn help_text(words: &[String]) -> &'static str
     ensures { result.now ≡ help_in words.now }
 {
@@ -299,7 +303,8 @@ pub fn help_text(words: &[String]) -> &'static str
     }
 }
 
-/// The help for the command with this name, and for another word that for the program.
+/// The help text of the command `word`: `layout`, `frames`, `check`, `pick` or `count`; for any other word, also the
+/// empty one, that of the program.
 fn help_of(word: &str) -> &'static str
     ensures { result.now ≡ help_of word.now }
 {

@@ -22,7 +22,8 @@ pub enum Progress {
 }
 
 impl Progress {
-    /// The progress setting for an option that is given this many times.
+    /// The progress setting for an option that is given `count` times: `Nowhere` for 0, `OnTerminal` for 1, and
+    /// `Everywhere` for more.
     pub fn of_count(count: usize) -> Progress {
         match count {
             0 => Progress::Nowhere,
@@ -38,17 +39,17 @@ impl Progress {
 pub trait Console {
     ghost has_terminal: { Self → Bool };
 
-    /// Whether the program's output is a terminal.
+    /// Whether the program's output, which is not this console, is a terminal.
     fn out_is_terminal(&self) -> bool
         ensures { result ≡ has_terminal self.now };
 
-    /// Whether its last line can be overwritten.
+    /// Whether this console is a terminal, so that its last line can be overwritten.
     fn is_terminal(&self) -> bool;
 
     /// The time since some fixed start, in milliseconds, or 0 if the clock cannot be read.
     fn time(&self) -> u64;
 
-    /// Writes `text`. A failure of this write changes nothing.
+    /// Writes `text` to the console. Ignores a failed write, and returns nothing.
     fn show(&self, text: &[u8]);
 }
 
@@ -61,7 +62,8 @@ enum ConsoleMode {
 }
 
 impl ConsoleMode {
-    /// How lines are shown on this console.
+    /// How lines are shown on `console`: `Hidden` for `Nowhere`; otherwise `WrittenOver` if it is a terminal; otherwise
+    /// `Hidden` for `OnTerminal` and `Apart` for `Everywhere`.
     fn of<C: Console>(progress: Progress, console: &C) -> ConsoleMode {
         match progress {
             Progress::Nowhere => ConsoleMode::Hidden,
@@ -91,7 +93,8 @@ pub struct Meter<'c, C> {
 }
 
 impl<'c, C: Console> Meter<'c, C> {
-    /// A meter of a run over `files` files that begins now.
+    /// A meter of a run over `files` files, whose time begins now. Its counts are 0, and it shows nothing yet. It shows
+    /// progress on `console` as `progress` and the kind of console allow.
     pub fn new(console: &'c C, progress: Progress, files: usize) -> Meter<'c, C> {
         Meter {
             console,
@@ -104,24 +107,29 @@ impl<'c, C: Console> Meter<'c, C> {
         }
     }
 
-    /// The atomic counter of the files that were opened or could not be opened.
+    /// The counter of the files that were opened or could not be opened, at first 0. The meter only reads it: who opens
+    /// the files must add 1 for each.
     pub fn opened(&self) -> &AtomicU64 {
         &self.opened
     }
 
-    /// Shows the final progress and ends its line; does nothing if progress is hidden or no file was begun.
+    /// Shows the final counts and rate on the console, without waiting for the time of the next line, and ends the
+    /// line. Does nothing if progress is hidden or no file was opened or tried.
     pub fn finish(&self) {
         if self.mode != ConsoleMode::Hidden && self.opened.load(Ordering::SeqCst) > 0 {
             self.tell(self.time(), "\n");
         }
     }
 
-    /// The duration of the run so far, in milliseconds.
+    /// The duration of the run so far, in milliseconds by the console's clock; 0 if the clock is now before the start
+    /// or cannot be read.
     fn time(&self) -> u64 {
         self.console.time().saturating_sub(self.start)
     }
 
-    /// Shows the progress, unless that was done a moment ago, or another thread does it now.
+    /// Shows the counts and the rate, and stores the time of that, if 250 milliseconds have passed since the last time
+    /// or, before the first one, since the start of the run. Otherwise, or if another thread shows them now, does
+    /// nothing.
     fn tell_in_time(&self) {
         let last_told = self.last_told.load(Ordering::SeqCst);
         let time = self.time();
@@ -141,8 +149,9 @@ impl<'c, C: Console> Meter<'c, C> {
         }
     }
 
-    /// Shows the counts, and the rate of graphs in `time` milliseconds, in one line of the console that ends with
-    /// `end`.
+    /// Writes to the console the number of files opened, the number of graphs, and the graphs per second over `time`
+    /// milliseconds, in one line with `end` at its end; on a terminal, over the line before. Ignores a failed write. A
+    /// `time` of 0 counts as 1.
     fn tell(&self, time: u64, end: &str) {
         let opened = self.opened.load(Ordering::SeqCst);
         let graphs = self.graphs.load(Ordering::SeqCst);
@@ -162,7 +171,8 @@ impl<'c, C: Console> Meter<'c, C> {
     }
 }
 
-/// Writes a number with thousands separators (commas).
+/// Appends `number` to `line` in decimal digits, with a comma before each further group of three. `fmt::Error` if
+/// `line`, which does not grow, is full; it may then have the first of these groups.
 fn write_grouped(line: &mut ShortLine, number: u64) -> fmt::Result {
     let mut begun = false;
     let mut power: u64 = 1_000_000_000_000_000_000;
@@ -180,8 +190,8 @@ fn write_grouped(line: &mut ShortLine, number: u64) -> fmt::Result {
 }
 
 impl<C: Console + Sync> Gate for Meter<'_, C> {
-    /// Counts a record that enters the last stage, and shows the progress if it is time; does nothing if progress is
-    /// hidden.
+    /// For the stage `Draw`, adds 1 to the number of graphs and shows the progress if it is time for that. Does nothing
+    /// for any other stage, or if progress is hidden. The lane and the record's place do not matter.
     fn pass(&self, _lane: u32, stage: Stage, _ordinal: u32) {
         if stage == Stage::Draw && self.mode != ConsoleMode::Hidden {
             self.graphs.fetch_add(1, Ordering::SeqCst);

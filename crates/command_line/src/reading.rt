@@ -64,7 +64,9 @@ pub enum Setting {
 }
 
 impl Role {
-    /// The role of the argument that follows `word`, an argument in this role.
+    /// The role of the argument after `word`, where `self` is the role of `word`: always `File` in `File`; `Any` after
+    /// the command and after a value; in `Any`, `File` after `--`, `Value` after an option whose value is the next
+    /// argument, and else `Any`.
     fn role_after(self, word: &str) -> Role
         ensures { result ≡ role_after self word.now }
     {
@@ -95,8 +97,9 @@ impl Role {
         }
     }
 
-    /// Whether `word` may have this role in the command: an option must be one of the command's, and the value of
-    /// `--outer` or `--drawing` one of its values. Other values are not checked.
+    /// Whether `word` may stand in this role in the command `command`: in `Any`, an option must be one of the
+    /// command's; in `Value`, the value of `--outer` or `--drawing` must be valid. All else fits: files, `--`, other
+    /// values, and any word in the roles `Command` and `File`.
     fn fits(self, command: Keyword, word: &str) -> bool
         ensures { result ≡ fits command self word.now }
     {
@@ -108,14 +111,16 @@ impl Role {
         }
     }
 
-    /// Whether arguments may end before one in this role: it is no value of an option.
+    /// Whether the arguments may end where the next one would have this role: false in `Value`, since the value would
+    /// be missing, and true in any other role.
     fn may_end(self) -> bool
         ensures { result ≡ may_end self }
     {
         matches!(self, Role::Command | Role::Any(_) | Role::File)
     }
 
-    /// Whether an argument in this role uses the option with this name.
+    /// Whether `word` in this role is the option `name` (with its `--`), alone or with `=` and a value. Always false in
+    /// another role than `Any`.
     fn is_use(self, name: &str, word: &str) -> bool
         ensures { result ≡ is_use name.now self word.now }
     {
@@ -125,7 +130,9 @@ impl Role {
         }
     }
 
-    /// Whether an argument in this role asks for `keyword`.
+    /// Whether `word` in this role asks for `keyword`: for a command or the version only as `Command`, for an option
+    /// only as `Any`, for `best`, `short` or `quick` also as the value of its option, and for help in any role but
+    /// `File`.
     fn asks(self, keyword: Keyword, word: &str) -> bool
         ensures { result ≡ asks keyword self word.now }
     {
@@ -152,7 +159,9 @@ impl Role {
         }
     }
 
-    /// The text that an argument in this role gives for this option; `None` if it gives none.
+    /// The text that `word` in this role gives for `setting`: the whole word if it is that option's value, or in the
+    /// role `Any` what follows the `=` of that option. `None` for another option, without `=`, and in the roles
+    /// `Command` and `File`.
     fn setting_text<'a>(self, setting: Setting, word: &'a str) -> Option<&'a str>
         ensures { option_map (λ text. text.now) result ≡ setting_text setting self word.now }
     {
@@ -164,8 +173,8 @@ impl Role {
     }
 }
 
-/// The option that `word` names without a value (`--lanes`, not `--lanes=2`), so that its value is the next argument;
-/// `None` if it names none in this group of commands.
+/// The option that `word` names without a value (`--lanes`, not `--lanes=2`), so that its value is the next argument.
+/// `None` if it names no option that has a value, or names `--faces` and `group` is not `Selecting`.
 fn setting_of(group: Group, word: &str) -> Option<Setting>
     ensures { result ≡ setting_of group word.now }
 {
@@ -202,21 +211,22 @@ fn prefix_of(setting: Setting) -> &'static str
     }
 }
 
-/// The rest of an argument after this prefix; `None` if the argument does not begin with it.
+/// The rest of `word` after the prefix `front`, empty if nothing follows; `None` if `word` does not begin with `front`.
 fn given_after<'a>(front: &str, word: &'a str) -> Option<&'a str>
     ensures { option_map (λ text. text.now) result ≡ given_after front.now word.now }
 {
     word.strip_prefix(front)
 }
 
-/// Whether an argument is an option: it begins with `-`, and is not that alone.
+/// Whether `word` has the form of an option, known or not: it begins with `-` and is not `-` alone. `--` has this form.
 fn is_option(word: &str) -> bool
     ensures { result ≡ is_option word.now }
 {
     word.as_bytes().first() == Some(&b'-') && word != "-"
 }
 
-/// Whether an argument is the option with this name, alone or with `=` and a value.
+/// Whether `word` is the option `name` (with its `--`), alone or with `=` and a value. The value is not checked, and
+/// may be empty.
 fn is_of(name: &str, word: &str) -> bool
     ensures { result ≡ is_of name.now word.now }
 {
@@ -226,8 +236,9 @@ fn is_of(name: &str, word: &str) -> bool
     }
 }
 
-/// Whether an argument is an option of this command; if it begins with `--outer=` or `--drawing=`, its value must be
-/// valid.
+/// Whether `word` is an option of the command `command`, alone or, if it has a value, with `=` and that. A value of
+/// `--outer` or `--drawing` must be valid; others are not checked. Always false for `Frames`, and for a keyword that is
+/// no command.
 fn is_option_of(command: Keyword, word: &str) -> bool
     ensures { result ≡ is_option_of command word.now }
 {
@@ -244,8 +255,8 @@ fn is_option_of(command: Keyword, word: &str) -> bool
     }
 }
 
-/// Whether an argument is an option that `layout`, `pick` and `count` have in common; if it begins with `--outer=`, its
-/// value must be valid.
+/// Whether `word` is an option that `layout`, `pick` and `count` have in common: `--progress`, or `--lanes` or
+/// `--outer`, alone or with `=` and a value. A value of `--outer` must be valid; that of `--lanes` is not checked.
 fn is_run_option(word: &str) -> bool
     ensures { result ≡ is_run_option word.now }
 {
@@ -255,7 +266,8 @@ fn is_run_option(word: &str) -> bool
         || given_after("--outer=", word).is_some_and(is_outer)
 }
 
-/// Whether an argument is an option that sets a condition, or asks for the other graphs.
+/// Whether `word` is `--not`, or is `--vertices`, `--edges`, `--faces`, `--bends` or `--rule`, alone or with `=` and a
+/// value, which is not checked.
 fn is_condition(word: &str) -> bool
     ensures { result ≡ is_condition word.now }
 {
@@ -269,22 +281,23 @@ fn is_condition(word: &str) -> bool
     }
 }
 
-/// Whether a text is a value of `--outer`: `first` or `best`.
+/// Whether `word` is a value of `--outer`: `first` or `best`.
 fn is_outer(word: &str) -> bool
     ensures { result ≡ is_outer word.now }
 {
     word == "first" || word == "best"
 }
 
-/// Whether a text is a value of `--drawing`: `short` or `quick`.
+/// Whether `word` is a value of `--drawing`: `short` or `quick`.
 fn is_drawing(word: &str) -> bool
     ensures { result ≡ is_drawing word.now }
 {
     word == "short" || word == "quick"
 }
 
-/// Whether arguments, the first of which is this command, are valid: each fits, no value is missing at the end, and no
-/// option but `--progress` is used twice. The number of files, and most values, are not checked.
+/// Whether `words` are valid arguments of the command `command`: each fits, no option lacks its value at the end, and
+/// no option but `--progress` is used twice. The first word, the number of files, and values of other options than
+/// `--outer` and `--drawing` are not checked.
 pub fn are_valid(command: Keyword, words: &[String]) -> bool
     ensures { (result ≡ true) ↔ AreValid command words.now }
 {
@@ -303,7 +316,8 @@ pub fn are_valid(command: Keyword, words: &[String]) -> bool
         && uses("--not", words) <= 1
 }
 
-/// Whether each argument fits this command, and no value is missing after them.
+/// Whether each of `words` fits the command `command` in its role, and no option lacks its value at the end. The first
+/// one always fits, as the command. True if there are no words.
 fn all_fit(command: Keyword, words: &[String]) -> bool
     ensures { result ≡ fit_from command Role.Command words.now }
 {
@@ -318,7 +332,8 @@ fn all_fit(command: Keyword, words: &[String]) -> bool
     role.may_end()
 }
 
-/// How often arguments use the option with this name.
+/// How many of `words` are the option `name` (with its `--`), alone or with `=` and a value. Files, and values that are
+/// arguments of their own, do not count.
 pub fn uses(name: &str, words: &[String]) -> usize
     ensures { result ≡ uses_in name.now words.now }
 {
@@ -334,7 +349,8 @@ pub fn uses(name: &str, words: &[String]) -> usize
     count
 }
 
-/// The value that the arguments first give for this option, unparsed; `None` if they give none.
+/// The first value that `words` give for `setting`, as text that is not checked and may be empty: the argument after
+/// the option, or what follows its `=`. `None` if they give none.
 pub fn setting_text<'a>(setting: Setting, words: &'a [String]) -> Option<&'a str>
     ensures { option_map (λ text. text.now) result ≡ setting_text_in setting words.now }
 {
@@ -349,15 +365,15 @@ pub fn setting_text<'a>(setting: Setting, words: &'a [String]) -> Option<&'a str
     None
 }
 
-/// Whether an argument is an option that asks for help.
+/// Whether `word` is `--help` or begins with `-h`.
 fn is_help(word: &str) -> bool
     ensures { result ≡ is_help word.now }
 {
     word == "--help" || has_prefix(word, b'-', b'h')
 }
 
-/// Whether an argument begins with these two bytes. The second is not 0, since the definition reads a missing byte as
-/// 0.
+/// Whether `word` begins with the bytes `first` and `second`; false if it has fewer than two bytes. `second` must not
+/// be 0, since the definition reads a missing byte as 0.
 fn has_prefix(word: &str, first: u8, second: u8) -> bool
     requires { 0 < second }
     ensures { result ≡ has_prefix first second word.now }
@@ -366,7 +382,8 @@ fn has_prefix(word: &str, first: u8, second: u8) -> bool
     bytes.len() > 1 && bytes[0] == first && bytes[1] == second
 }
 
-/// Whether any argument asks for `keyword`.
+/// Whether any of `words`, each in the role of its place, asks for `keyword`; false if there are none. It does not
+/// check whether they are valid.
 pub fn asks(keyword: Keyword, words: &[String]) -> bool
     ensures { result ≡ asks_in keyword words.now }
 {
@@ -381,7 +398,8 @@ pub fn asks(keyword: Keyword, words: &[String]) -> bool
     false
 }
 
-/// The files that the arguments name, in order.
+/// The files that `words` name, in order and with repetitions; empty if they name none. It does not check whether the
+/// words are valid. `AllocError` if there is no memory for the list.
 ///
 /// # Errors
 ///
@@ -401,7 +419,7 @@ pub fn files_of<'a>(alloc: Global, words: &'a [String]) -> Result<Vec<&'a str>, 
     Ok(files)
 }
 
-/// The number of these files that are standard input.
+/// How many of `files` are the name of standard input, `-`.
 pub fn inputs_among(files: &[&str]) -> usize
     ensures { result ≡ count_by naming.is_input (map (λ file. file.now) files.now) }
 {

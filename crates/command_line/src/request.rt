@@ -108,7 +108,9 @@ pub enum ParseFault {
     Told(Error),
 }
 
-/// Parses the arguments after the program's name into a request.
+/// The request that `words`, the arguments after the program's name, make. `Memory` if memory runs out for the files;
+/// otherwise, if they make none: `NoArguments` if there are no words, `Help` if clap gives help for them, `BadWaiting`
+/// if only the value of `--waiting` is bad, else `Told`, also if memory runs out for its message.
 ///
 /// A `layout`, a `pick` and a `count` have at least one file, a `check` two, and they have standard input at most once.
 /// The number of lanes is not checked: one that is not a number is 0.
@@ -132,8 +134,8 @@ pub fn parse<'a>(alloc: Global, words: &'a [String]) -> Result<Request<'a>, Pars
     }
 }
 
-/// The fault to report for arguments that make no request, found with clap. It is never `Memory`: if memory runs out,
-/// it is `Told` with an error that says so.
+/// The fault to report for `words`, which must make no request: `NoArguments`, `Help`, `BadWaiting`, or `Told` with an
+/// error of clap. If memory runs out, it is `Told` with an error of the kind `OutOfMemory`, and never `Memory`.
 fn fault_of(alloc: Global, words: &[String]) -> ParseFault
     ensures known { result ≢ ParseFault.Memory }
     ensures help { result ≡ ParseFault.Help → asks_in Keyword.Help words.now ≡ true }
@@ -152,13 +154,14 @@ fn fault_of(alloc: Global, words: &[String]) -> ParseFault
     ParseFault::Told(error)
 }
 
-/// The error of clap to report for arguments that make no request, as `Ok(Some)` or as `Err`; `Ok(None)` if only the
-/// value of `--waiting` is bad.
+/// The error of clap to report for `words`, which must make no request: `Err` if clap refuses them or gives help, or if
+/// memory runs out (kind `OutOfMemory`); otherwise `Ok(Some)` with the reason that was found after clap. `Ok(None)` if
+/// only the value of `--waiting` is bad.
 ///
 /// # Errors
 ///
-/// The error of clap: the help, if it is asked for; the reason why the arguments are refused; or that memory ran out, of
-/// the kind `OutOfMemory`.
+/// The error of clap: the help, if it is asked for; the reason why the arguments are refused; or that memory ran out,
+/// of the kind `OutOfMemory`.
 fn why(alloc: Global, words: &[String]) -> Result<Option<Error>, Error> {
     let mut program = describe(alloc)?;
     program.try_get_matches_from_mut(words)?;
@@ -179,7 +182,8 @@ fn why(alloc: Global, words: &[String]) -> Result<Option<Error>, Error> {
     Ok(Some(program.error(ErrorKind::MissingRequiredArgument, "a file is missing")?))
 }
 
-/// The request of arguments that name these files; `None` if they ask for nothing.
+/// The request that `words` make; `files` must be the files that they name, in order. `None` if they ask for help, name
+/// no command, or if an option, a value or the number of files is not valid.
 fn request_of<'a>(words: &[String], files: Vec<&'a str>) -> Option<Request<'a>>
     requires files { map (λ file. file.now) files.items ≡ files_in words.now }
     ensures some { IfSome result (IsAskedBy words.now) }
@@ -206,8 +210,8 @@ fn request_of<'a>(words: &[String], files: Vec<&'a str>) -> Option<Request<'a>>
     None
 }
 
-/// The `frames` request of arguments that name these files; `None` if they are not valid, or do not name exactly one
-/// file.
+/// The request that `words`, whose command is `frames`, make; `files` must be the files that they name. `None` if the
+/// words are not valid, or if there is not exactly one file.
 fn frames_of<'a>(words: &[String], files: &[&'a str]) -> Option<Request<'a>>
     requires command { asks_in Keyword.Frames words.now ≡ true }
     requires no_help { asks_in Keyword.Help words.now ≡ false }
@@ -224,8 +228,8 @@ fn frames_of<'a>(words: &[String], files: &[&'a str]) -> Option<Request<'a>>
     }
 }
 
-/// The `check` request of arguments that name these files; `None` if they are not valid, do not name two files, or name
-/// standard input twice.
+/// The request that `words`, whose command is `check`, make; `files` must be the files that they name. `None` if the
+/// words are not valid, if there are not exactly two files, or if both are standard input.
 fn check_of<'a>(words: &[String], files: &[&'a str]) -> Option<Request<'a>>
     requires command { asks_in Keyword.Check words.now ≡ true }
     requires no_help { asks_in Keyword.Help words.now ≡ false }
@@ -250,8 +254,9 @@ fn check_of<'a>(words: &[String], files: &[&'a str]) -> Option<Request<'a>>
     }
 }
 
-/// The `layout` request of arguments that name these files; `None` if an option, a value or the list of files is not
-/// valid.
+/// The request that `words`, whose command is `layout`, make; `files` must be the files that they name. `None` if the
+/// words are not valid, if there is no file or standard input is named twice, if `--waiting` is out of range, or if
+/// they have `--drawing` without `--json`. A bad value of `--lanes` gives 0 lanes.
 fn layout_of<'a>(words: &[String], files: Vec<&'a str>) -> Option<Request<'a>>
     requires command { asks_in Keyword.Layout words.now ≡ true }
     requires no_help { asks_in Keyword.Help words.now ≡ false }
@@ -274,8 +279,9 @@ fn layout_of<'a>(words: &[String], files: Vec<&'a str>) -> Option<Request<'a>>
     }))
 }
 
-/// The `pick` request of arguments that name these files; `None` if an option, a value or the list of files is not
-/// valid.
+/// The request that `words`, whose command is `pick`, make; `files` must be the files that they name. `None` if the
+/// words are not valid, if there is no file or standard input is named twice, or if the value of `--waiting` or of a
+/// condition is not valid. A bad value of `--lanes` gives 0 lanes.
 fn pick_of<'a>(words: &[String], files: Vec<&'a str>) -> Option<Request<'a>>
     requires command { asks_in Keyword.Pick words.now ≡ true }
     requires no_help { asks_in Keyword.Help words.now ≡ false }
@@ -293,8 +299,9 @@ fn pick_of<'a>(words: &[String], files: Vec<&'a str>) -> Option<Request<'a>>
     }))
 }
 
-/// The `count` request of arguments that name these files; `None` if an option, a value or the list of files is not
-/// valid.
+/// The request that `words`, whose command is `count`, make; `files` must be the files that they name. `None` if the
+/// words are not valid, if there is no file or standard input is named twice, or if the value of a condition or of
+/// `--by` is not valid. A bad value of `--lanes` gives 0 lanes.
 fn count_of<'a>(words: &[String], files: Vec<&'a str>) -> Option<Request<'a>>
     requires command { asks_in Keyword.Count words.now ≡ true }
     requires no_help { asks_in Keyword.Help words.now ≡ false }
@@ -312,8 +319,9 @@ fn count_of<'a>(words: &[String], files: Vec<&'a str>) -> Option<Request<'a>>
     }))
 }
 
-/// The run over these files that arguments for this command ask for; `None` if they are not valid, there are no files,
-/// or standard input is named twice.
+/// The run over `files` that `words`, arguments of the command `command`, ask for: with 1 lane if they have no
+/// `--lanes`, and with 0 if its value is no number. `None` if they are not valid, there are no files, or standard input
+/// is named twice.
 fn run_of<'a>(command: Keyword, words: &[String], files: Vec<&'a str>) -> Option<RunRequest<'a>>
     requires no_help { asks_in Keyword.Help words.now ≡ false }
     requires files { map (λ file. file.now) files.items ≡ files_in words.now }
@@ -335,15 +343,15 @@ fn run_of<'a>(command: Keyword, words: &[String], files: Vec<&'a str>) -> Option
     })
 }
 
-/// Whether there are files, of which at most one is standard input.
+/// Whether there is at least one file in `files`, and at most one of them is standard input.
 fn has_files(files: &[&str]) -> bool
     ensures { (result ≡ true) ↔ ((0 < length files.now) × (count_by naming.is_input (map (λ file. file.now) files.now) ≤ 1)) }
 {
     !files.is_empty() && inputs_among(files) <= 1
 }
 
-/// The limit on buffered text that the arguments ask for, in megabytes, or 64 if they name none; `None` if it is not 1
-/// to 65536.
+/// The value of `--waiting` that `words` give, in megabytes, or 64 if they give none; `None` if it is no number from 1
+/// to 65,536.
 fn waiting_of(words: &[String]) -> Option<u32>
     ensures asked { IfSome result (IsWaitingIn words.now) }
     ensures in_range { IfSome result IsWaiting }
@@ -356,7 +364,7 @@ fn waiting_of(words: &[String]) -> Option<u32>
     None
 }
 
-/// The number that `text` contains, 0 if it is not a number; `otherwise` if there is no text.
+/// The number that `text` contains, 0 if it contains no number of 32 bits; `otherwise` if `text` is `None`.
 fn number_or(otherwise: u32, text: Option<&str>) -> u32
     ensures { IsNumberOf otherwise (option_map (λ t. t.now) text.entry) result }
 {
@@ -366,7 +374,7 @@ fn number_or(otherwise: u32, text: Option<&str>) -> u32
     }
 }
 
-/// Whether the arguments name a kind of drawing, and do not ask for JSON Lines.
+/// Whether `words` name a kind of drawing with `--drawing` and do not have `--json`.
 fn lacks_json(words: &[String]) -> bool
     ensures lacks { result ≡ true
         → ((asks_in Keyword.ShortDrawing words.now || asks_in Keyword.QuickDrawing words.now) ≡ true) × (asks_in Keyword.Json words.now ≡ false) }
@@ -377,7 +385,7 @@ fn lacks_json(words: &[String]) -> bool
     names_drawing && !asks(Keyword::Json, words)
 }
 
-/// The choice of the outer face that the arguments ask for.
+/// The choice of the outer face that `words` ask for: `Best` if they give `best` for `--outer`, and otherwise `First`.
 fn choice_of(words: &[String]) -> Choice
     ensures { (result ≡ Choice.Best) ↔ (asks_in Keyword.BestOuter words.now ≡ true) }
 {
@@ -388,7 +396,7 @@ fn choice_of(words: &[String]) -> Choice
     }
 }
 
-/// The output format that the arguments ask for.
+/// The output format that `words` ask for: `Json` if they have `--json`, and otherwise `Report`.
 fn form_of(words: &[String]) -> Form
     ensures { (result ≡ Form.Json) ↔ (asks_in Keyword.Json words.now ≡ true) }
 {
@@ -399,7 +407,7 @@ fn form_of(words: &[String]) -> Form
     }
 }
 
-/// The kind of drawing that the arguments ask for; without `--drawing`, it is `Short` with `--json` and otherwise
+/// The kind of drawing that `words` ask for with `--drawing`; without it, `Short` if they have `--json`, and otherwise
 /// `Quick`.
 fn drawing_of(words: &[String]) -> DrawingKind
     ensures { result ≡ drawing_in words.now }

@@ -9,8 +9,8 @@ use crate::reading::{Keyword, Setting, asks, setting_text};
 use graph_facts::{Columns, Conditions, Range, RuleCondition, Selection};
 use std::alloc::{AllocError, Global};
 
-/// The selection of graphs that the arguments ask for, by conditions and `--not`; `None` if a value of a condition is
-/// not valid.
+/// The selection of graphs that `words` ask for, by conditions and `--not`; a condition that they do not name is
+/// absent. `None` if the value of a condition is not valid.
 pub(crate) fn selection_of(words: &[String]) -> Option<Selection>
     ensures some { IfSome result (IsSelectedBy words.now) }
     ensures none { IfNone result ((selection : Selection) → ¬ IsSelectedBy words.now selection) }
@@ -30,7 +30,7 @@ pub(crate) fn selection_of(words: &[String]) -> Option<Selection>
     })
 }
 
-/// The range that a text names, as `Some(Some(range))`; `Some(None)` if there is no text, `None` if it names no range.
+/// The range that `text` names, as `Some(Some(range))`; `Some(None)` if `text` is `None`. `None` if it names no range.
 fn range_of(text: Option<&str>) -> Option<Option<Range>>
     ensures some { IfSome result (IsRangeOf (option_map (λ t. t.now) text.entry)) }
     ensures none { IfNone result ((range : Option Range) → ¬ IsRangeOf (option_map (λ t. t.now) text.entry) range) }
@@ -44,7 +44,7 @@ fn range_of(text: Option<&str>) -> Option<Option<Range>>
     }
 }
 
-/// The columns that a text lists, or `Columns::NONE` if there is no text; `None` if the text is no list of columns.
+/// The columns that `text` lists, or `Columns::NONE` if `text` is `None`. `None` if it is no list of columns.
 pub(crate) fn columns_of(text: Option<&str>) -> Option<Columns>
     ensures { result ≡ requests.columns_of (option_map (λ t. t.now) text.entry) }
 {
@@ -54,7 +54,8 @@ pub(crate) fn columns_of(text: Option<&str>) -> Option<Columns>
     }
 }
 
-/// The message for the first value of a range or of columns that is not valid; `None` if each is.
+/// The message about the first value in `words` that is not valid, of `--bends`, `--vertices`, `--edges`, `--faces` and
+/// `--by` in this order; `None` if each is valid or not given. `AllocError` if there is no memory for the message.
 pub(crate) fn value_fault(alloc: Global, words: &[String]) -> Result<Option<String>, AllocError> {
     for (setting, name) in RANGES {
         let Some(text) = setting_text(setting, words) else {

@@ -28,7 +28,8 @@ pub struct ErrorConsole<R, E> {
 }
 
 impl<R: Clock + Wait, E: io::Write + IsTerminal + Copy> ErrorConsole<R, E> {
-    /// A console on which nothing is shown yet, of a program whose output is a terminal or not.
+    /// A console on the standard error `err`, with the clock of `rt`, on which nothing is shown yet. `out_is_terminal`
+    /// says whether the program's output is a terminal.
     pub fn new(rt: R, err: E, out_is_terminal: bool) -> ErrorConsole<R, E> {
         ErrorConsole {
             rt,
@@ -42,14 +43,17 @@ impl<R: Clock + Wait, E: io::Write + IsTerminal + Copy> ErrorConsole<R, E> {
 impl<R: Clock + Wait, E: io::Write + IsTerminal + Copy> Console for ErrorConsole<R, E> {
     ghost has_terminal = { λ c. c.out_is_terminal };
 
+    /// Whether the program's output is a terminal, as it was said to `new`.
     fn out_is_terminal(&self) -> bool {
         self.out_is_terminal
     }
 
+    /// Whether standard error is a terminal.
     fn is_terminal(&self) -> bool {
         self.err.is_terminal()
     }
 
+    /// The value of the monotonic clock, in milliseconds and at most `u64::MAX`; 0 if the clock cannot be read.
     fn time(&self) -> u64 {
         match self.rt.monotonic() {
             Ok(time) => u64::try_from(time.as_millis()).unwrap_or(u64::MAX),
@@ -57,9 +61,8 @@ impl<R: Clock + Wait, E: io::Write + IsTerminal + Copy> Console for ErrorConsole
         }
     }
 
-    // The beginning of a line of text is not overwritten.
-    /// Writes `text` to standard error, or nothing if the last line of the terminal is the beginning of a line of
-    /// output.
+    /// Writes `text` to standard error, and ignores a failed write. Does nothing if the terminal's last line is the
+    /// beginning of a line of output, which must not be overwritten.
     fn show(&self, text: &[u8]) {
         let mut last = self.last.lock(&self.rt);
         if *last == LastLine::Text {
@@ -89,7 +92,8 @@ impl<'c, W: io::Write, R: Clock + Wait, E: io::Write + IsTerminal + Copy> Shared
     R,
     E,
 > {
-    /// A writer to the program's output, which shares the terminal of this console, if both are terminals.
+    /// A writer to the program's output `writer`. It shares the terminal of `console` if the output and standard error
+    /// are both terminals.
     pub fn new(writer: W, console: &'c ErrorConsole<R, E>) -> SharedTerminal<'c, W, R, E> {
         SharedTerminal {
             writer,
@@ -103,8 +107,8 @@ impl<W: io::Write, R: Clock + Wait, E: io::Write + IsTerminal + Copy> io::Write
     for SharedTerminal<'_, W, R, E> {
     ghost contents = { λ w. W.contents w.writer };
 
-    /// Writes to the output, and returns the number of bytes; on a shared terminal, first clears the console's line of
-    /// progress.
+    /// Writes the first bytes of `buf` to the output, perhaps not all, and returns their number, or the error of that
+    /// write. On a shared terminal, first clears the console's line of progress, which stays cleared after an error.
     fn write(&mut self, buf: &[u8]) -> io::Result<usize> {
         if !self.is_shared {
             return self.writer.write(buf);
@@ -127,6 +131,7 @@ impl<W: io::Write, R: Clock + Wait, E: io::Write + IsTerminal + Copy> io::Write
         outcome
     }
 
+    /// Flushes the output, and returns the error of that if it fails. The console stays as it is.
     fn flush(&mut self) -> io::Result<()> {
         self.writer.flush()
     }

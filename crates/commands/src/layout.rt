@@ -23,8 +23,9 @@ use std::sync::Wait;
 use std::thread::Threads;
 use streams::{Sink, SinkFault};
 
-/// Answers all records of the first `files` files on the threads of `lanes` lanes, streams the text to `sink`, and
-/// returns the exit status of the run.
+/// Answers the records of `files` files of `opener`, streams the text to `sink`, and returns the exit status, 0 or 3.
+/// `TooManyFiles` above 256, else `BadLanes` unless `lanes` is 1 to 8: nothing is written. `Write` if `sink` failed,
+/// `Memory` without memory, `LaneLost` or `Thread` if a thread is lost or does not start: a prefix is written.
 ///
 /// Each record is answered under this choice of the outer face. The text is that of the files' books in the format of
 /// this style, as `write_report` and `write_json` write books, and is written while the files are read. JSON lines have
@@ -80,8 +81,9 @@ pub fn write_batch<'r, R: Threads + Wait + Sync, O: Opener, G: Gate, S: Sink>(
     Ok(write_text(&run, style, waiting, sink)?)
 }
 
-/// Runs the lanes on threads, streams the text of the run in this style to `sink`, and returns the exit status; from
-/// `waiting` buffered bytes on, the reading of later files pauses.
+/// Runs the lanes on threads, streams the text in this style to `sink`, and returns the exit status, 0 or 3; from
+/// `waiting` buffered bytes on, later files pause. `Refused` if `sink` failed, `Memory` if there is no memory,
+/// `LaneLost` if a link's end was gone, `Thread` if a thread cannot start: `sink` then has a prefix of the text.
 pub(crate) fn write_text<R: Threads + Wait + Sync, O: Opener, G: Gate, S: Sink>(
     run: &Run<'_, R, O, G>,
     style: Style,
@@ -105,7 +107,11 @@ pub(crate) fn write_text<R: Threads + Wait + Sync, O: Opener, G: Gate, S: Sink>(
     write_files::<Brand, _, _, _, _>(run, style, pace, sink)
 }
 
-/// Writes the text of a run in this style and at this pace. The type `J` represents what the files mean.
+/// Runs the lanes on threads, streams the text in this style and at this pace to `sink`, and returns the exit status, 0
+/// or 3. `Refused` if `sink` failed, `Memory` if there is no memory, `LaneLost` if a link's end was gone, `Thread` if a
+/// thread cannot start: `sink` then has a prefix of the text.
+///
+/// The type `J` represents what the files mean.
 fn write_files<J: KnownFiles + Send + Sync, R: Threads + Wait + Sync, O: Opener, G: Gate, S: Sink>(
     run: &Run<'_, R, O, G>,
     style: Style,
@@ -140,18 +146,21 @@ fn write_files<J: KnownFiles + Send + Sync, R: Threads + Wait + Sync, O: Opener,
     }
 }
 
-/// Drops a consumer, and leaves its sink unchanged.
+/// Drops `texts` with what it has buffered, and writes nothing more to its sink.
 fn let_go<S: Sink>(texts: Texts<'_, S, Lines>)
     ensures { texts.exit.0.now ≡ texts.entry.sink.now }
 {
     let Texts { .. } = texts;
 }
 
-/// Answers the records of a `layout` request's files on the threads of lanes, writes the answers to `out`, shows the
-/// progress, writes the lines about files to `err`, and returns the exit status of the answers.
+/// Answers the records of the files of `asked`, writes the text to `out` and lines about files to `err`, and returns
+/// the status, 0 or 3. `TooManyFiles` above 256, else `BadLanes` unless 1 to 8: nothing is written. `Memory`, `Write`
+/// if `out` failed, or `LaneLost` or `Thread`, if a thread is lost or does not start: `out` has a prefix.
 ///
-/// They are written while the files are read. `files` opens the files that are named. Later files pause once `waiting`
-/// megabytes of their text are buffered.
+/// It shows the progress on `console`. After an error it writes nothing to `err`.
+///
+/// The text is written while the files are read. `files` opens the files that are named. Later files pause once
+/// `waiting` megabytes of their text are buffered.
 ///
 /// # Errors
 ///

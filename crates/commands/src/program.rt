@@ -33,8 +33,9 @@ use streams::{Sink, WriteFault, piece_buffer, put_all, write_frames_of};
 /// The toolchain is given by the kit's number and its logic, as `rt version` prints them.
 pub const VERSION: &str = "planarbend 2.0.0\ntoolchain rattle-kit-13 logic dac8208d650f15bf\n";
 
-/// Writes to `out` the verdicts that a `check` request asks for, and to `err` lines about the two files; returns the
-/// exit status.
+/// Writes to `out` the verdicts that `asked` asks for, and then to `err` lines about the two files; returns the exit
+/// status, 0, 3 or 4. `Memory` if memory runs out for the run, and `Write` exactly if `out` failed: `out` then has a
+/// prefix of the text, and `err` stays as it is. Ignores a failed write to `err`.
 ///
 /// It checks the drawings in one file of the graphs in another one.
 ///
@@ -72,16 +73,17 @@ pub fn check<R: AllocGlobal + Wait, N: NamedFiles, S: Sink, E: Sink>(
     Ok(checked.status)
 }
 
-/// Does what the arguments after the program's name ask for, with output to `out` and messages to `err`, and returns
-/// the program's exit status.
+/// Does what `words`, the arguments after the program's name, ask for, with output to `out` and messages to `err`, and
+/// returns the exit status: 0, 3 or 4 if the text in `out` is whole; 2 if the words are refused or there are none, with
+/// `out` unchanged; 1 if memory, a write or the run failed, with a prefix of the text in `out`.
 ///
 /// `files` opens the files that are named, and standard input by its name. Output is written to `out`; the message of a
 /// fault and a line for each file that fails or is not planar_code are written to `err`. A failure of these writes to
 /// `err` changes nothing, nor does the progress that `console` shows.
 ///
 /// The status is 0 for the version, for help and for a whole text in which each file ends complete and every graph is
-/// answered, 4 for a whole text of `check` in which some drawing is not ok or a line has no graph, 3 for any other whole
-/// text, 2 for a command line that is refused, and 1 if there is no whole text.
+/// answered, 4 for a whole text of `check` in which some drawing is not ok or a line has no graph, 3 for any other
+/// whole text, 2 for a command line that is refused, and 1 if there is no whole text.
 pub fn command<
     R: AllocGlobal + Threads + Wait + Sync,
     N: NamedFiles,
@@ -151,9 +153,9 @@ pub fn command<
     }
 }
 
-/// Does what a request asks for, and returns the exit status. It is 0, 3 or 4 only if the whole text was written, of
-/// all files that the request names, and then as `command` says; and 2 only if the request is refused: too many files,
-/// a bad number of lanes, or records for a terminal.
+/// Does what `request` asks for, with output to `out` and messages to `err`, and returns the exit status: 0, 3 or 4 if
+/// the text in `out` is whole; 2 if there are too many files, a bad number of lanes, or records for a terminal, with
+/// `out` unchanged; 1 if memory, a write or the run failed, with a prefix of the text in `out`.
 fn perform<
     R: AllocGlobal + Threads + Wait + Sync,
     N: NamedFiles,
@@ -192,7 +194,8 @@ fn perform<
     }
 }
 
-/// Writes the message of a fault, and returns its exit status. The reason is that of the output, if it failed.
+/// Writes the message of `fault` to `err`, or nothing if the reader of the output has closed it, and returns the
+/// fault's exit status, 1 or 2. `reason` is why the output failed, if it did. Ignores a failed write to `err`.
 fn end_by<E: Sink>(fault: Fault, reason: Reason, err: &mut E) -> u8
     requires { E.failed err.old ≡ false }
     ensures refused { IsMisuse fault → result ≡ 2 }
@@ -202,8 +205,9 @@ fn end_by<E: Sink>(fault: Fault, reason: Reason, err: &mut E) -> u8
     fault.status()
 }
 
-/// Writes to `out` a line for each record of the file with this name and how it ends, and to `err` any line about the
-/// file. Returns the exit status of the records.
+/// Writes to `out` a line for each record of the file `name` and one for how it ends, and then to `err` any line about
+/// the file; returns the exit status, 0 if it ends complete, else 3. `Memory` if there is no memory for the buffers or
+/// to open the file: `out` stays as it is. `Write` if `out` failed: it has a prefix. `err` then gets nothing.
 fn frames<R: AllocGlobal, N: NamedFiles, S: Sink, E: Sink>(
     rt: &R,
     name: &str,
@@ -229,7 +233,9 @@ fn frames<R: AllocGlobal, N: NamedFiles, S: Sink, E: Sink>(
     Ok(status_of(mark))
 }
 
-/// Writes why the command line is refused, and returns the exit status: 2, or 1 if memory ran out.
+/// Writes to `err` the message of `error`, why the command line is refused, and returns the exit status 2. If `error`
+/// says that memory ran out, or it runs out for the message, writes that instead, and returns 1. Ignores a failed
+/// write.
 fn refuse<E: Sink>(alloc: Global, error: &Error, err: &mut E) -> u8
     requires { E.failed err.old ≡ false }
     ensures in_range { (result ≡ 1) ⊎ (result ≡ 2) }
@@ -247,8 +253,8 @@ fn refuse<E: Sink>(alloc: Global, error: &Error, err: &mut E) -> u8
     }
 }
 
-/// Writes `text`, the version or help, to `out`, and returns the exit status: 0, or 1 if the write failed, which it
-/// reports on `err` as `write_fault` does.
+/// Writes `text`, the version or help, to `out`, and returns the exit status 0. If the write fails, `out` has a prefix
+/// of `text`, and it returns 1 and writes that to `err`, unless the reader of `out` has closed it.
 fn show<S: Sink + KeepsReason, E: Sink>(text: &str, out: &mut S, err: &mut E) -> u8
     requires out_is_intact { S.failed out.old ≡ false }
     requires err_is_intact { E.failed err.old ≡ false }
@@ -263,7 +269,9 @@ fn show<S: Sink + KeepsReason, E: Sink>(text: &str, out: &mut S, err: &mut E) ->
 /// The maximum number of bytes of an argument on Linux, with the 0 after it.
 const LONGEST: usize = 131_072;
 
-/// Reads the arguments of the process, does what they ask for as `command` does, and returns the exit status.
+/// Reads the arguments of the process, does what they ask for as `command` does, with output to `out` and messages to
+/// `err`, and returns the exit status, 0 to 4. If one is not UTF-8 (status 2) or memory for the arguments runs out (1),
+/// writes that to `err` and leaves `out` as it is.
 ///
 /// `files` opens the files that are named, and standard input by its name. If an argument is not valid UTF-8 or memory
 /// for the arguments runs out, the message of that fault is written to `err`, and the status is that of the fault.
@@ -293,7 +301,9 @@ pub fn run<
     }
 }
 
-/// The arguments after the program's name.
+/// The arguments of the process after the program's name, in order; empty if there are none. `NotText` with the number,
+/// from 1, of the first that is not UTF-8; `Memory` if there is no memory for them, or one is longer than 131,072
+/// bytes.
 ///
 /// # Errors
 ///

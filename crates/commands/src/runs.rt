@@ -23,12 +23,13 @@ use streams::{BatchFault, Mark, Sink, WriteFault, mark_word, put_all};
 /// The number of bytes of a megabyte.
 const MEGABYTE: usize = 1_000_000;
 
-/// The number of bytes of this many megabytes, or the maximum.
+/// The number of bytes of `megabytes` megabytes, each of 1,000,000 bytes, or `usize::MAX` if there are more.
 pub(crate) fn bytes_of(megabytes: u32) -> usize {
     (megabytes as usize).saturating_mul(MEGABYTE)
 }
 
-/// Checks that a run may have this many files and lanes, and returns the number of files.
+/// Checks that a run may have so many files and lanes, and returns `files` as a number of 32 bits. `TooManyFiles`
+/// exactly if `files` is above `MAX_FILES` (256); otherwise `BadLanes` exactly if `lanes` is not 1 to `LANES` (8).
 ///
 /// # Errors
 ///
@@ -68,8 +69,11 @@ pub(crate) struct NamedRun<'a, R, N, C> {
 }
 
 impl<'a, R: AllocGlobal, N, C: Console> NamedRun<'a, R, N, C> {
-    /// The run that `asked` describes, whose time begins now; it opens no file yet. `files` opens the files, and the
-    /// console shows the progress.
+    /// The run that `asked` describes, whose time begins now; it opens no file and shows nothing yet. `TooManyFiles` if
+    /// there are more than 256 files; otherwise `BadLanes` if there are not 1 to 8 lanes; otherwise `Memory` if there
+    /// is no memory for notes.
+    ///
+    /// `files` opens the files, and the console shows the progress.
     ///
     /// # Errors
     ///
@@ -108,8 +112,8 @@ impl<'a, R: AllocGlobal, N, C: Console> NamedRun<'a, R, N, C> {
         })
     }
 
-    /// The opener of the run's files, which counts in the meter the files that it tries to open, and notes why they
-    /// fail.
+    /// The opener of the run's files; it opens none yet. For each file that it tries to open, it adds 1 to the meter's
+    /// count, and it notes why a file fails.
     pub(crate) fn opener(&self) -> FileOpener<'_, '_, N>
         ensures files { result.files.now ≡ self.now.files.now }
         ensures names { result.names.now ≡ self.now.names.now }
@@ -122,7 +126,8 @@ impl<'a, R: AllocGlobal, N, C: Console> NamedRun<'a, R, N, C> {
         }
     }
 
-    /// The description of the run for the lanes, with this opener of its files; it starts nothing.
+    /// The description of the run for the lanes, with `opener` for its files and the run's meter as the gate; it starts
+    /// nothing and opens no file.
     pub(crate) fn over<'s>(
         &'s self,
         opener: &'s FileOpener<'s, 's, N>,
@@ -146,8 +151,9 @@ impl<'a, R: AllocGlobal, N, C: Console> NamedRun<'a, R, N, C> {
     }
 }
 
-/// Writes to `err` a line for each file that does not end complete, which says why if that is known, and one for each
-/// file in which memory ran out for graphs. A failure of this write changes nothing.
+/// Writes to `err`, for each of `names` in order, a line if the file did not end complete, with the reason if `notes`
+/// has it, and a line if memory ran out for graphs of it. Ends where `flaws` ends, or at a failed write, which it does
+/// not report. Without memory for a reason, the line has none.
 pub(crate) fn write_flaws<E: Sink>(
     alloc: Global,
     names: &[&str],
@@ -172,7 +178,8 @@ pub(crate) fn write_flaws<E: Sink>(
     }
 }
 
-/// Writes to `err` the lines about the flaws of one file, if it has any; `why` says why it does not end complete.
+/// Writes to `err` a line that the file `name` did not end complete, with the reason `why`, and a line if memory ran
+/// out for graphs of it; nothing if `flaws` has neither. `Write` exactly if `err` then failed; it then has a prefix.
 ///
 /// # Errors
 ///
@@ -187,7 +194,9 @@ fn write_file<E: Sink>(name: &str, flaws: &Flaws, why: &str, err: &mut E) -> Res
     write_memory(name, flaws, err)
 }
 
-/// Writes the line about a file, unless it ends complete.
+/// Writes to `err` one line that the file `name` did not end complete, with the word for `mark` and the reason `why`,
+/// which may be empty; nothing if `mark` is complete. `Write` exactly if `err` then failed; it then has a prefix of the
+/// line.
 fn write_incomplete<E: Sink>(
     name: &str,
     mark: Mark,
@@ -211,7 +220,8 @@ fn write_incomplete<E: Sink>(
     put_all(err, b"\n")
 }
 
-/// Writes the line about the graphs of a file for which memory ran out, if there are any.
+/// Writes to `err` one line with the number of graphs of the file `name` for which memory ran out, and the first one,
+/// from 1; nothing if there are none. `Write` exactly if `err` then failed; it then has a prefix of the line.
 fn write_memory<E: Sink>(name: &str, flaws: &Flaws, err: &mut E) -> Result<(), WriteFault>
     requires { E.failed err.old ≡ false }
     ensures added { OnOk result (Appends (E.taken err.old) (E.taken err.new) (memory_line name.now flaws.now)) }

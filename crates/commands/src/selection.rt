@@ -16,11 +16,15 @@ use std::sync::Wait;
 use std::thread::Threads;
 use streams::Sink;
 
-/// Reads the files on the threads of lanes, writes to `out` the header and the records that a `pick` request selects,
-/// shows the progress, writes the lines about files to `err`, and returns the exit status.
+/// Writes to `out` the header and the records of the files of `asked` that it selects, and lines about files to `err`;
+/// returns the status, 0 or 3. `Terminal` if the output is one, else `TooManyFiles` above 256, else `BadLanes` unless 1
+/// to 8: nothing is written. `Memory`, `Write` if `out` failed, or `LaneLost` or `Thread`: `out` has a prefix.
 ///
-/// They are written while the files are read. `files` opens the files that are named. Later files pause once `waiting`
-/// megabytes of their records are buffered.
+/// It reads the files on the threads of lanes, and shows the progress on `console`. `LaneLost`: a thread was lost.
+/// `Thread`: a thread could not be started. After an error it writes nothing to `err`.
+///
+/// The records are written while the files are read. `files` opens the files that are named. Later files pause once
+/// `waiting` megabytes of their records are buffered.
 ///
 /// # Errors
 ///
@@ -73,16 +77,20 @@ pub(crate) fn pick<
     Ok(status_of_flaws(flaws))
 }
 
-/// Reads the files on the threads of lanes, then writes to `out` the table of the graphs that a `count` request
-/// selects; shows the progress, writes the lines about files to `err`, and returns the exit status.
+/// Writes to `out` the table of the graphs of the files of `asked` that it selects, and lines about files to `err`;
+/// returns the status, 0 or 3. `TooManyFiles` above 256, else `BadLanes` unless 1 to 8; `Memory`; `LaneLost` or
+/// `Thread`, if a thread is lost or does not start: nothing is written. `Write` if `out` failed: it has a prefix.
+///
+/// It reads the files on the threads of lanes first, and shows the progress on `console`. After an error it writes
+/// nothing to `err`.
 ///
 /// `files` opens the files that are named.
 ///
 /// # Errors
 ///
 /// `TooManyFiles` exactly if there are more than `MAX_FILES` files, and `BadLanes` exactly if there are no more than
-/// that and no lanes or more than `LANES`. Otherwise the fault of the run; or `Write`, and then a prefix of the table is
-/// written. In all other cases nothing is.
+/// that and no lanes or more than `LANES`. Otherwise the fault of the run; or `Write`, and then a prefix of the table
+/// is written. In all other cases nothing is.
 pub(crate) fn count<
     R: AllocGlobal + Threads + Wait + Sync,
     N: NamedFiles,
@@ -121,8 +129,9 @@ pub(crate) fn count<
     Ok(status_of_flaws(flaws))
 }
 
-/// Reads the files of a run on the threads of its lanes, writes to `out` the table of the graphs that a `count` request
-/// selects, and returns the flaws of each file.
+/// Reads the run's files on threads, then writes to `out` the table of the graphs that `asked` selects, and returns the
+/// flaws of each file, in order. `Memory`, or `LaneLost` or `Thread` if a thread was lost or did not start: `out` stays
+/// as it is. `Write` exactly if `out` then failed: it has a prefix of the table.
 fn write_table<R: Threads + Wait + Sync, O: Opener, G: Gate, S: Sink>(
     run: &Run<'_, R, O, G>,
     asked: &CountRequest<'_>,

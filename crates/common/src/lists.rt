@@ -5,9 +5,8 @@ ghost use Rattle.common.specs.Slices.{slices_at, AreStarts};
 use std::alloc::AllocError;
 use std::marker::Model;
 
-/// A list of `count` copies of `value`, which reuses the buffer of `list`.
-///
-/// The items of `list` are dropped. It allocates only if the buffer is too small.
+/// Returns `list` with `count` copies of `value` in place of its items, which are dropped. It reuses the buffer, and
+/// gets a larger one only if it is too small: `AllocError` if there is no memory for that, and `list` is then dropped.
 ///
 /// # Errors
 ///
@@ -25,9 +24,9 @@ pub fn filled<T: Copy + Drop>(
     Ok(list)
 }
 
-/// An empty list with room for at least `room` items, which reuses the buffer of `list`.
-///
-/// The items of `list` are dropped. It allocates only if the buffer is too small, and then for exactly `room` items.
+/// Returns `list` without its items, which are dropped, and with a capacity of at least `room`. It reuses the buffer,
+/// and gets a larger one, for exactly `room` items, only if it is too small: `AllocError` if there is no memory for
+/// that, and `list` is then dropped.
 ///
 /// # Errors
 ///
@@ -62,7 +61,9 @@ impl<T> Model for FlatLists<T> {
 }
 
 impl<T> FlatLists<T> {
-    /// The lists into which `starts` divides `items`: list i goes from `starts[i]` to `starts[i + 1]`.
+    /// The lists into which `starts` divides `items`: list i has the items from `starts[i]` up to, but not including,
+    /// `starts[i + 1]`. `starts` must ascend, have at least one number and none above the number of items. It keeps
+    /// both buffers.
     ///
     /// It allocates nothing.
     pub fn new(items: Vec<T>, starts: Vec<usize>) -> FlatLists<T>
@@ -72,21 +73,22 @@ impl<T> FlatLists<T> {
         FlatLists { items, starts }
     }
 
-    /// Returns the flat list of items and the starts of the lists in it, whose buffers can be reused.
+    /// Returns first all items in one list, and second `starts`, which says where each list begins in it and, at its
+    /// end, where the last one ends. Both keep their buffers, for reuse.
     pub fn into_parts(self) -> (Vec<T>, Vec<usize>)
         ensures { self ≡ slices_at result.1.items result.0.items }
     {
         (self.items, self.starts)
     }
 
-    /// The number of lists.
+    /// The number of lists (not of items).
     pub fn len(&self) -> usize
         ensures { result ≡ length self.now }
     {
         self.starts.len() - 1
     }
 
-    /// The list with index i.
+    /// The items of list `i`, counted from 0, in order; `i` must be below the number of lists.
     pub fn get(&self, i: usize) -> &[T]
         requires { i < length self.now }
         ensures { result.now ≡ slice_index_or self.now i [] }
@@ -95,7 +97,7 @@ impl<T> FlatLists<T> {
     }
 }
 
-/// Piece i of a list that is split at the given places.
+/// The part of `items` from `starts[i]` up to, but not including, `starts[i + 1]`, which must both exist.
 fn slice_of<'a, T>(items: &'a [T], starts: &[usize], i: usize) -> &'a [T]
     requires places { AreStarts starts.now items.now }
     requires within { i + 1 < length starts.now }

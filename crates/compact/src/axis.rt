@@ -36,8 +36,9 @@ pub enum Relaxation {
     Wide,
 }
 
-/// Raises the coordinate at which a constraint ends, if the constraint is not satisfied, and returns whether it did.
-/// `Wide` means that the constraint needs more than 65,535; nothing changes then.
+/// Raises the item of `coordinates` at which `constraint` ends to the least that satisfies the constraint, and returns
+/// `Raised`; returns `Satisfied`, and changes nothing, if it is satisfied already. `Wide` means that the constraint
+/// needs more than 65,535; nothing changes then.
 fn relax(constraint: Constraint, coordinates: &mut [u16]) -> Relaxation
     requires from { constraint.from < length coordinates.old }
     requires to { constraint.to < length coordinates.old }
@@ -56,8 +57,9 @@ fn relax(constraint: Constraint, coordinates: &mut [u16]) -> Relaxation
     Relaxation::Raised
 }
 
-/// Raises coordinates, constraint by constraint, if a constraint is not satisfied; returns `Raised` if it raised any,
-/// and otherwise `Satisfied`. At the first constraint that needs more than 65,535 it stops and returns `Wide`.
+/// Raises items of `coordinates`, constraint by constraint in order, where one is not satisfied; returns `Raised` if it
+/// raised any, otherwise `Satisfied`. At the first constraint that needs more than 65,535 it stops and returns `Wide`;
+/// what it raised until then stays raised.
 fn relax_all(constraints: &[Constraint], coordinates: &mut [u16]) -> Relaxation
     requires inside { AreInRange (length coordinates.old) constraints.now }
     requires low { IsLow constraints.now (length coordinates.old) (λ v. slice_index coordinates.old v) }
@@ -76,13 +78,13 @@ fn relax_all(constraints: &[Constraint], coordinates: &mut [u16]) -> Relaxation
     found
 }
 
-/// Raises coordinates until all constraints are satisfied; returns whether that is possible within 65,535.
+/// Raises `coordinates`, nowhere above any that satisfy the constraints, to the least that satisfy all of them, each at
+/// most 65,535, and returns true. False if all that satisfy them exceed 65,535 somewhere; `coordinates` may then be
+/// raised in part.
 ///
-/// They are then the least that satisfy the constraints, the lengths of longest paths. If not, all coordinates that
-/// satisfy the constraints exceed 65,535 somewhere.
-///
-/// Each round is linear in the constraints. If no cycle has a constraint of 1 it needs at most as many rounds as a path
-/// without repeats has constraints, and one more, though no clause says so.
+/// The least coordinates are the lengths of longest paths. Each round is linear in the constraints. If no cycle has a
+/// constraint of 1 it needs at most as many rounds as a path without repeats has constraints, and one more, though no
+/// clause says so.
 pub fn relax_in_rounds(constraints: &[Constraint], coordinates: &mut [u16]) -> bool
     requires inside { AreInRange (length coordinates.old) constraints.now }
     requires low { IsLow constraints.now (length coordinates.old) (λ v. slice_index coordinates.old v) }
@@ -110,8 +112,9 @@ pub enum Axis {
     Y,
 }
 
-/// How much the coordinate of a dart's head is at least above that of its tail, for darts of this direction.
-/// None for darts against the axis: their reverses say it.
+/// How much the coordinate along `axis` of a dart's head is at least above that of its tail, for a dart that runs in
+/// `direction`: `Some(1)` along the axis, `Some(0)` across it, and `None` against it, where the reverse of the dart
+/// says it.
 fn least_difference(axis: Axis, direction: Direction) -> Option<u8>
     ensures forward { quarters direction ≡ growth axis → result ≡ Some 1 }
     ensures back { quarters direction ≡ growth axis + 2 → result ≡ None }
@@ -125,7 +128,8 @@ fn least_difference(axis: Axis, direction: Direction) -> Option<u8>
     }
 }
 
-/// Replaces `constraints` by those along an axis: one for each dart that does not run against it.
+/// Replaces the items of `constraints` by those along `axis`: from tail to head, one for each dart of `boxes` that does
+/// not run against the axis, in the order of darts. `AllocError` if there is no memory; `constraints` is then empty.
 fn constraints_along(
     boxes: &Boxes,
     axis: Axis,
@@ -145,8 +149,8 @@ fn constraints_along(
     Ok(())
 }
 
-/// Whether the arc from a vertex to a neighbour is satisfied: the coordinate along it grows, and that across it stays
-/// the same. An arc that leads to no vertex is satisfied.
+/// Whether the arc from `vertex` to its neighbour `to` is satisfied: the item of `along` grows by at least 1, and that
+/// of `across` stays the same. True if `to` is no vertex, that is, not below the number of items.
 ///
 /// The vertex itself then takes the place of the next one, so that no branch depends on whether there is
 /// one, which cannot be predicted.
@@ -163,8 +167,9 @@ fn is_arc_satisfied(along: &[u16], across: &[u16], vertex: usize, to: u32) -> bo
     grows & (across[vertex] == across[end])
 }
 
-/// Whether on both axes coordinates grow along the darts, and stay the same along the darts across. It looks only at
-/// the neighbours to the east and to the north in `around`, since the other darts go back along the same edges.
+/// Whether `x` grows by at least 1 along each dart to the east and is equal at both ends of each dart to the north, and
+/// `y` the other way round. It looks only at the neighbours to the east and to the north in `around`, since the other
+/// darts go back along the same edges.
 fn are_along(boxes: &Boxes, around: &[u32], x: &[u16], y: &[u16]) -> bool
     requires all_neighbours { HasNeighbours (dart_map boxes.now) around.now boxes.now.darts }
     requires around { length around.now ≡ 4 * boxes.now.vertices }
@@ -185,8 +190,9 @@ fn are_along(boxes: &Boxes, around: &[u32], x: &[u16], y: &[u16]) -> bool
     true
 }
 
-/// Coordinates of the vertices, in the buffer of `coordinates`, that are nowhere above any that grow along the darts of
-/// an axis. `segments` is only the stack of the search, and grows if it is too short.
+/// Returns a coordinate for each vertex, in the buffer of `coordinates`, nowhere above any that grow along the darts of
+/// `axis`. `segments` is the stack of the search: it is overwritten, and grown if it has fewer items than there are
+/// vertices. `AllocError` if there is no memory for either; `coordinates` is then gone.
 ///
 /// The coordinates are the lengths of longest paths, found segment by segment. `around` has the neighbours of each
 /// vertex. Linear in the vertices, if all faces are boxes. It is inlined, so that the directions of an axis are
@@ -218,8 +224,9 @@ fn low_along(
     Ok(coordinates)
 }
 
-/// Raises coordinates that are nowhere above any that grow along the darts of an axis until they grow along them too,
-/// and returns them: the least that do. `Wide` if one would exceed 65,535, or `Memory`; `constraints` is overwritten.
+/// Raises `coordinates`, nowhere above any that grow along the darts of `axis`, to the least that grow along them, and
+/// returns them. `Wide` if one would exceed 65,535, `Memory` if there is no memory for `constraints`, which is
+/// overwritten; either fault drops `coordinates`.
 fn relaxed_along(
     boxes: &Boxes,
     axis: Axis,
@@ -240,10 +247,12 @@ fn relaxed_along(
     Ok(coordinates)
 }
 
-/// Returns the x and y coordinates of the vertices: the least that grow along the darts; `Wide` if one would exceed
-/// 65,535. `segments` and `constraints` are overwritten.
+/// Returns the x and, second, the y coordinates of the vertices, in their order: the least that grow along the darts,
+/// in the buffers of `x` and `y`. `Wide` if one would exceed 65,535, `Memory` if there is no memory; either fault drops
+/// `x` and `y`. `segments` and `constraints` are only buffers and are overwritten.
 ///
-/// The coordinates reuse the buffers of `x` and `y`. `around` has the neighbours of each vertex.
+/// `around` has the neighbours of each vertex. `constraints` is used only if coordinates found by segments do not grow
+/// everywhere.
 pub fn least_coordinates(
     boxes: &Boxes,
     around: &[u32],

@@ -17,9 +17,11 @@ use std::alloc::AllocError;
 /// The value for a missing vertex, greater than any vertex number.
 pub const NO_VERTEX: u32 = u32::MAX;
 
-/// For each vertex, its four neighbours to the east, north, west and south; `NO_VERTEX` if there is none.
+/// The neighbours of each vertex of `boxes`, four items for each in turn: the vertices to which darts lead from it to
+/// the east, north, west and south, `NO_VERTEX` where none does. They are in the buffer of `around`. `AllocError` if
+/// there is no memory; `around` is then gone.
 ///
-/// They are the vertices to which the darts from it lead, and reuse the buffer of `around`. Linear in the darts.
+/// Linear in the darts.
 pub fn neighbours_of(boxes: &Boxes, around: Vec<u32>) -> Result<Vec<u32>, AllocError>
     ensures neighbours { IfOk result (λ around. AreNeighbours (dart_map boxes.now) around.items boxes.now.vertices) }
     ensures all_neighbours { IfOk result (λ around. HasNeighbours (dart_map boxes.now) around.items boxes.now.darts) }
@@ -52,7 +54,9 @@ pub struct Neighbours<'a> {
 }
 
 impl<'a> Neighbours<'a> {
-    /// The neighbours of each vertex by their directions along an axis. Directions are numbered from east.
+    /// The neighbours `around`, four for each vertex, with the numbers of the directions as seen along `axis`: 0 is
+    /// east, 1 north, 2 west and 3 south. `ahead` is 0 for x and 1 for y; from it `left`, `back` and `right` follow by
+    /// quarter turns to the left.
     #[inline(always)]
     pub fn along(around: &'a [u32], axis: Axis) -> Neighbours<'a>
         ensures around { result.around.now ≡ around.now }
@@ -87,8 +91,9 @@ struct SegmentStack<'a> {
 }
 
 impl SegmentStack<'_> {
-    /// Pushes a vertex if `comes` is true and the stack is not full. The place on top is written in any case: which
-    /// vertices come cannot be predicted, so no branch depends on it.
+    /// Pushes the vertex `first` if `comes` is true and the stack is not full; a full stack stays as it is, and never
+    /// grows. If it is not full, the place above the top is written in any case: which vertices come cannot be
+    /// predicted, so no branch depends on it.
     fn push(&mut self, first: u32, comes: bool) {
         if self.count < self.firsts.len() {
             self.firsts[self.count] = first;
@@ -96,7 +101,7 @@ impl SegmentStack<'_> {
         }
     }
 
-    /// Pops the uppermost vertex and returns it, or `NO_VERTEX` if there is none.
+    /// Removes the vertex on top of the stack and returns it. If the stack is empty, returns `NO_VERTEX`.
     fn pop(&mut self) -> u32 {
         let Some(top) = self.count.checked_sub(1) else {
             return NO_VERTEX;
@@ -106,8 +111,8 @@ impl SegmentStack<'_> {
     }
 }
 
-/// The first vertex from `begin` on with no neighbour to its right and none at its back, or `NO_VERTEX`. In boxes, all
-/// segments are reached from its segment.
+/// The first vertex, from `begin` to `vertices` - 1, with no neighbour to its right and none at its back, or
+/// `NO_VERTEX` if there is none. In boxes, all segments are reached from the segment of that vertex.
 #[inline(always)]
 fn find_source(neighbours: Neighbours<'_>, begin: u32, vertices: u32) -> u32
     requires directions { (neighbours.right < 4) × (neighbours.back < 4) }
@@ -126,7 +131,8 @@ fn find_source(neighbours: Neighbours<'_>, begin: u32, vertices: u32) -> u32
     NO_VERTEX
 }
 
-/// The greatest coordinate on the segment with this first vertex.
+/// The greatest of `coordinates` on a segment: that of its first vertex `first`, and of each next vertex in the
+/// direction `left`, up to one with no neighbour there.
 #[inline(always)]
 fn greatest_on(around: &[u32], left: u8, first: u32, coordinates: &[u16]) -> u16
     requires left { left < 4 }
@@ -148,8 +154,9 @@ fn greatest_on(around: &[u32], left: u8, first: u32, coordinates: &[u16]) -> u16
     greatest
 }
 
-/// Gives a vertex this coordinate, and the next one along the axis, if there is one, one more, but no more than 65,535.
-/// Pushes the next one if it is the first of its segment.
+/// Sets the item of `coordinates` of `vertex` to `coordinate`, and that of the next vertex along the axis, if there is
+/// one, to one more, but no more than 65,535, whatever it was. Pushes the next vertex on `stack`, unless that is full,
+/// if it is the first of its segment.
 #[inline(always)]
 fn place_vertex(
     neighbours: Neighbours<'_>,
@@ -175,8 +182,9 @@ fn place_vertex(
     stack.push(to, right as usize >= coordinates.len());
 }
 
-/// Gives all vertices of the segment with this first vertex the greatest coordinate among them, and the next ones along
-/// the axis one more, but no more than 65,535. Pushes those of the next ones that are the first of their segments.
+/// Sets the items of `coordinates` of all vertices of the segment whose first vertex is `first` to the greatest among
+/// them, and those of the next vertices along the axis to one more, but no more than 65,535. Pushes on `stack`, unless
+/// that is full, the next vertices that are the first of their segments.
 #[inline(always)]
 fn place_segment(
     neighbours: Neighbours<'_>,
@@ -202,11 +210,13 @@ fn place_segment(
     }
 }
 
-/// Sets coordinates, all of them 0 at first, to lengths of longest paths, segment by segment in a topological order.
+/// Sets `coordinates`, all of them 0 at first, to lengths of longest paths along the axis of `neighbours`, segment by
+/// segment in a topological order. It overwrites `stack`, which has a place for each vertex and does not grow. Nothing
+/// changes if no vertex from `begin` on can be the first of all.
 ///
-/// Segments wait in `stack`, which has a place for each vertex. The first one of all is looked for from the vertex
-/// `begin` on. If all faces are boxes, it visits each segment once, in time linear in the vertices. What is proved, of
-/// any faces, is that no coordinate goes above any that grow along the arcs.
+/// Segments wait in `stack`. The first one of all is looked for from the vertex `begin` on. If all faces are boxes, it
+/// visits each segment once, in time linear in the vertices. What is proved, of any faces, is that no coordinate goes
+/// above any that grow along the arcs.
 #[inline(always)]
 pub fn raise_to_longest_paths(
     stack: &mut [u32],

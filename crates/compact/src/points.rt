@@ -31,6 +31,7 @@ pub enum CompactFault {
 impl From<AllocError> for CompactFault {
     ghost from_gives = { λ _ fault. fault ≡ Memory };
 
+    /// Converts an `AllocError` to the fault `Memory`. It never fails, and allocates nothing.
     fn from(_refused: AllocError) -> CompactFault {
         CompactFault::Memory
     }
@@ -69,13 +70,14 @@ impl Scratch {
         }
     }
 
-    /// Consumes points, whose list is reused. It allocates nothing.
+    /// Consumes `points`, and keeps the buffer of their list in the scratch for the next points, in place of the one
+    /// there, which is freed. It allocates nothing.
     pub fn take_back(&mut self, points: Points) {
         self.points = points.into_list();
     }
 }
 
-/// The point of a vertex.
+/// The point of a vertex, numbered from 0: its x is the item of `x` at the place `vertex`, its y that of `y`.
 pub fn point_of(x: &[u16], y: &[u16], vertex: u32) -> Point
     requires x_in { vertex < length x.now }
     requires y_in { vertex < length y.now }
@@ -87,7 +89,8 @@ pub fn point_of(x: &[u16], y: &[u16], vertex: u32) -> Point
     }
 }
 
-/// Whether the walk along an edge turns between two of its darts.
+/// Whether the walk along an edge turns between its dart `before` and the next one, `dart`: whether their directions
+/// differ.
 fn is_turn(boxes: &Boxes, before: u32, dart: u32) -> bool
     requires before { before < boxes.now.darts }
     requires dart { dart < boxes.now.darts }
@@ -96,7 +99,11 @@ fn is_turn(boxes: &Boxes, before: u32, dart: u32) -> bool
     boxes.direction(before) != boxes.direction(dart)
 }
 
-/// Appends to a list the points at which the walk along these darts turns, in walking order. One step for each dart.
+/// Appends to `corners` the points at which the walk along the darts of `path` turns, in walking order: the head of
+/// each dart from which the next one goes in another direction. `AllocError` if there is no memory; the points appended
+/// until then stay.
+///
+/// `x` and `y` are the coordinates of the vertices of `boxes`. One step for each dart.
 pub fn push_corners(
     corners: &mut Vec<Point>,
     boxes: &Boxes,
@@ -119,7 +126,8 @@ pub fn push_corners(
     Ok(())
 }
 
-/// The points of the plane's vertices, in the buffer of a list, with room for `room` points.
+/// The points of the plane's vertices, in their order, in the buffer of `lent`, with room for at least `room` points in
+/// all. `AllocError` if there is no memory; `lent` is then gone.
 fn vertex_points(
     lent: Vec<Point>,
     room: usize,
@@ -140,8 +148,9 @@ fn vertex_points(
     Ok(points)
 }
 
-/// The corner points of all edges in one list, one edge after another, and the places where those of each edge
-/// start, and finally where the last ones end. Both lists reuse their buffers.
+/// Returns the corner points of all edges in one list, one edge after another, and, second, the places where those of
+/// each edge start, and finally where the last ones end. They are in the buffers of `corners` and `starts`.
+/// `AllocError` if there is no memory; both are then gone.
 fn list_corners(
     mut corners: Vec<Point>,
     starts: Vec<usize>,
@@ -166,7 +175,8 @@ fn list_corners(
     Ok((corners, starts))
 }
 
-/// The points of a plane in boxes: the least coordinates, 0 to 65,535, that grow along the darts of the boxes.
+/// The points of the plane's vertices and of its edges' corners: the least coordinates, 0 to 65,535, that grow along
+/// the darts of `boxes`. `Wide` if those would exceed 65,535, `Memory` if memory runs out.
 ///
 /// x grows to the east and y to the north. Edges run along the axes between their ends and corners.
 ///
@@ -187,10 +197,10 @@ pub fn compact(alloc: Global, boxes: &Boxes) -> Result<Points, CompactFault>
     compact_in(alloc, &mut scratch, boxes)
 }
 
-/// Least points for the plane in boxes, exactly as [`compact`]; reuses the caller's scratch.
+/// The least points for the plane in `boxes`, exactly as [`compact`], or its fault `Wide` or `Memory`. It overwrites
+/// the buffers of `scratch`, and allocates only if they are too small. After a fault some of them are gone.
 ///
-/// It allocates only if the scratch is too small. The points take their list with them; [`Scratch::take_back`] takes it
-/// back.
+/// The points take their list with them; [`Scratch::take_back`] takes it back.
 ///
 /// # Errors
 ///

@@ -19,20 +19,21 @@ use ortho_rep::{Prices, Scratch, Shape, SolveFault, best_shape_keeping, least_sh
 use std::alloc::{AllocError, Global};
 use std::marker::Model;
 
-/// Makes the chosen face the outer one, and returns a shape with the fewest bends that keeps the conditions, with
-/// prices that prove it. The outer face may change even if it returns an error.
+/// Makes the chosen face the outer one of `plane`, and returns a shape with the fewest bends that keeps the conditions,
+/// with prices that prove it; works in `scratch`. An error says what is wrong with the conditions, or that no shape
+/// keeps them, or is `Memory` if memory runs out; the outer face of `plane` may have changed even then.
 ///
 /// `First` is the face with the most darts of those that may be outside; `Best` the one with which the fewest bends are
 /// needed to keep what is given; among equals both are the one with the least number, which has the least dart.
 ///
 /// # Errors
 ///
-/// `NoAngle` exactly if an angle is not 1 to 4; otherwise `NoEdge` exactly if two vertices that are named are not adjacent;
-/// otherwise `Conflict` exactly if two conditions on one angle or one edge differ; otherwise `TooManyTurns` exactly if all
-/// edges together are to have more than `MAX_GIVEN_TURNS` turns; otherwise `NoOuter` exactly if no face may be outside;
-/// otherwise `NoShape` exactly if no shape with a chosen face keeps what is given; all of this memory aside. `NoShape` has
-/// vertices and faces that show it for the face with the most darts. `Memory` if memory runs out. The outer face may have
-/// changed.
+/// `NoAngle` exactly if an angle is not 1 to 4; otherwise `NoEdge` exactly if two vertices that are named are not
+/// adjacent; otherwise `Conflict` exactly if two conditions on one angle or one edge differ; otherwise `TooManyTurns`
+/// exactly if all edges together are to have more than `MAX_GIVEN_TURNS` turns; otherwise `NoOuter` exactly if no face
+/// may be outside; otherwise `NoShape` exactly if no shape with a chosen face keeps what is given; all of this memory
+/// aside. `NoShape` has vertices and faces that show it for the face with the most darts. `Memory` if memory runs out.
+/// The outer face may have changed.
 pub fn shape_keeping_in(
     alloc: Global,
     scratch: &mut Scratch,
@@ -52,8 +53,8 @@ pub fn shape_keeping_in(
     }
 }
 
-/// Makes `by_darts.greatest` the outer face, and returns `NoShape` with a cut that proves that no shape keeps what is
-/// given; `Memory` if memory runs out.
+/// Makes `by_darts.greatest` the outer face of `plane`, and returns `NoShape` with this face and a cut that proves that
+/// no shape keeps what is given; returns `Memory` if memory runs out, and the outer face stays changed.
 fn no_shape_fault(alloc: Global, plane: &mut Plane, by_darts: &DartConditions) -> KeepFault
     requires face { by_darts.now.greatest < plane.old.faces }
     requires none { HasNoneKeeping (with_outer plane.old by_darts.now.greatest) by_darts.now.given }
@@ -71,7 +72,8 @@ fn no_shape_fault(alloc: Global, plane: &mut Plane, by_darts: &DartConditions) -
     }
 }
 
-/// Conditions by darts and faces: what is given of the darts of a plane, marks of its faces, and the greatest face that is not marked.
+/// Conditions by darts and faces: what is given of the darts of a plane, marks of its faces, and the greatest face that
+/// is not marked.
 #[derive(Drop)]
 struct DartConditions {
     angles: Vec<Option<u8>>,
@@ -100,8 +102,9 @@ impl DartConditions {
     }
 }
 
-/// Converts conditions by vertices to conditions by darts and faces of the plane, and finds the face with the most
-/// darts that may be outside. An error says what is wrong with the conditions, or that memory ran out.
+/// Returns the conditions by darts and faces of the plane, with the face with the most darts that may be outside. The
+/// error is the first that applies of `NoAngle`, `NoEdge`, `Conflict` (of angles, then of turns), `TooManyTurns` and
+/// `NoOuter`, or `Memory` if memory runs out before.
 fn conditions_by_darts(
     alloc: Global,
     plane: &Plane,
@@ -136,8 +139,9 @@ fn conditions_by_darts(
     }
 }
 
-/// Makes the chosen face the outer one, and returns a least shape with it that keeps what is given, and its prices;
-/// `Infeasible` if there is none. The outer face may change even if it returns an error.
+/// Makes the chosen face the outer one of `plane`, and returns a least shape with it that keeps what is given, and its
+/// prices; works in `scratch`. `Infeasible` if there is none, `Memory` if memory runs out; the outer face of `plane`
+/// may have changed even then.
 fn chosen_shape(
     alloc: Global,
     scratch: &mut Scratch,
@@ -165,7 +169,8 @@ fn chosen_shape(
     }
 }
 
-/// The face with the most darts of those that are not barred, among equals the first one; `None` if all are barred.
+/// The number of the face with the most darts of those that `barred` does not mark, among equals the least number;
+/// `None` if all are marked. Faces past the end of `barred` count as not marked.
 fn greatest_open(plane: &Plane, barred: &[bool]) -> Option<u16>
     ensures { IsGreatestSoFar plane.now barred.now plane.now.faces result }
 {
@@ -178,7 +183,8 @@ fn greatest_open(plane: &Plane, barred: &[bool]) -> Option<u16>
     best
 }
 
-/// Returns `best` if it has at least as many darts as `face`; otherwise, or if `best` is `None`, returns `face`.
+/// Returns `best` if it has at least as many darts as `face`; otherwise, or if `best` is `None`, returns `face`. The
+/// result is never `None`.
 fn greater(plane: &Plane, best: Option<u16>, face: u16) -> Option<u16>
     requires face { face < plane.now.faces }
     requires best { IfSome best (λ so_far. so_far < plane.now.faces) }

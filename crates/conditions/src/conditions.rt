@@ -46,8 +46,8 @@ pub struct TurnsAlong {
 
 /// The conditions that a layout must keep.
 ///
-/// The same may be asked for more than once, of an edge also along both its darts: t turns along the one are -t along the
-/// other.
+/// The same may be asked for more than once, of an edge also along both its darts: t turns along the one are -t along
+/// the other.
 #[repr(C)]
 #[derive(Clone, Copy)]
 pub struct Conditions<'a> {
@@ -59,7 +59,7 @@ pub struct Conditions<'a> {
     pub inner: &'a [DartEnds],
 }
 
-/// Whether a dart has these ends.
+/// Whether the dart `dart` leads from the vertex `from` to the vertex `to`.
 pub(crate) fn is_named(plane: &Plane, dart: u16, from: u16, to: u16) -> bool
     requires { dart < darts plane.now }
     ensures { IsTrue result ↔ Names plane.now dart from to }
@@ -80,7 +80,7 @@ pub(crate) fn is_dart(plane: &Plane, from: u16, to: u16) -> bool
     false
 }
 
-/// Whether a dart is among those of the list.
+/// Whether the dart `dart` has the two ends that some entry of `list` names.
 fn is_among(plane: &Plane, list: &[DartEnds], dart: u16) -> bool
     requires { dart < darts plane.now }
     ensures { IsTrue result ↔ IsAmong plane.now list.now dart }
@@ -89,8 +89,8 @@ fn is_among(plane: &Plane, list: &[DartEnds], dart: u16) -> bool
         .any(|ends| is_named(plane, dart, ends.from, ends.to))
 }
 
-/// Returns a mark for each face: true if the face is on the left of a dart of `list`. It goes over `list` for each dart
-/// of the plane.
+/// Returns a mark for each face: true if the face is on the left of a dart of `list`; `AllocError` if there is no
+/// memory for the marks. Entries that name no dart mark nothing. It goes over `list` for each dart of the plane.
 pub(crate) fn barred_of(
     alloc: Global,
     plane: &Plane,
@@ -103,7 +103,8 @@ pub(crate) fn barred_of(
     Ok(barred)
 }
 
-/// Marks the faces on the left of the darts of a list, among marks that are all unset.
+/// Sets in `barred` the marks of the faces on the left of the darts of `list`; before the call all its marks must be
+/// unset, and there is one for each face.
 fn mark_faces(plane: &Plane, list: &[DartEnds], barred: &mut [bool])
     requires { barred.old ≡ replicate plane.now.faces false }
     ensures { AreBarred plane.now list.now barred.new }
@@ -114,7 +115,7 @@ fn mark_faces(plane: &Plane, list: &[DartEnds], barred: &mut [bool])
     }
 }
 
-/// Sets the mark at a place if `yes` is true, and otherwise leaves it as it is.
+/// Sets `marks[place]` to true if `yes` is true, and otherwise leaves `marks` as it is; `place` must be in `marks`.
 fn mark(marks: &mut [bool], place: usize, yes: bool)
     requires { place < length marks.old }
     ensures { marks.new ≡ (if yes then slice_set marks.old place true else marks.old) }
@@ -124,7 +125,7 @@ fn mark(marks: &mut [bool], place: usize, yes: bool)
     }
 }
 
-/// Whether each asked angle is 1 to 4 right angles.
+/// Whether each asked angle is 1 to 4 right angles; true if no angle is asked for.
 pub(crate) fn are_angles(conditions: &Conditions<'_>) -> bool
     ensures { IsTrue result ↔ HasAngles conditions.now }
 {
@@ -134,8 +135,8 @@ pub(crate) fn are_angles(conditions: &Conditions<'_>) -> bool
         .all(|asked| 1 <= asked.angle && asked.angle <= 4)
 }
 
-/// Whether the two vertices of each condition, on turns, angles or inner faces, are adjacent. Linear in the darts of
-/// the plane for each condition.
+/// Whether the two vertices of each condition, on turns, angles or inner faces, are adjacent; true if there are no
+/// conditions. Linear in the darts of the plane for each condition.
 pub(crate) fn are_darts(plane: &Plane, conditions: &Conditions<'_>) -> bool
     ensures { IsTrue result ↔ AreDarts plane.now conditions.now }
 {
@@ -153,7 +154,8 @@ pub(crate) fn are_darts(plane: &Plane, conditions: &Conditions<'_>) -> bool
             .all(|ends| is_dart(plane, ends.from, ends.to))
 }
 
-/// The dart that leads from one vertex to another; there must be one. Linear in the darts of the plane.
+/// The number of the dart that leads from the vertex `from` to the vertex `to`; there must be one. Linear in the darts
+/// of the plane.
 fn dart_of(plane: &Plane, from: u16, to: u16) -> u16
     requires { IsDart plane.now from to }
     ensures inside { result < darts plane.now }
@@ -167,8 +169,9 @@ fn dart_of(plane: &Plane, from: u16, to: u16) -> u16
     unreachable!()
 }
 
-/// Returns a list with an entry for each dart: the angle that is asked for at its head, or `None`. It goes over the
-/// darts for each entry of `list`.
+/// Returns a list with an entry for each dart: the angle that is asked for at its head, in right angles, or `None`.
+/// `Conflict` if angles that differ are asked for at one dart; `Memory` if memory runs out. It goes over the darts for
+/// each entry of `list`.
 ///
 /// # Errors
 ///
@@ -194,7 +197,8 @@ pub(crate) fn angles_of(
     Ok(found)
 }
 
-/// Sets the angle of a dart if it has none; returns false if it has another one, which stays.
+/// Sets `found[dart]` to `angle` if it is `None`, and returns true; returns true also if it is `angle` already, and
+/// false if it is another angle, which stays.
 fn put_angle(found: &mut [Option<u8>], dart: u16, angle: u8) -> bool
     requires { dart < length found.old }
     ensures put { IsTrue result → IsPut dart angle found.old found.new }
@@ -208,8 +212,11 @@ fn put_angle(found: &mut [Option<u8>], dart: u16, angle: u8) -> bool
     true
 }
 
-/// Returns a list with an entry for each dart: for the lesser dart of an edge the turns that are asked for along it, or
-/// `None`; for the other one `None`. It goes over the darts for each entry of `list`.
+/// Returns a list with an entry for each dart: for the lesser dart of an edge the left turns that are asked for along
+/// it (right ones are negative) or `None`; for the other dart `None`. `Conflict` if turns that differ are asked for
+/// along one edge; `Memory` if memory runs out.
+///
+/// It goes over the darts for each entry of `list`.
 ///
 /// # Errors
 ///
@@ -234,8 +241,9 @@ pub(crate) fn turns_of(
     Ok(found)
 }
 
-/// Sets turns along a dart, stored as turns along the lesser dart of its edge, if that has none; returns false if it
-/// has others, which stay.
+/// Sets in `found` the turns along `dart`, as turns along the lesser dart of its edge at that place, if there is
+/// `None`, and returns true; returns true also if they are there already, and false if other turns are there, which
+/// stay.
 fn put_along(plane: &Plane, found: &mut [Option<i32>], dart: u16, turns: i16) -> bool
     requires size { length found.old ≡ darts plane.now }
     requires few { All AreFew found.old }
@@ -252,7 +260,7 @@ fn put_along(plane: &Plane, found: &mut [Option<i32>], dart: u16, turns: i16) ->
     }
 }
 
-/// The number of turns along a dart, as a wider number.
+/// The same number of turns, as a number of 32 bits.
 fn widened(turns: i16) -> i32
     ensures value { result ≡ turns }
     ensures few { nat_abs result ≤ 2 ^ 15 }
@@ -260,7 +268,8 @@ fn widened(turns: i16) -> i32
     i32::from(turns)
 }
 
-/// The number of turns along the reverse of a dart with these turns: with the other sign.
+/// The number of turns along the reverse of a dart that has `turns`: the same with the other sign, as a number of 32
+/// bits.
 fn reversed(turns: i16) -> i32
     ensures value { result ≡ neg_ℤ turns }
     ensures few { nat_abs result ≤ 2 ^ 15 }
@@ -268,7 +277,8 @@ fn reversed(turns: i16) -> i32
     -i32::from(turns)
 }
 
-/// Sets the turns at a dart if it has none; returns false if it has others, which stay.
+/// Sets `found[dart]` to `turns` if it is `None`, and returns true; returns true also if it is `turns` already, and
+/// false if it is another number, which stays.
 fn put_turns(found: &mut [Option<i32>], dart: u16, turns: i32) -> bool
     requires dart { dart < length found.old }
     requires few { All AreFew found.old }

@@ -20,11 +20,11 @@ use thiserror::Error;
 
 /// A set of vertices and faces, stored as a mark for each.
 ///
-/// With a vertex, the face of each of its angles that are not given is in the set, since a right angle can go to each; with a
-/// face, each face across an edge whose turns are not given, since a bend can. So what they have to turn stays among them, and
-/// if that is more than 0, there is no representation. With k for each given angle and t for each given number of left turns,
-/// a vertex has to turn 4 right angles less its degree and less the sum of k - 1; an inner face 4 less its degree, more the
-/// sum of k - 1 and less the sum of t; the outer face the same with -4.
+/// With a vertex, the face of each of its angles that are not given is in the set, since a right angle can go to each;
+/// with a face, each face across an edge whose turns are not given, since a bend can. So what they have to turn stays
+/// among them, and if that is more than 0, there is no representation. With k for each given angle and t for each given
+/// number of left turns, a vertex has to turn 4 right angles less its degree and less the sum of k - 1; an inner face 4
+/// less its degree, more the sum of k - 1 and less the sum of t; the outer face the same with -4.
 #[derive(Debug, Drop)]
 pub struct Cut {
     /// A mark for each vertex: place v - 1 is that of vertex v.
@@ -33,7 +33,8 @@ pub struct Cut {
     pub faces: Vec<bool>,
 }
 
-/// If no representation keeps what is given, a cut that proves it; `None` if some representation does.
+/// Returns a cut that proves that no representation keeps what is given, or `None` if some representation does;
+/// `AllocError` if there is no memory for the network, its flow or the set.
 ///
 /// The cut is a set of vertices and faces that turn more than can leave it.
 ///
@@ -62,7 +63,8 @@ pub fn violated_cut(
     Ok(Some(Cut { vertices, faces }))
 }
 
-/// The marks of the faces among those of all nodes.
+/// Returns the marks of the faces, by face, from `nodes`, which has the marks of all vertices first and then those of
+/// all faces; `AllocError` if there is no memory for them.
 fn face_marks(alloc: Global, plane: &Plane, nodes: &[bool]) -> Result<Vec<bool>, AllocError>
     requires { length nodes.now ≡ vertices plane.now + plane.now.faces }
     ensures size { IfOk result (λ faces. length faces.items ≡ plane.now.faces) }
@@ -76,8 +78,9 @@ fn face_marks(alloc: Global, plane: &Plane, nodes: &[bool]) -> Result<Vec<bool>,
     Ok(faces)
 }
 
-/// Returns a mark for each vertex: true if it has something to turn, and all its angles that are not given lie in
-/// marked faces. It goes over all darts of the plane for each vertex.
+/// Returns a mark for each vertex, that of vertex v at place v - 1: true if it has something to turn, and all its
+/// angles that are not given lie in faces that `faces` marks; `AllocError` if there is no memory for them. It goes over
+/// all darts of the plane for each vertex.
 fn vertex_marks(
     alloc: Global,
     plane: &Plane,
@@ -97,8 +100,8 @@ fn vertex_marks(
     Ok(marks)
 }
 
-/// Whether a vertex has something to turn, and all its angles that are not given lie in marked faces. It goes over all
-/// darts of the plane.
+/// Whether the vertex `vertex`, numbered from 1, has something to turn, and all its angles that are not given lie in
+/// faces that `faces` marks. It goes over all darts of the plane.
 fn lies_in_cut(plane: &Plane, given: &Given<'_>, faces: &[bool], vertex: u16) -> bool
     requires some { 0 < vertex }
     requires within { vertex ≤ vertices plane.now }
@@ -112,7 +115,8 @@ fn lies_in_cut(plane: &Plane, given: &Given<'_>, faces: &[bool], vertex: u16) ->
     has_faces_in(plane, given, faces, vertex)
 }
 
-/// Whether all faces at a vertex are marked in which its angle is not given. It looks at all darts of the plane.
+/// Whether `faces` marks each face in which the vertex `vertex` has an angle that is not given; true if there is no
+/// such angle. It looks at all darts of the plane.
 fn has_faces_in(plane: &Plane, given: &Given<'_>, faces: &[bool], vertex: u16) -> bool
     ensures inside { result ≡ true → HasFacesIn plane.now given.now faces.now vertex }
     ensures outside { result ≡ false → HasFaceOut plane.now given.now faces.now vertex }
@@ -127,7 +131,7 @@ fn has_faces_in(plane: &Plane, given: &Given<'_>, faces: &[bool], vertex: u16) -
     true
 }
 
-/// If a set of vertices and faces turns more than can leave it, no representation keeps what is given.
+/// Theorem: if a set of vertices and faces turns more than can leave it, no representation keeps what is given.
 pub fn cut_shows_none()
     ensures { (p : PlaneModel) (given : GivenModel) (vertices faces : List Bool) → IsPlane p → ShowsNone p given vertices faces → HasNoneKeeping p given }
 {}
@@ -164,6 +168,7 @@ impl From<AllocError> for KeepFault {
 
     ghost from_gives = { λ _ fault. fault ≡ Memory };
 
+    /// The fault `Memory`, in place of a refused allocation.
     fn from(_refused: AllocError) -> KeepFault {
         KeepFault::Memory
     }

@@ -38,7 +38,8 @@ impl Model for Boxes {
 }
 
 impl Boxes {
-    /// The boxes that a table holds, for a plane with `old` vertices, these lesser darts and their paths.
+    /// The boxes that `table` holds, for a plane with `old` vertices; `edges` has the lesser darts of the plane's
+    /// edges, and `paths` the darts that make up each of these edges. All are moved into the boxes.
     pub(crate) fn of(table: DartTable, old: u16, edges: Vec<u16>, paths: FlatLists<u32>) -> Boxes
         requires { AreBoxes (parts_of table old edges.items paths) }
         ensures { result ≡ parts_of table old edges.items paths }
@@ -51,7 +52,8 @@ impl Boxes {
         }
     }
 
-    /// Consumes the boxes, and moves the buffers of their lists to a scratch in place of those of the same lists there.
+    /// Consumes the boxes, and moves the buffers of their lists to `scratch` in place of those of the same lists there,
+    /// which are freed.
     pub fn give_back(self, scratch: &mut Scratch) {
         let (darts, starts) = self.paths.into_parts();
         scratch.table = self.table;
@@ -68,7 +70,8 @@ impl Boxes {
         self.table.vertices
     }
 
-    /// The number of darts of the boxes: twice the number of their edges, but not of the plane's, which `edges` counts.
+    /// The number of darts of the boxes: two for each edge of the boxes. The plane's edges are fewer; `edges` counts
+    /// those.
     pub fn darts(&self) -> u32
         ensures value { result ≡ self.now.darts }
         ensures boxes { AreBoxes self.now }
@@ -76,7 +79,7 @@ impl Boxes {
         self.table.darts
     }
 
-    /// The vertex that a dart comes from.
+    /// The vertex of the boxes, numbered from 0, from which a dart starts.
     pub fn tail(&self, dart: u32) -> u32
         requires { dart < self.now.darts }
         ensures value { result ≡ (dart_map self.now).head ((dart_map self.now).reverse_dart dart) }
@@ -85,7 +88,7 @@ impl Boxes {
         self.table.head[self.table.reverse_dart[dart as usize] as usize]
     }
 
-    /// The vertex that a dart goes to.
+    /// The vertex of the boxes, numbered from 0, at which a dart ends.
     pub fn head(&self, dart: u32) -> u32
         requires { dart < self.now.darts }
         ensures value { result ≡ (dart_map self.now).head dart }
@@ -94,7 +97,7 @@ impl Boxes {
         self.table.head[dart as usize]
     }
 
-    /// The dart along the same edge in the other direction.
+    /// The number of the dart along the same edge of the boxes in the other direction.
     pub fn reverse(&self, dart: u32) -> u32
         requires { dart < self.now.darts }
         ensures value { result ≡ (dart_map self.now).reverse_dart dart }
@@ -103,7 +106,7 @@ impl Boxes {
         self.table.reverse_dart[dart as usize]
     }
 
-    /// The next dart of the face on the left of this one.
+    /// The number of the dart that follows this one on the walk round the face on its left.
     pub fn next(&self, dart: u32) -> u32
         requires { dart < self.now.darts }
         ensures value { result ≡ (dart_map self.now).next dart }
@@ -112,7 +115,7 @@ impl Boxes {
         self.table.next[dart as usize]
     }
 
-    /// The direction in which a dart runs.
+    /// The direction in which a dart runs from its tail to its head; edges of the boxes are straight.
     pub fn direction(&self, dart: u32) -> Direction
         requires { dart < self.now.darts }
         ensures value { quarters result ≡ (dart_map self.now).direction dart }
@@ -121,9 +124,8 @@ impl Boxes {
         Direction::from_quarters(self.table.direction[dart as usize])
     }
 
-    /// The head of each dart, by number.
-    ///
-    /// The slice may be longer than the number of darts.
+    /// The head of each dart, a vertex of the boxes numbered from 0, at the place of the dart's number. The slice may
+    /// be longer than the number of darts; the items after them mean nothing.
     pub fn heads(&self) -> &[u32]
         ensures value { result.now ≡ self.now.head }
         ensures count { self.now.darts ≤ length result.now }
@@ -132,9 +134,8 @@ impl Boxes {
         self.table.head.as_slice()
     }
 
-    /// The reverse of each dart, by number.
-    ///
-    /// The slice may be longer than the number of darts.
+    /// The number of the reverse of each dart, at the place of the dart's own number. The slice may be longer than the
+    /// number of darts; the items after them mean nothing.
     pub fn reverse_darts(&self) -> &[u32]
         ensures value { result.now ≡ self.now.reverse_dart }
         ensures count { self.now.darts ≤ length result.now }
@@ -142,9 +143,8 @@ impl Boxes {
         self.table.reverse_dart.as_slice()
     }
 
-    /// The direction of each dart, by number, in quarter turns to the left from east.
-    ///
-    /// The slice may be longer than the number of darts.
+    /// The direction of each dart, at the place of the dart's number, in quarter turns to the left from east, 0 to 3.
+    /// The slice may be longer than the number of darts; the items after them mean nothing.
     pub fn directions(&self) -> &[u8]
         ensures value { result.now ≡ self.now.direction }
         ensures count { self.now.darts ≤ length result.now }
@@ -152,7 +152,8 @@ impl Boxes {
         self.table.direction.as_slice()
     }
 
-    /// The previous dart along the same edge of the plane, side, bridge or cut, or `None` for the first one.
+    /// The number of the previous dart along the same edge of the plane, side, bridge or cut; `None` if the dart is the
+    /// first one there.
     ///
     /// A side is one of the rectangle, and its bridge connects it to the plane.
     pub fn before(&self, dart: u32) -> Option<u32>
@@ -166,7 +167,7 @@ impl Boxes {
         if front == NO_DART { None } else { Some(front) }
     }
 
-    /// The number of vertices of the plane.
+    /// The number of vertices of the plane, without those that the boxes have besides.
     pub fn old_vertices(&self) -> u16
         ensures value { result ≡ self.now.old }
         ensures inside { result ≤ self.now.vertices }
@@ -174,7 +175,7 @@ impl Boxes {
         self.old
     }
 
-    /// The vertex of the boxes that is this vertex of the plane, where vertices are numbered from 1.
+    /// The vertex of the boxes, numbered from 0, that is this vertex of the plane, numbered from 1: `vertex` - 1.
     pub fn old(&self, vertex: u16) -> u32
         requires from { 1 ≤ vertex }
         requires to { vertex ≤ self.now.old }
@@ -186,7 +187,7 @@ impl Boxes {
         u32::from(vertex) - 1
     }
 
-    /// The number of edges of the plane.
+    /// The number of edges of the plane, not of the boxes.
     pub fn edges(&self) -> u16
         ensures value { result ≡ length self.now.edges }
         ensures boxes { AreBoxes self.now }
@@ -194,7 +195,8 @@ impl Boxes {
         self.edges.len() as u16
     }
 
-    /// The darts that make up an edge of the plane, in order along its lesser dart.
+    /// The darts of the boxes, at least one, that make up this edge of the plane, numbered from 0, in walking order
+    /// along its lesser dart, which is the last of them.
     pub fn path(&self, edge: u16) -> &[u32]
         requires { edge < length self.now.edges }
         ensures path { IsEdgePath self.now edge result.now }

@@ -66,7 +66,7 @@ pub struct DirectionSearch {
 }
 
 impl DirectionSearch {
-    /// A search that has found nothing. It allocates nothing.
+    /// A search with no darts and no directions. It allocates nothing.
     pub fn empty(alloc: Global) -> DirectionSearch
         ensures { result.directions.items ≡ [] }
     {
@@ -76,7 +76,8 @@ impl DirectionSearch {
         }
     }
 
-    /// Consumes the search, and returns one in its buffers in which none of `darts` darts has a direction yet.
+    /// Consumes the search, and returns one in its buffers in which none of `darts` darts has a direction yet, and none
+    /// waits. `AllocError` if there is no memory; the buffers are then gone.
     fn begun(self, darts: usize) -> Result<DirectionSearch, AllocError>
         ensures unset { IfOk result (λ s. s.directions.items ≡ replicate darts NO_DIRECTION) }
         ensures waiting { IfOk result (λ s. s.waiting.items ≡ []) }
@@ -87,7 +88,9 @@ impl DirectionSearch {
         })
     }
 
-    /// Gives a dart this direction and pushes it on the stack of waiting darts, unless it has a direction already.
+    /// Gives a dart this direction, 0 to 3 quarter turns to the left from east, and pushes the dart on the stack of
+    /// waiting darts; nothing changes if it has a direction already. `AllocError` if the stack needs memory and there
+    /// is none; the dart then has the direction, but does not wait.
     fn reach(&mut self, dart: u16, direction: u8) -> Result<(), AllocError>
         requires { dart < vec_len self.old.directions }
         ensures { OnOk result (IsGivenDirection self.old.directions.items self.old.waiting.items dart direction
@@ -101,7 +104,8 @@ impl DirectionSearch {
     }
 }
 
-/// The direction of the dart that arrives next clockwise at the head of a dart with this direction and angle.
+/// The direction of the dart that arrives next clockwise at the head of a dart with this direction and angle:
+/// `direction` less `angle` quarter turns. Directions are 0 to 3 quarter turns to the left from east.
 fn clockwise_direction(direction: u8, angle: u8) -> u8
     requires quarter { direction < 4 }
     requires right { angle ≤ 4 }
@@ -111,7 +115,8 @@ fn clockwise_direction(direction: u8, angle: u8) -> u8
     (direction + 4 - angle) % 4
 }
 
-/// The direction of the reverse of a dart with this direction and these turns.
+/// The direction in which the reverse of a dart arrives at its head, if the dart arrives in `direction` and makes these
+/// turns in walking order. Directions are 0 to 3 quarter turns to the left from east.
 fn reverse_direction(direction: u8, turns: &[Turn]) -> u8
     requires { length turns.now ≤ MAX_TURNS }
     ensures quarter { result < 4 }
@@ -123,7 +128,9 @@ fn reverse_direction(direction: u8, turns: &[Turn]) -> u8
     ((usize::from(direction) + 2 + rights + 3 * lefts) % 4) as u8
 }
 
-/// Finds the direction of each dart of an orthogonal representation; in the result, `directions[d]` is that of dart d.
+/// Finds the direction in which each dart of an orthogonal representation arrives at its head; in the result,
+/// `directions[d]` is that of dart d, 0 to 3 quarter turns to the left from east. It consumes `search` and reuses its
+/// buffers. `AllocError` if there is no memory; these buffers are then gone.
 ///
 /// The direction of a dart is that in which it arrives at its head, in quarter turns to the left from east: 0 is east,
 /// 1 north, 2 west and 3 south. Dart 0 arrives to the east. Linear in the darts and the turns. It reuses the buffers of
@@ -157,8 +164,10 @@ pub fn directions_in(
     Ok(search)
 }
 
-/// Appends to a list the darts of the path that ends with a dart, in walking order. Linear in
-/// them.
+/// Appends to `darts` the darts of the path that ends with the dart `last`, in walking order, `last` included.
+/// `AllocError` if there is no memory; some of them may then be appended, in the wrong order.
+///
+/// Linear in the darts of the path.
 fn push_path(darts: &mut Vec<u32>, table: &DartTable, last: u32) -> Result<(), AllocError>
     requires path { (first : ℕ) × (rest : List ℕ) × IsPath (dart_map_of table.now) last first rest }
     ensures { OnOk result ((first : ℕ) (rest : List ℕ) → IsPath (dart_map_of table.now) last first rest
@@ -175,9 +184,11 @@ fn push_path(darts: &mut Vec<u32>, table: &DartTable, last: u32) -> Result<(), A
     Ok(())
 }
 
-/// The paths of edges, each the list of the darts that make it up. Each edge is given by its last dart.
+/// The paths of edges, each the list of the darts that make it up, in walking order; path k is that of the edge whose
+/// last dart is item k of `edges`. They are in the buffers of `darts` and `starts`. `AllocError` if there is no memory;
+/// both buffers are then gone.
 ///
-/// It reuses the buffers of `darts` and `starts`. Linear in the darts of the paths.
+/// Linear in the darts of the paths.
 pub fn paths_of(
     table: &DartTable,
     edges: &[u16],
@@ -201,7 +212,8 @@ pub fn paths_of(
     Ok(FlatLists::new(darts, starts))
 }
 
-/// The dissection of an orthogonal representation of a plane into boxes.
+/// The dissection of an orthogonal representation of a plane into boxes. `AllocError` if there is no memory for the
+/// boxes, or if their table needs room for 2^32 darts or more.
 ///
 /// Each dart is given a direction, each edge is subdivided at its turns, a rectangle is put round the whole and
 /// connected to it at a right turn of the outer face, and each face is cut at its right turns until all are boxes
@@ -210,8 +222,8 @@ pub fn paths_of(
 ///
 /// # Errors
 ///
-/// `AllocError` if there is no memory for the boxes, or their table needs room for 2^32 darts or more (over 1,431,000,000
-/// turns in all); there is no other error.
+/// `AllocError` if there is no memory for the boxes, or their table needs room for 2^32 darts or more (over
+/// 1,431,000,000 turns in all); there is no other error.
 pub fn dissect(alloc: Global, plane: &Plane, shape: &Shape) -> Result<Boxes, AllocError>
     requires { IsShape plane.now shape.now }
     ensures { IfOk result (IsBoxed plane.now shape.now) }
@@ -220,9 +232,9 @@ pub fn dissect(alloc: Global, plane: &Plane, shape: &Shape) -> Result<Boxes, All
     dissect_in(alloc, &mut scratch, plane, shape)
 }
 
-/// The dissection of an orthogonal representation into boxes, exactly as [`dissect`]; reuses the caller's scratch.
-///
-/// The boxes take their buffers from it, and `Boxes::give_back` returns them; it allocates only if they are too small.
+/// The dissection of an orthogonal representation into boxes, exactly as [`dissect`], but the boxes take buffers from
+/// `scratch`, and `Boxes::give_back` returns those. It allocates only if the buffers are too small. `AllocError` as
+/// [`dissect`]; the buffers of `scratch` may then be gone.
 ///
 /// # Errors
 ///
@@ -243,9 +255,9 @@ pub fn dissect_in(
     Ok(boxes)
 }
 
-/// The dissection of an orthogonal representation into boxes, given the directions of its darts.
-///
-/// The directions are those that `directions_in` finds. It reuses the caller's scratch, as [`dissect_in`].
+/// The dissection of an orthogonal representation into boxes, given the directions of its darts, as `directions_in`
+/// finds them. The boxes take buffers from `scratch`, as in [`dissect_in`]. `AllocError` as [`dissect`]; the buffers of
+/// `scratch` are then gone.
 ///
 /// # Errors
 ///

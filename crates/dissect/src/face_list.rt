@@ -11,7 +11,8 @@ use crate::table::DartTable;
 use common::{emptied, filled};
 use std::alloc::{AllocError, Global};
 
-/// The first right turn on the walk round a face from `outer` on; the walk must turn to the right somewhere.
+/// The first dart, on the walk round its face from the dart `outer` on, `outer` included, at whose head the walk turns
+/// to the right: the angle there is over two right angles. The walk must turn to the right somewhere.
 ///
 /// Linear in the darts of the face.
 pub fn find_right(table: &DartTable, outer: u32) -> u32
@@ -32,8 +33,8 @@ pub fn find_right(table: &DartTable, outer: u32) -> u32
     dart
 }
 
-/// Appends a dart to `corners`, which must have room, unless its angle is straight (2). It is appended in any case and
-/// removed again if straight, which only changes the length: a branch could not be predicted.
+/// Appends `dart` to `corners`, which must have room for one more, unless `angle` is 2, which is straight. The dart is
+/// appended in any case and removed again if straight, which only changes the length: a branch could not be predicted.
 fn push_corner(corners: &mut Vec<u32>, dart: u32, angle: u8)
     requires { vec_len corners.old < vec_capacity corners.old }
     ensures put { ((angle ≢ 2) × (corners.new.items ≡ corners.old.items ++ (dart ∷ [])))
@@ -47,9 +48,9 @@ fn push_corner(corners: &mut Vec<u32>, dart: u32, angle: u8)
     }
 }
 
-/// Walks once round the face of `start`, marks its darts as seen, and appends its corners to the list.
-///
-/// `start` comes last if it is a corner.
+/// Walks once round the face of the dart `start`: sets the items of its darts in `seen` to true, and appends its
+/// corners, the darts whose angle is not straight, in walking order to `corners`; `start` comes last if it is a corner.
+/// `AllocError` if there is no memory for `corners`; `seen` and `corners` are then unchanged.
 pub fn walk(
     table: &DartTable,
     start: u32,
@@ -104,14 +105,17 @@ impl Faces {
     }
 }
 
-/// How many faces a connected map has, by Euler's formula. Only how much room is made for them rests on it.
+/// How many faces the map of `table` has if it is connected, by Euler's formula. Only how much room is made for them
+/// rests on it.
 fn face_count(table: &DartTable) -> usize {
     (table.darts / 2 + 2).saturating_sub(table.vertices) as usize
 }
 
-/// Lists the corners of all faces, in the buffers of `faces`.
+/// Lists the corners of all faces, in the buffers of `faces`: in `outer` those of the face of the right turn `right`,
+/// which comes last; in `corners` those of the other faces, one face after another, and in `counts` how many each has.
+/// `AllocError` if there is no memory; `faces` is then gone.
 ///
-/// The outer face is that of the right turn `right`, with which its corners end. Linear in the darts.
+/// Linear in the darts.
 pub fn list_faces(table: &DartTable, right: u32, faces: Faces) -> Result<Faces, AllocError>
     requires tied { IsTied (dart_map_of table.now) }
     requires inside { right < table.now.darts }
@@ -144,7 +148,8 @@ pub fn list_faces(table: &DartTable, right: u32, faces: Faces) -> Result<Faces, 
 }
 
 /// Appends to `faces` the corners of the face into which a cut will merge the outer face and the inside of the
-/// rectangle. The table has neither the cut nor the rectangle yet.
+/// rectangle, neither of which `table` has yet, and their number. Removes `right` from the corners in `faces.outer` if
+/// its angle is 3. `AllocError` if there is no memory; `faces` may then have a part of them.
 ///
 /// The cut leads from `right` to the side `side`. After `right` it goes along the cut, round the inside of the
 /// rectangle and back. `right` stays one of its corners unless the cut leaves it straight.

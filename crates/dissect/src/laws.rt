@@ -9,28 +9,28 @@ ghost use Rattle.dissect.specs.Directions.{AreDirections};
 ghost use Rattle.dissect.specs.Paths.{HasPaths, IsConnected, IsPath, turn_to};
 ghost use Rattle.dissect.specs.Surrounds.{IsEnclosed};
 
-/// Cuts keep the map sound.
+/// Theorem: cuts keep the map sound.
 pub fn cuts_stay_sound()
     ensures { (w new : DartMap) → IsSound w → IsCutUp w new → IsSound new }
 {}
 
-/// If the walk on from each dart reaches a corner, it still does after cuts.
+/// Theorem: if in a sound map the walk on from each dart reaches a corner, it still does after cuts.
 pub fn cuts_reach_corners()
     ensures { (w new : DartMap) → IsSound w → IsCutUp w new → ReachesCorners w → ReachesCorners new }
 {}
 
-/// Each cut adds one vertex and removes one right turn.
+/// Theorem: each cut adds one vertex and removes one right turn, so their sum stays the same.
 pub fn cuts_use_right_turns()
     ensures { (w new : DartMap) → IsCutUp w new → new.vertices + reflex_turns new ≡ w.vertices + reflex_turns w }
 {}
 
-/// For each orthogonal representation of a plane there are directions of its darts.
+/// Theorem: for each orthogonal representation of a plane there are directions of its darts.
 pub fn directions_exist()
     ensures { (p : PlaneModel) (a : ℕ → ℕ) (s : ℕ → List Turn) → IsPlane p → Rep p a s
         → (h : ℕ → ℕ) × AreDirections p a s h }
 {}
 
-/// If no dart precedes another on an edge, each dart is the path of an edge without turns.
+/// Theorem: if no dart precedes another on an edge, each dart is the path of an edge without turns.
 pub fn darts_are_paths()
     ensures { (w : DartMap) (n : ℕ) (reverse_dart : ℕ → ℕ) → w.darts ≡ n
         → ((a : ℕ) → a < n → w.before a ≡ no_dart)
@@ -38,14 +38,14 @@ pub fn darts_are_paths()
         → HasPaths w n reverse_dart (λ _. []) }
 {}
 
-/// A subdivision that does not turn keeps the turns of each edge.
+/// Theorem: a subdivision that does not turn keeps the turns of each edge.
 pub fn subdivisions_keep_paths()
     ensures { (w : DartMap) (e way : ℕ) (new : DartMap) (n : ℕ) (reverse_dart : ℕ → ℕ) (quarters : ℕ → List ℕ)
         → IsTied w → e < w.darts → way < 4 → IsSubdivided w e way 2 new
         → HasPaths w n reverse_dart quarters → HasPaths new n reverse_dart quarters }
 {}
 
-/// A subdivision that turns appends a turn to the edge of `e`, and changes no other edge.
+/// Theorem: a subdivision that turns appends a turn to the edge of `e`, and changes no other edge.
 ///
 /// The way back gets the opposite turn as its first.
 pub fn bends_turn_paths()
@@ -58,43 +58,44 @@ pub fn bends_turn_paths()
         → HasPaths w n reverse_dart quarters → HasPaths new n reverse_dart turned }
 {}
 
-/// Cuts keep the turns of each edge.
+/// Theorem: cuts keep the turns of each edge.
 pub fn cuts_keep_paths()
     ensures { (w new : DartMap) (n : ℕ) (reverse_dart : ℕ → ℕ) (quarters : ℕ → List ℕ) → IsSound w → IsCutUp w new
         → HasPaths w n reverse_dart quarters → HasPaths new n reverse_dart quarters }
 {}
 
-/// A rectangle round the map, its bridge and the cuts after it keep the turns of each edge.
+/// Theorem: a rectangle round the map, its bridge and the cuts after it keep the turns of each edge.
 pub fn rectangles_keep_paths()
     ensures { (w : DartMap) (outer : ℕ) (new : DartMap) (n : ℕ) (reverse_dart : ℕ → ℕ) (quarters : ℕ → List ℕ) → IsSound w
         → IsEnclosed w outer new
         → HasPaths w n reverse_dart quarters → HasPaths new n reverse_dart quarters }
 {}
 
-/// A subdivision of an edge leaves a connected map connected.
+/// Theorem: a subdivision of an edge leaves a connected map connected.
 pub fn subdivisions_stay_connected()
     ensures { (w : DartMap) (e way left_angle : ℕ) (new : DartMap) → IsTied w → e < w.darts → IsSubdivided w e way left_angle new
         → IsConnected w → IsConnected new }
 {}
 
-/// Cuts leave a connected map connected.
+/// Theorem: cuts leave a connected map connected.
 pub fn cuts_stay_connected()
     ensures { (w new : DartMap) → IsSound w → IsCutUp w new → IsConnected w → IsConnected new }
 {}
 
-/// Enclosing a connected map in a rectangle, with a bridge and cuts, leaves it connected.
+/// Theorem: enclosing a connected map in a rectangle, with a bridge and cuts, leaves it connected.
 pub fn rectangles_stay_connected()
     ensures { (w : DartMap) (outer : ℕ) (new : DartMap) → IsSound w → IsEnclosed w outer new → IsConnected w → IsConnected new }
 {}
 
-/// The path to a dart is unique, has no dart twice, and has no more darts than the map.
+/// Theorem: the path to a dart is unique, has no dart twice, and has no more darts than the map.
 pub fn paths_are_unique()
     ensures { (w : DartMap) (end first : ℕ) (rest : List ℕ) → w.darts ≤ no_dart → IsPath w end first rest
         → (Distinct (first ∷ rest)) × (length rest < w.darts)
         × ((other : ℕ) (others : List ℕ) → IsPath w end other others → (first ≡ other) × (rest ≡ others)) }
 {}
 
-/// From one dart of a path to the next one the direction changes by the turn between them.
+/// Theorem: from a dart to any other the direction changes by the turn between them; so it does from one dart of a path
+/// to the next one.
 pub fn paths_turn()
     ensures { (w : DartMap) (a b : ℕ) → IsSound w → a < w.darts → b < w.darts
         → w.direction b ≡ (w.direction a + turn_to w a b) % 4 }

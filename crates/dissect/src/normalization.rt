@@ -24,7 +24,7 @@ use faces::Plane;
 use ortho_rep::{Shape, Turn};
 use std::alloc::{AllocError, Global};
 
-/// The angle on the left of a walk that makes this turn, in right angles.
+/// The angle on the left of a walk that makes this turn, in right angles: 1 for a left turn, 3 for a right turn.
 fn angle_of(turn: Turn) -> u8
     ensures { result ≡ angle_of turn }
 {
@@ -34,7 +34,10 @@ fn angle_of(turn: Turn) -> u8
     }
 }
 
-/// Subdivides the edge of the dart `e` at each of these turns, in walking order. Constant time for a turn.
+/// Subdivides in `table` the edge of the dart `e` by a new vertex for each of these turns, in walking order; `e` stays
+/// the last part of the walk. `table` must have room for two more darts for each turn, so it does not grow.
+///
+/// Constant time for a turn.
 pub fn bend_edge(table: &mut DartTable, e: u32, turns: &[Turn])
     requires tied { IsTied (dart_map_of table.old) }
     requires meeting { IsMeeting (dart_map_of table.old) }
@@ -53,7 +56,8 @@ pub fn bend_edge(table: &mut DartTable, e: u32, turns: &[Turn])
     }
 }
 
-/// The lesser dart of each edge, in order; reuses the buffer of `edges`.
+/// The lesser dart of each edge of `plane`, in ascending order, in the buffer of `edges`. `AllocError` if there is no
+/// memory; `edges` is then gone.
 pub fn lesser_darts_of(plane: &Plane, edges: Vec<u16>) -> Result<Vec<u16>, AllocError>
     ensures { IfOk result (λ edges. edges.items ≡ lesser_darts plane.now) }
 {
@@ -65,7 +69,8 @@ pub fn lesser_darts_of(plane: &Plane, edges: Vec<u16>) -> Result<Vec<u16>, Alloc
     Ok(edges)
 }
 
-/// The number of darts for which the table of a shape needs room.
+/// The number of darts for which the table of a shape needs room. `AllocError` exactly if they are 2^32 or more: no
+/// table has room for so many. It allocates nothing.
 ///
 /// These are the plane's darts, two for each bend, four for each right turn, of which there are at most two for each
 /// vertex and one for each bend, and `RECTANGLE_ROOM` for a rectangle round it. A bend is two turns here, one of each
@@ -88,9 +93,10 @@ pub fn room_for(plane: &Plane, shape: &Shape) -> Result<u32, AllocError>
     }
 }
 
-/// A table of `darts` darts and `vertices` vertices, not written yet, with room for at least `places` darts.
+/// A table of `darts` darts and `vertices` vertices, whose items mean nothing yet, with room for at least `places`
+/// darts, in the buffers of `table`. `AllocError` if they are too short and there is no memory; `table` is then gone.
 ///
-/// It reuses the buffers of `table`, and fills its lists anew only if they are too short.
+/// The lists are filled anew only if they are too short.
 fn blank_table(
     table: DartTable,
     darts: u32,
@@ -128,7 +134,8 @@ fn blank_table(
     })
 }
 
-/// Writes the directions of the first darts.
+/// Writes `directions`, in the order of darts from 0 on, over the first items of the list of directions in `table`,
+/// which must be long enough. Nothing else of `table` changes.
 fn put_directions(table: &mut DartTable, directions: &[u8])
     requires inside { length directions.now ≤ room table.old }
     ensures here { (k : ℕ) → k < length directions.now
@@ -140,8 +147,9 @@ fn put_directions(table: &mut DartTable, directions: &[u8])
     table.direction[0..directions.len()].copy_from_slice(directions);
 }
 
-/// Writes the next dart, reverse, head and angle of a dart of the plane to the table, with no dart before it on its
-/// edge, and makes it the previous dart of its next. Its direction and its own previous dart are not written.
+/// Writes to `table` the next dart, reverse, head and angle of the dart `dart` of the plane, and `NO_DART` as the dart
+/// before it on its edge, and makes it the previous dart of its next. Its direction and its own previous dart are not
+/// written.
 fn write_dart(table: &mut DartTable, plane: &Plane, shape: &Shape, dart: u16)
     requires within { dart < darts plane.now }
     requires space { darts plane.now ≤ room table.old }
@@ -169,10 +177,10 @@ fn write_dart(table: &mut DartTable, plane: &Plane, shape: &Shape, dart: u16)
     table.angle[place] = shape.angle(dart);
 }
 
-/// The table of a plane's darts with these directions and the angles of the shape.
+/// The table of a plane's darts with these directions and the angles of the shape, but without bends, with room for at
+/// least `places` darts, in the buffers of `table`. `AllocError` if there is no memory; `table` is then gone.
 ///
-/// It has room for at least `places` darts, and reuses the buffers of `table`. Linear in the darts; if the buffers are
-/// too small, an allocation for each, and time linear in their places.
+/// Linear in the darts; if the buffers are too small, an allocation for each, and time linear in their places.
 pub fn bare_table(
     table: DartTable,
     plane: &Plane,
@@ -199,7 +207,8 @@ pub fn bare_table(
 }
 
 /// Returns the map of a plane with a vertex at each bend, so that each edge is straight, in the buffers of `table`.
-/// `directions` must be those of the shape.
+/// `directions` must be those of the shape, and `edges` the lesser darts. `AllocError` if there is no memory for the
+/// table, or it needs room for 2^32 darts or more; `table` is then gone.
 ///
 /// The table has the map's darts and vertices, with room for a rectangle round it and for cuts at all right turns.
 /// `edges` has the lesser darts of the edges.
@@ -212,7 +221,8 @@ pub fn bare_table(
 ///
 /// # Errors
 ///
-/// `AllocError` if there is no memory for the table, whose buffers are then gone, or it needs room for 2^32 darts or more.
+/// `AllocError` if there is no memory for the table, or it needs room for 2^32 darts or more; the buffers of `table`
+/// are then gone.
 pub fn normalize_into(
     table: DartTable,
     plane: &Plane,

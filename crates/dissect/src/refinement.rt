@@ -22,10 +22,10 @@ use std::alloc::{AllocError, Global};
 /// How many corners a box has.
 const BOX_CORNERS: usize = 4;
 
-/// Cuts across a face by a new edge from the head of the dart `d`, a right turn, to the edge that follows the dart `c`.
+/// Cuts across a face of `table` by a new edge, from the head of the dart `d`, a right turn, to a new vertex on the
+/// edge of the dart that follows the dart `c`. `table` must have room for four more darts, so it does not grow.
 ///
-/// The new edge ends at a new vertex on that edge, and leaves one right angle on its left. The table needs room for
-/// four more darts. Constant time.
+/// The new edge leaves one right angle on its left. Constant time.
 pub fn cut_across(table: &mut DartTable, d: u32, c: u32)
     requires sound { IsSound (dart_map_of table.old) }
     requires can { CanCut (dart_map_of table.old) d c }
@@ -60,8 +60,9 @@ fn has_hook(table: &DartTable, ring: &[u32], height: usize) -> bool
     right > below + top
 }
 
-/// Pushes the corner at `read` on the stack, the first `height` corners of `ring`, and returns the new height. While
-/// the top of the stack is two left turns on a right turn, it cuts there: adds an edge to the table, and pops corners.
+/// Pushes the corner at the place `read` of `ring` on the stack, the first `height` items of `ring`, and returns the
+/// new height. While the top of the stack is two left turns on a right turn, it cuts there: adds an edge to `table`,
+/// which must have room, and puts it in place of the left turns, and of the right turn if that is straight now.
 fn read_corner(table: &mut DartTable, ring: &mut [u32], height: usize, read: usize) -> usize
     requires more { read < length ring.old }
     requires reading { let face = down (tops ring.old height) (drop read ring.old) in
@@ -88,8 +89,8 @@ fn read_corner(table: &mut DartTable, ring: &mut [u32], height: usize, read: usi
     height
 }
 
-/// The first place of `ring`, or its length, before which the walk along the corners has turned left the most. It
-/// tracks by how many quarter turns the walk falls short of its maximum so far.
+/// The first place in `ring`, 0 to its length, before which the walk along the corners has turned left the most in all;
+/// `angle` has the angle of each dart. It tracks by how many quarter turns the walk falls short of its maximum so far.
 fn peak(angle: &[u8], ring: &[u32]) -> usize
     requires inside { All (λ a. a < length angle.now) ring.now }
     requires small { All (λ a. slice_index angle.now a ≤ 4) ring.now }
@@ -110,8 +111,8 @@ fn peak(angle: &[u8], ring: &[u32]) -> usize
     best
 }
 
-/// Rotates `ring` so that the corner at `start` comes first; if `start` is its length, as most often, nothing changes.
-/// (`rotate_left` clears 4 KB at each call.)
+/// Rotates `ring` so that the corner at the place `start` comes first; nothing changes if `start` is 0 or, as most
+/// often, the length of `ring`. (`rotate_left` clears 4 KB at each call.)
 fn start_at(ring: &mut [u32], start: usize)
     requires { start ≤ length ring.old }
     ensures after { ring.new ≡ drop start ring.old ++ take start ring.old }
@@ -124,8 +125,11 @@ fn start_at(ring: &mut [u32], start: usize)
     ring.reverse();
 }
 
-/// Cuts the face with the corners `ring` into boxes by new edges, for which the table must have room; `ring` is
-/// overwritten. Linear in its corners.
+/// Cuts the face with the corners `ring`, in walking order, into boxes by new edges in `table`, which must have room
+/// for them, so it does not grow. `ring` is overwritten: what remains there does not matter. A face of four corners is
+/// a box already, and nothing changes.
+///
+/// Linear in the corners.
 pub fn cut_face(table: &mut DartTable, ring: &mut [u32])
     requires sound { IsSound (dart_map_of table.old) }
     requires waiting { (o : ℕ) × (rs : List (List ℕ)) × AreWaiting (dart_map_of table.old) o (ring.old ∷ rs) }
@@ -148,11 +152,11 @@ pub fn cut_face(table: &mut DartTable, ring: &mut [u32])
     }
 }
 
-/// Cuts each face listed in `corners` into boxes, one after another, by new edges, for which the table must have room.
+/// Cuts each face listed in `corners` into boxes, one after another, by new edges in `table`, which must have room for
+/// them, so it does not grow. `corners` has the corners of each face in walking order, and `counts` how many each face
+/// has. `corners` is overwritten: what remains there does not matter.
 ///
-/// `corners` has the corners of each face in walking order, and `counts` their number for each face. What remains in
-/// `corners` does not matter. Each dart keeps the face of the plane in which it lies, and new edges divide none.
-/// Linear in the corners.
+/// Each dart keeps the face of the plane in which it lies, and new edges divide none. Linear in the corners.
 pub fn cut_faces(table: &mut DartTable, corners: &mut [u32], counts: &[u32])
     requires sound { IsSound (dart_map_of table.old) }
     requires waiting { (o : ℕ) × AreWaiting (dart_map_of table.old) o (slices_of corners.old counts.now) }
@@ -176,7 +180,7 @@ pub fn cut_faces(table: &mut DartTable, corners: &mut [u32], counts: &[u32])
     }
 }
 
-/// Writes the items over those from the place `start` on.
+/// Writes `items` over the items of `list` from the place `start` on. `list` must be long enough, and keeps its length.
 fn put_at<T: Copy>(list: &mut Vec<T>, start: usize, items: &[T])
     requires inside { start + length items.now ≤ vec_len list.old }
     ensures before { (d : T) (k : ℕ) → k < start → slice_index_or list.new.items k d ≡ slice_index_or list.old.items k d }
@@ -186,10 +190,11 @@ fn put_at<T: Copy>(list: &mut Vec<T>, start: usize, items: &[T])
     list[start..start + items.len()].copy_from_slice(items);
 }
 
-/// Adds a rectangle round the map, not yet connected to it.
+/// Adds to `table` a rectangle round the map, not yet connected to it: eight darts and four vertices, for which `table`
+/// must have room, so it does not grow.
 ///
-/// Its inside runs along the four new darts from `darts` on, to the east, north, west and south, and its outside along
-/// their reverses, the four after these. The table needs room for eight darts. Constant time.
+/// The rectangle's inside runs along the four new darts from `darts` on, to the east, north, west and south, and its
+/// outside along their reverses, the four after these. Constant time.
 pub fn surround(table: &mut DartTable)
     requires space { table.old.darts + 8 ≤ room table.old }
     ensures surrounded { IsSurrounded (dart_map_of table.old) (dart_map_of table.new) }
@@ -225,8 +230,8 @@ pub fn surround(table: &mut DartTable)
     table.vertices += 4;
 }
 
-/// The side of the rectangle that a cut from the right turn `right` goes to: 0 to 3 for that whose
-/// inside runs to the east, north, west and south.
+/// The side of the rectangle to which a cut from the right turn `right` goes: 0, 1, 2 or 3 for the side whose inside
+/// runs to the east, north, west or south.
 fn cut_side(table: &DartTable, right: u32) -> u32
     requires sound { IsSound (dart_map_of table.now) }
     requires inside { right < table.now.darts }
@@ -236,7 +241,9 @@ fn cut_side(table: &DartTable, right: u32) -> u32
     u32::from(table.direction[right as usize] + 4 - table.angle[right as usize]) % 4
 }
 
-/// Puts a rectangle round the map and cuts all faces into boxes; returns the buffers of `faces`.
+/// Puts a rectangle round the map in `table`, connects them and cuts all faces into boxes; returns the buffers of
+/// `faces`, whose contents do not matter. `table` must have room, so it does not grow. `AllocError` if there is no
+/// memory for the lists of faces; `table` is then unchanged, and `faces` is gone.
 ///
 /// The rectangle is connected to a right turn of the outer face, which is that of the dart `outer`. The table needs
 /// room for four darts for each right turn, and for `RECTANGLE_ROOM` more. Each dart keeps the face of the plane in

@@ -67,8 +67,8 @@ impl DartTable {
         }
     }
 
-    /// Subdivides the edge of the dart `e` by a new vertex, at which `e` and its old reverse then start. The table
-    /// needs room for two more darts.
+    /// Subdivides the edge of the dart `e` by a new vertex, at which `e` and its old reverse then start, and two new
+    /// darts end. The table must have room for two more darts, so it does not grow.
     ///
     /// At the new vertex the walk along `e` arrives in the direction `way` and has the angle `left_angle` on its left.
     pub fn subdivide(&mut self, e: u32, way: u8, left_angle: u8)
@@ -100,10 +100,10 @@ impl DartTable {
         self.vertices += 1;
     }
 
-    /// Connects the head of the dart `d` to the head of the dart `f` by a new edge, which leaves in the direction
-    /// `way`. The table needs room for two more darts.
+    /// Connects the head of the dart `d` to the head of the dart `f` by a new edge of two darts, which leaves the head
+    /// of `d` in the direction `way`. The table must have room for two more darts, so it does not grow.
     ///
-    /// The edge lies in the angles at the two heads.
+    /// The edge lies in the angles at the two heads, and takes one right angle from each.
     pub fn chord(&mut self, d: u32, f: u32, way: u8)
         requires tied { IsTied (dart_map_of self.old) }
         requires fits { HasChordAngles (dart_map_of self.old) d f way }
@@ -134,7 +134,8 @@ impl DartTable {
     }
 }
 
-/// Inserts the dart `new` before the dart `old` on its face.
+/// Inserts the dart `new` before the dart `old` on its face: writes the links in `next`, the next dart of each dart,
+/// and in `prev`, the previous one.
 pub fn put_before(next: &mut Vec<u32>, prev: &mut Vec<u32>, new: u32, old: u32)
     requires new_next { new < vec_len next.old }
     requires new_prev { new < vec_len prev.old }
@@ -154,7 +155,7 @@ pub fn put_before(next: &mut Vec<u32>, prev: &mut Vec<u32>, new: u32, old: u32)
     prev[old as usize] = new;
 }
 
-/// Makes `b` the dart that follows `a` on its face.
+/// Makes `b` the dart that follows `a` on its face: sets item `a` of `next` to `b`, and item `b` of `prev` to `a`.
 pub fn set_next(next: &mut Vec<u32>, prev: &mut Vec<u32>, a: u32, b: u32)
     requires a_in { a < vec_len next.old }
     requires b_in { b < vec_len prev.old }
@@ -167,7 +168,7 @@ pub fn set_next(next: &mut Vec<u32>, prev: &mut Vec<u32>, a: u32, b: u32)
     prev[b as usize] = a;
 }
 
-/// Makes two darts each other's reverses.
+/// Makes two darts each other's reverses: sets item `a` of `reverse_dart` to `b`, and item `b` to `a`.
 pub fn pair(reverse_dart: &mut Vec<u32>, a: u32, b: u32)
     requires a_in { a < vec_len reverse_dart.old }
     requires b_in { b < vec_len reverse_dart.old }
@@ -178,7 +179,8 @@ pub fn pair(reverse_dart: &mut Vec<u32>, a: u32, b: u32)
     reverse_dart[b as usize] = a;
 }
 
-/// Inserts the dart `new` before the dart `old` on its edge.
+/// Inserts the dart `new` before the dart `old` on its edge: in `before`, item `new` gets the item of `old`, and item
+/// `old` becomes `new`.
 pub fn take_over(before: &mut Vec<u32>, new: u32, old: u32)
     requires new_in { new < vec_len before.old }
     requires old_in { old < vec_len before.old }

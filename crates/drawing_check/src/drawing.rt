@@ -73,14 +73,14 @@ impl Model for Drawing {
 }
 
 impl Drawing {
-    /// The points of the drawing. It allocates nothing.
+    /// The points of the drawing, of vertices and of corners, unchanged. It allocates nothing.
     pub fn points(&self) -> &Points
         ensures { result.now ≡ self.now }
     {
         &self.points
     }
 
-    /// Returns the points of the drawing. It allocates nothing.
+    /// Consumes the drawing and returns its points. It allocates nothing.
     pub fn into_points(self) -> Points
         ensures { result ≡ self }
     {
@@ -88,7 +88,8 @@ impl Drawing {
     }
 }
 
-/// The points as a drawing, if they draw the shape; otherwise the first condition that fails, and the points unchanged.
+/// The points as a drawing, if they draw the shape; otherwise the first condition that fails, in the order of
+/// `CheckFault`, or `Memory` if memory runs out while all but the last hold, and, second, the points unchanged.
 ///
 /// The conditions are, in order: every coordinate is at most 65,535; consecutive points of an edge's path differ in
 /// exactly one coordinate; each edge has as many corners as turns, each corner turns as its string says, and at the
@@ -118,9 +119,8 @@ pub fn check(
     check_in(alloc, &mut scratch, plane, shape, points)
 }
 
-/// The points as a drawing, or the first condition that fails, exactly as [`check`]; reuses the caller's scratch.
-///
-/// It allocates only if the scratch is too small, and for the dictionary.
+/// The points as a drawing, or the first condition that fails, or `Memory`, with the points unchanged, exactly as
+/// [`check`]. It overwrites the buffers of `scratch`, and allocates only if they are too small, and for the dictionary.
 ///
 /// # Errors
 ///
@@ -143,8 +143,9 @@ pub fn check_in(
     }
 }
 
-/// The first condition that fails, or that memory ran out. The directions of darts are in a short list if that is
-/// enough, and the scratch is reused; `None` means that the points draw the shape.
+/// The first condition that fails, in the order of `CheckFault`, or `Memory` if memory runs out while all but the last
+/// hold; `None` if the points draw the shape. It overwrites the buffers of `scratch`. The directions of darts are in a
+/// short list if that is enough.
 fn find_fault(
     alloc: Global,
     scratch: &mut Scratch,
@@ -166,8 +167,9 @@ fn find_fault(
     first_fault(alloc, scratch, plane, shape, points, &mut directions)
 }
 
-/// The first condition that fails, or `Memory`, for a plane with more than `FEW_DARTS` darts; `None` if the points draw
-/// the shape. It is a function of its own, since a function pays at entry for the size of its lists.
+/// As `find_fault`, but with a list of directions long enough for any plane: the first condition that fails, or
+/// `Memory`, and `None` if the points draw the shape. It overwrites the buffers of `scratch`. It is a function of its
+/// own, since a function pays at entry for the size of its lists.
 #[inline(never)]
 fn fault_of_many(
     alloc: Global,
@@ -189,8 +191,9 @@ fn fault_of_many(
     first_fault(alloc, scratch, plane, shape, points, &mut directions)
 }
 
-/// The first condition that fails, or `Memory`; `None` if the points draw the shape. Reuses the scratch, and overwrites
-/// `directions` with the direction in which each dart leaves its tail.
+/// The first condition that fails, or `Memory` if memory runs out while all but the last hold; `None` if the points
+/// draw the shape. It overwrites the buffers of `scratch`, and `directions` with the direction in which each dart
+/// leaves its tail.
 fn first_fault(
     alloc: Global,
     scratch: &mut Scratch,

@@ -18,8 +18,8 @@ use geometry::{Direction, Rectangle};
 use ortho_rep::{Point, Points, Shape, Turn};
 use std::alloc::AllocError;
 
-/// Replaces the contents of `rectangles` by a rectangle of one point for each vertex, and reserves room for `edges`
-/// more.
+/// Replaces the items of `rectangles` by a rectangle of one point for each vertex, in the order of vertices, and
+/// reserves room for `edges` more. `AllocError` if there is no memory; `rectangles` is then empty.
 pub(crate) fn list_vertices(
     rectangles: &mut Vec<Rectangle>,
     points: &Points,
@@ -36,8 +36,8 @@ pub(crate) fn list_vertices(
     Ok(())
 }
 
-/// Adds what a path covers between its ends: a strip for each part, with the corner at its end, and none
-/// for a last part of one step.
+/// Appends to `rectangles` what a path covers between its ends: a strip for each part, in order, with the corner at its
+/// end, and none for a last part of one step. `AllocError` if there is no memory; the strips appended until then stay.
 pub(crate) fn add_route(
     rectangles: &mut Vec<Rectangle>,
     route: &Route<'_>,
@@ -52,7 +52,8 @@ pub(crate) fn add_route(
     add_last(rectangles, from, route.end)
 }
 
-/// Appends the rectangle that covers the last part of a path without its two ends; nothing if the part is one step.
+/// Appends to `rectangles` the rectangle that covers the last part of a path, from `from` to `end`, without these two
+/// points; nothing if the part is one step. `AllocError` if there is no memory; `rectangles` is then unchanged.
 pub(crate) fn add_last(
     rectangles: &mut Vec<Rectangle>,
     from: Point,
@@ -79,7 +80,7 @@ fn spanned(a: Point, b: Point) -> Rectangle
     }
 }
 
-/// The point that is one step from `from` on the way to `to`.
+/// The point that is one step from `from` on the way to `to`: each coordinate that differs changes by 1.
 fn first_step(from: Point, to: Point) -> Point
     ensures { result ≡ step_from from to 1 }
 {
@@ -125,7 +126,9 @@ pub(crate) fn both(one: bool, other: bool) -> bool
     one & other
 }
 
-/// Adds the rectangles of a path, if all before it are listed, and returns whether all are listed now.
+/// Appends the rectangles of a path to `rectangles` if `listed` says that those of all paths before it are there, and
+/// returns whether all are there now: false if `listed` is false, where nothing changes, or out of memory, where some
+/// may be appended.
 fn list_route(rectangles: &mut Vec<Rectangle>, listed: bool, route: &Route<'_>) -> bool
     ensures before { IsTrue result → IsTrue listed }
     ensures added { IsTrue result
@@ -134,7 +137,9 @@ fn list_route(rectangles: &mut Vec<Rectangle>, listed: bool, route: &Route<'_>) 
     listed && add_route(rectangles, route).is_ok()
 }
 
-/// Adds the rectangles of a path without corners, if all before it are listed, and returns whether all are listed now.
+/// Appends the rectangle of a path without corners, if it has one, to `rectangles` if `listed` says that those of all
+/// paths before it are there, and returns whether all are there now: false if `listed` is false or out of memory;
+/// nothing changes then.
 fn list_straight(rectangles: &mut Vec<Rectangle>, listed: bool, start: Point, end: Point) -> bool
     ensures before { IsTrue result → IsTrue listed }
     ensures added { IsTrue result
@@ -143,8 +148,9 @@ fn list_straight(rectangles: &mut Vec<Rectangle>, listed: bool, start: Point, en
     listed && add_last(rectangles, start, end).is_ok()
 }
 
-/// The results of the tests of a path, and the directions in which it leaves its ends. Appends its rectangles to
-/// `rectangles`, if those of all paths before it are listed.
+/// The results of the tests of a path, and the directions in which it leaves its two ends. Appends its rectangles to
+/// `rectangles` if `listed` says that those of all paths before it are there; in the result `listed` is false if it was
+/// already or if memory runs out, where some may be appended.
 pub(crate) fn examine_route(
     route: &Route<'_>,
     turns: &[Turn],
@@ -175,8 +181,9 @@ pub(crate) fn examine_route(
     }
 }
 
-/// The results of the tests of a path without corners, and the directions in which it leaves its ends. Appends its
-/// rectangles to `rectangles`, if those of all paths before it are listed.
+/// The results of the tests of a path without corners, and the directions in which it leaves its two ends. Appends its
+/// rectangle, if it has one, to `rectangles` if `listed` is true; in the result `listed` is false if it was already or
+/// if memory runs out. The path must have no corners.
 fn examine_straight(
     route: &Route<'_>,
     turns: &[Turn],
@@ -217,9 +224,9 @@ pub(crate) struct EdgesSeen {
     pub(crate) listed: bool,
 }
 
-/// Makes all three tests of each edge in one walk, and returns which hold everywhere, and whether memory sufficed.
-/// Replaces the contents of `rectangles` by those of all vertices and paths, and overwrites `directions` with the
-/// direction in which each dart leaves its tail.
+/// Returns which of three tests hold for all edges, in grid, on axes and turning, and in `listed` whether memory
+/// sufficed. Replaces the items of `rectangles` by those of all vertices and paths, or by some of them if memory runs
+/// out, and overwrites `directions` with the direction in which each dart leaves its tail.
 pub(crate) fn scan_edges(
     plane: &Plane,
     shape: &Shape,

@@ -30,11 +30,11 @@ struct Sides {
     right: u16,
 }
 
-/// Whether the regions of a drawing of a shape of this plane are the plane's faces.
+/// Whether the regions of a drawing of a shape of this plane are the plane's faces. The answer means nothing for points
+/// that draw no shape of the plane.
 ///
 /// They are if the outer face lies on the west of the westmost upright part: all else follows from the shape. It takes
-/// O(s) time for s parts of edges, and allocates nothing. The answer means nothing for points that draw no shape of the
-/// plane.
+/// O(s) time for s parts of edges, and allocates nothing.
 pub fn outside_is_outer(plane: &Plane, drawing: &Drawing) -> bool
     requires points { HasPoints plane.now drawing.now }
     ensures { (shape : ShapeModel) → IsShape plane.now shape → Draws plane.now shape drawing.now
@@ -46,7 +46,8 @@ pub fn outside_is_outer(plane: &Plane, drawing: &Drawing) -> bool
     face == plane.outer()
 }
 
-/// The face on the west of the westmost upright part, and that of dart 0 if all parts are level.
+/// The number of the face on the west of the westmost upright part of all edges, the first one met if several lie
+/// furthest west; the face of dart 0 if all parts are level.
 fn westmost_face(plane: &Plane, points: &Points) -> u16
     requires points { HasPoints plane.now points.now }
     ensures { result ≡ face_on_west (westmost_below plane.now points.now (darts plane.now)) (face_at plane.now 0) }
@@ -59,7 +60,8 @@ fn westmost_face(plane: &Plane, points: &Points) -> u16
     }
 }
 
-/// The westmost upright part of all edges, the first one met if several lie furthest west; `None` if all are level.
+/// The westmost upright part of all edges, with the face on the west of it, the first one met if several lie furthest
+/// west; `None` if all parts are level.
 fn westmost(plane: &Plane, points: &Points) -> Option<Upright>
     requires points { HasPoints plane.now points.now }
     ensures { result ≡ westmost_below plane.now points.now (darts plane.now) }
@@ -78,7 +80,7 @@ fn westmost(plane: &Plane, points: &Points) -> Option<Upright>
 }
 
 /// The westmost of `west` and the upright parts of an edge, given by its lesser dart, that dart's reverse and its
-/// number; `None` if there is none.
+/// number: the first one met, `west` before all, if several lie furthest west; `None` if there is none.
 fn with_edge(
     west: Option<Upright>,
     plane: &Plane,
@@ -104,7 +106,8 @@ fn with_edge(
     with_path(west, &route, &sides)
 }
 
-/// The westmost of `west` and the upright parts of a path between the faces `sides`; `None` if there is none.
+/// The westmost of `west` and the upright parts of a path between the faces `sides`: the first one met, `west` before
+/// all, if several lie furthest west; `None` if there is none.
 fn with_path(west: Option<Upright>, route: &Route<'_>, sides: &Sides) -> Option<Upright>
     ensures { result ≡ with_path sides.now.left sides.now.right west (path_of route.now) }
 {
@@ -117,7 +120,8 @@ fn with_path(west: Option<Upright>, route: &Route<'_>, sides: &Sides) -> Option<
     with_part(so_far, from, route.end, sides)
 }
 
-/// The westmost of `west` and the part from one point to another, if that is upright, and otherwise `west`.
+/// The westmost of `west` and the part from one point to another, if that is upright, `west` if both lie on one line.
+/// If the part is level, `west`, which may be `None`.
 fn with_part(west: Option<Upright>, from: Point, to: Point, sides: &Sides) -> Option<Upright>
     ensures { result ≡ with_part sides.now.left sides.now.right west from to }
 {
@@ -132,7 +136,8 @@ fn with_part(west: Option<Upright>, from: Point, to: Point, sides: &Sides) -> Op
     further_west(west, Upright { line: from.x, face })
 }
 
-/// The part that lies further west, `west` if both lie on one line, and `part` if `west` is `None`.
+/// The part that lies further west, `west` if both lie on one line, and `part` if `west` is `None`; the result is never
+/// `None`.
 fn further_west(west: Option<Upright>, part: Upright) -> Option<Upright>
     ensures { result ≡ further_west west part }
 {

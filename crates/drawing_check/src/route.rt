@@ -47,7 +47,8 @@ impl Route<'_> {
     }
 }
 
-/// The path of the edge with this number, whose lesser dart and its reverse are given.
+/// The path of the edge with the number `edge`, from the tail of its lesser dart `dart` by the corners to the head;
+/// `reverse` must be the reverse of `dart`. The corners are borrowed from `points`.
 #[inline]
 pub fn route_of<'a>(
     plane: &Plane,
@@ -72,7 +73,7 @@ pub fn route_of<'a>(
     }
 }
 
-/// Whether each part of a path is parallel to an axis.
+/// Whether each part of a path, from one point to the next, is parallel to an axis; false if a part has length 0.
 pub(crate) fn is_on_axes(route: &Route<'_>) -> bool
     ensures { IsTrue result ↔ IsOnAxes (path_of route.now) }
 {
@@ -91,7 +92,7 @@ pub fn is_axis(a: Point, b: Point) -> bool
     (a.x == b.x) != (a.y == b.y)
 }
 
-/// Whether all points of a list lie in the grid.
+/// Whether both coordinates of all points of a list are at most 65,535; true for an empty list.
 pub(crate) fn all_in_grid(points: &[Point]) -> bool
     ensures { IsTrue result ↔ All IsInGrid points.now }
 {
@@ -100,8 +101,8 @@ pub(crate) fn all_in_grid(points: &[Point]) -> bool
         .all(|p| p.x <= MAX_COORDINATE && p.y <= MAX_COORDINATE)
 }
 
-/// Whether all corners are the shape's, as `seen` says, and all angles, if the darts leave their tails in these
-/// directions.
+/// Whether all corners are the shape's, as `seen` says, and so is the angle at the head of each dart, if the darts
+/// leave their tails in these directions.
 pub(crate) fn turn_as_said(
     plane: &Plane,
     shape: &Shape,
@@ -116,7 +117,7 @@ pub(crate) fn turn_as_said(
     seen.turning && heads_turn(plane, shape, directions)
 }
 
-/// Whether a path has as many corners as there are turns, and each corner is its turn.
+/// Whether a path has as many corners as there are turns, and turns at each corner as the turn in its place says.
 pub(crate) fn is_turning(route: &Route<'_>, turns: &[Turn]) -> bool
     ensures { IsTrue result ↔ IsTurning (path_of route.now) turns.now }
 {
@@ -152,8 +153,9 @@ fn heads_turn(plane: &Plane, shape: &Shape, directions: &[Direction]) -> bool
     true
 }
 
-/// The direction in which `to` lies from `from`, if the two differ in exactly one coordinate. Both candidates are
-/// computed before one is selected, since a branch on a direction cannot be predicted.
+/// The direction in which `to` lies from `from`: east or west if they differ in x, otherwise north or south; south if
+/// they are equal. Both candidates are computed before one is selected, since a branch on a direction cannot be
+/// predicted.
 #[inline]
 pub fn direction_from(from: Point, to: Point) -> Direction
     ensures { result ≡ direction_between from to }
@@ -171,7 +173,7 @@ pub fn direction_from(from: Point, to: Point) -> Direction
     if from.x == to.x { along_y } else { along_x }
 }
 
-/// The direction after a turn.
+/// The direction after a walk in `direction` makes this quarter turn.
 fn turn_from(direction: Direction, turn: Turn) -> Direction
     ensures { result ≡ turned turn direction }
 {

@@ -23,7 +23,7 @@ ghost use Rattle.drawing_check.specs.Faults.{IsFirstFault};
 ghost use Rattle.drawing_check.specs.Paths.{paths};
 ghost use Rattle.drawing_check.specs.Regions.{HasRegions, IsRegionMap};
 
-/// A shape of a plane has the fewest bends exactly if some prices prove it (strong duality).
+/// Theorem: a shape of a plane has the fewest bends exactly if some prices prove it (strong duality).
 ///
 /// `certify` uses one direction of it. No solver is needed for it.
 pub fn least_is_priced()
@@ -31,12 +31,12 @@ pub fn least_is_priced()
         → IsLeast p shape ↔ ((t : PricesModel) × IsProof p shape t) }
 {}
 
-/// Each plane has a shape with the fewest bends.
+/// Theorem: each plane has a shape with the fewest bends.
 pub fn least_shape_exists()
     ensures { (p : PlaneModel) → IsPlane p → (shape : ShapeModel) × (IsShape p shape) × (IsLeast p shape) }
 {}
 
-/// A least shape of a plane has at most one bend for each edge and four for each inner face.
+/// Theorem: a least shape of a plane has at most one bend for each edge and four for each inner face.
 ///
 /// This is at most five for each edge, and never more than six for each vertex, and four. No solver is needed for it.
 pub fn few_bends()
@@ -45,7 +45,7 @@ pub fn few_bends()
     ensures six { (p : PlaneModel) (shape : ShapeModel) → IsPlane p → IsLeast p shape → bends p shape ≤ 6 * vertices p + 4 }
 {}
 
-/// Exactly one of the boxes that dissect a shape covers each unit cell of the rectangle round them.
+/// Theorem: exactly one of the boxes that dissect a shape covers each unit cell of the rectangle round them.
 ///
 /// This holds in any coordinates that grow along their darts. The rectangle's corners are the first vertices after
 /// those of the drawing.
@@ -55,7 +55,7 @@ pub fn cells_are_covered_once()
         → IsCoveredOnce (dart_map b) x y i j }
 {}
 
-/// In any coordinates that grow along the darts of boxes, each unit cell lies in one face of the plane.
+/// Theorem: in any coordinates that grow along the darts of boxes, each unit cell lies in one face of the plane.
 ///
 /// A cell beside a dart of the boxes lies in the face that the dart has on this side. Neighbouring cells lie in the
 /// same face if no dart passes between them. Cells to the west and the south of all boxes lie in the outer face.
@@ -64,7 +64,7 @@ pub fn cells_lie_in_faces()
         → (r : ℕ → ℕ → ℕ) × AreCellLabels (dart_map b) x y boxed.enclosed.labelled.label p.outer r }
 {}
 
-/// A nonempty set of faces that is closed under neighbours in one direction contains the outside.
+/// Theorem: a nonempty set of faces of boxes that is closed under neighbours in one direction contains the outside.
 ///
 /// The direction is one of the four. From each box further ones, each above the one before, lead to the outside, and
 /// likewise below, to the left and to the right.
@@ -90,7 +90,7 @@ pub fn closed_sets_hold_the_outside()
 // x of a vertex** is the count of darts to the east from whose ends it is reached so: it grows along darts to the
 // east, and stays along those to the north. For y turn the picture by a quarter.
 
-/// All boxes have coordinates that grow along their darts.
+/// Theorem: all boxes have coordinates that grow along their darts.
 ///
 /// This is said of any boxes, and of those that dissect a shape of a plane.
 pub fn monotone_coordinates_exist()
@@ -98,7 +98,8 @@ pub fn monotone_coordinates_exist()
     ensures shape { (p : PlaneModel) (shape : ShapeModel) (b : BoxesModel) → IsBoxed p shape b → HasCoordinates b }
 {}
 
-/// The least coordinates that grow along the darts of boxes have no gap, and are less than the number of vertices.
+/// Theorem: the least coordinates that grow along the darts of boxes have no gap, and are less than the number of
+/// vertices.
 ///
 /// If no vertex had some coordinate below that of another, all coordinates above it could be lowered by one and still
 /// grow along the darts.
@@ -109,12 +110,13 @@ pub fn least_coordinates_have_no_gap()
         → (v : ℕ) → v < b.vertices → (x v < b.vertices) × (y v < b.vertices) }
 {}
 
-/// If any coordinates grow along the darts of boxes, there are least ones.
+/// Theorem: if any coordinates grow along the darts of boxes, there are least ones.
 pub fn least_coordinates_exist()
     ensures { (b : BoxesModel) (x y : ℕ → ℕ) → AreBoxes b → IsMonotone (dart_map b) x y → HasLeast b }
 {}
 
-/// The coordinates of least points are less than the number of vertices of the boxes.
+/// Theorem: the coordinates of least points, of vertices and corners, are less than the number of vertices of the
+/// boxes.
 pub fn least_points_have_no_gap()
     ensures { (b : BoxesModel) (points : PointsModel) → AreBoxes b → AreLeastPoints b points → AreBelow b.vertices points }
 {}
@@ -139,7 +141,7 @@ pub fn least_points_have_no_gap()
 // touches its cell, and of an edge that a point lies inside one of the two darts. So two vertices at one point are
 // one, no vertex lies inside an edge, and no two edges cross or overlap.
 
-/// Points derived from any coordinates within the grid that grow along the darts of boxes draw the shape.
+/// Theorem: points derived from any coordinates within the grid that grow along the darts of boxes draw the shape.
 ///
 /// The boxes dissect a shape of a plane.
 pub fn monotone_coordinates_draw()
@@ -147,7 +149,8 @@ pub fn monotone_coordinates_draw()
         → IsMonotone (dart_map b) x y → AreWithin b.vertices x → AreWithin b.vertices y → AreTaken b x y points → Draws p shape points }
 {}
 
-/// A check refuses the least points of boxes of a shape only if memory runs out: each condition of a drawing holds.
+/// Theorem: a check refuses the least points of boxes of a shape only if memory runs out: each condition of a drawing
+/// holds.
 pub fn least_points_pass()
     ensures { (p : PlaneModel) (shape : ShapeModel) (b : BoxesModel) (points : PointsModel) → IsPlane p → IsBoxed p shape b
         → AreLeastPoints b points → (fault : CheckFault) → IsFirstFault p shape points fault → fault ≡ Memory }
@@ -161,7 +164,7 @@ pub fn least_points_pass()
 // both, or none either. The dart is a part of an edge, with the faces of this edge on its sides, or a cut, with one
 // face on both.
 
-/// The regions of points derived from coordinates that grow along the darts of boxes are the plane's faces.
+/// Theorem: the regions of points derived from coordinates that grow along the darts of boxes are the plane's faces.
 ///
 /// The boxes dissect a shape of a plane. Each region is a face on the left of its darts, with the outer face outside.
 /// Least points have regions, too.
@@ -172,7 +175,7 @@ pub fn boxes_have_regions()
         → AreLeastPoints b points → HasRegions p points }
 {}
 
-/// Points that have regions determine in which face each cell lies.
+/// Theorem: points that have regions determine in which face each cell lies.
 ///
 /// Each cell lies in a face, each face has a cell where parts of edges run along the axes, and whatever lies beyond the
 /// greatest coordinate n is in the outer face.

@@ -1,5 +1,5 @@
-//! Laws of shapes and drawings, each as the contract of a function that does nothing: how few bends least shapes
-//! have, that boxes have coordinates that grow along their darts, that points taken from these draw the shape and have its
+//! Laws of shapes and drawings, each as the contract of a function that does nothing: how few bends least shapes have,
+//! that boxes have coordinates that grow along their darts, that points taken from these draw the shape and have its
 //! faces as regions, and that each laid answer is drawn.
 #![tactic(auto)]
 

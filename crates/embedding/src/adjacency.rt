@@ -20,14 +20,15 @@ pub(crate) struct Pairs {
 }
 
 impl Pairs {
-    /// The empty set.
+    /// The set that contains no pair.
     pub(crate) fn new() -> Pairs
         ensures { (a b : ℕ) → a < 256 → b < 256 → ¬ HasPair result.words a b }
     {
         Pairs { words: [0; 1024] }
     }
 
-    /// Adds the ordered pair (`first`, `second`) of numbers below 256.
+    /// Adds to the set the ordered pair (`first`, `second`) of numbers below 256; does nothing if it contains it
+    /// already.
     pub(crate) fn insert(&mut self, first: u16, second: u16)
         requires first { first < 256 }
         requires second { second < 256 }
@@ -39,7 +40,7 @@ impl Pairs {
         self.words[word] |= 1u64 << (second % 64);
     }
 
-    /// Whether the pair was added.
+    /// Whether the set contains the ordered pair (`first`, `second`) of numbers below 256.
     pub(crate) fn contains(&self, first: u16, second: u16) -> bool
         requires first { first < 256 }
         requires second { second < 256 }
@@ -60,8 +61,9 @@ fn is_other(entry: u16, vertex: u16, n: u16) -> bool
     (entry <= n) & (entry != vertex)
 }
 
-/// A bit set of the entries of a vertex's list; also adds the vertex's bit to the columns of these entries. `None` if
-/// the list is empty or has more than four entries, or an entry is no other vertex or occurs twice.
+/// The bit set of the entries of `list`, that of `vertex`; also adds the vertex's bit to `columns` at each entry.
+/// `None`, perhaps with some bits added, if the list is empty or has more than four entries, or an entry is above `n`,
+/// is `vertex` or occurs twice.
 fn row_of(list: &[u16], vertex: u16, n: u16, columns: &mut [u64; 64]) -> Option<u64>
     requires vertex { vertex ≤ FEW }
     requires few { n ≤ FEW }
@@ -85,8 +87,9 @@ fn row_of(list: &[u16], vertex: u16, n: u16, columns: &mut [u64; 64]) -> Option<
     Some(row)
 }
 
-/// Sets the row of each vertex to its list's entries, as bits, and adds the vertex's bit to the columns of these
-/// entries. False, with both arrays partly filled, if `row_of` returns `None` for some list.
+/// Whether each list has one to four entries, all different, and none its own vertex or above the number of lists. Sets
+/// `rows` at each vertex to the bit set of its entries, and adds the vertex's bit to `columns` at these; both are only
+/// partly filled if it returns false.
 fn fill_rows(rows: &mut [u64; 64], columns: &mut [u64; 64], lists: &Lists<'_>) -> bool
     requires empty { (u v : ℕ) → ¬ HasBit (slice_index rows.old u) v }
     requires few { length lists.now ≤ FEW }
@@ -106,7 +109,8 @@ fn fill_rows(rows: &mut [u64; 64], columns: &mut [u64; 64], lists: &Lists<'_>) -
     true
 }
 
-/// Whether the rows lead from vertex 1 to each of n vertices, each row read once.
+/// Whether vertices 1 to `n` are all reached from vertex 1 along `rows`, which have at each vertex the bit set of its
+/// neighbours. Each row is read at most once.
 fn reaches_all(rows: &[u64; 64], n: u16) -> bool
     requires { n ≤ FEW }
     ensures { IsTrue result → (s : ℕ → Bool) → s 1 ≡ true → IsClosedUnderRows rows.now s
@@ -126,7 +130,7 @@ fn reaches_all(rows: &[u64; 64], n: u16) -> bool
     reached == (1u64 << (n + 1)) - 2
 }
 
-/// True only if there are at most 62 lists and they keep rules 1 to 7. False says nothing.
+/// True only if there are at most 62 lists and they keep rules 1 to 7. False does not say that they break one.
 pub(crate) fn is_small_graph(lists: &Lists<'_>) -> bool
     ensures { IsTrue result → KeepsBefore lists.now 8 }
 {
@@ -149,7 +153,7 @@ struct ReachedVertices {
     found: usize,
 }
 
-/// Flags a vertex as reached and appends it to the queue, unless it is flagged already.
+/// Flags `vertex` in `vertices` as reached and appends it to their queue; does nothing if it is flagged already.
 fn reach(vertices: &mut ReachedVertices, vertex: u16)
     requires small { vertex < VERTEX_NUMBERS }
     requires queue { IsQueue vertices.old.reached vertices.old.queue vertices.old.found }
@@ -169,7 +173,8 @@ fn reach(vertices: &mut ReachedVertices, vertex: u16)
     }
 }
 
-/// Flags each vertex of a list as reached and appends it to the queue, unless it is flagged already.
+/// Flags each vertex of `list` in `vertices` as reached and appends it to their queue, in the order of the list; does
+/// nothing for those that are flagged already.
 fn reach_all(vertices: &mut ReachedVertices, list: &[u16])
     requires small { All (λ v. v < VERTEX_NUMBERS) list.now }
     requires queue { IsQueue vertices.old.reached vertices.old.queue vertices.old.found }
@@ -187,8 +192,8 @@ fn reach_all(vertices: &mut ReachedVertices, list: &[u16])
     }
 }
 
-/// A flag for each vertex number: whether that vertex is reached from vertex 1 along the lists. Each list is read at
-/// most once.
+/// A flag for each vertex number from 0 on: whether that vertex is reached from vertex 1 along the lists. False at 0
+/// and above the number of lists, and true at 1. Each list is read at most once.
 fn reached_from_first(lists: &Lists<'_>) -> [bool; VERTEX_NUMBERS]
     requires { ¬ Breaks lists.now Rule.Range }
     ensures { IsReached lists.now result }
@@ -208,7 +213,8 @@ fn reached_from_first(lists: &Lists<'_>) -> [bool; VERTEX_NUMBERS]
     vertices.reached
 }
 
-/// Whether some vertex is not reached from the first one.
+/// Whether some vertex is not reached from vertex 1 along the lists (rule 7). No entry may be above the number of
+/// lists.
 pub(crate) fn breaks_disconnected(lists: &Lists<'_>) -> bool
     requires { ¬ Breaks lists.now Rule.Range }
     ensures { IsTrue result ↔ Breaks lists.now Rule.Disconnected }

@@ -37,7 +37,7 @@ pub enum Rule {
 impl Rule {
     ghost use Rattle.embedding.specs.Words.{word_of};
 
-    /// The word for the rule in reports.
+    /// The word for the rule in reports: its name in lower case, such as `range`.
     pub fn word(self) -> &'static str
         ensures { result.now ≡ word_of self }
     {
@@ -71,27 +71,28 @@ impl From<AllocError> for ReadFault {
 
     ghost from_gives = { λ _ fault. fault ≡ Memory };
 
+    /// Returns `ReadFault::Memory`.
     fn from(_refused: AllocError) -> ReadFault {
         ReadFault::Memory
     }
 }
 
-/// Whether some entry of the list is greater than n.
+/// Whether some entry of `list` is greater than `n`; false if the list is empty.
 fn exceeds(list: &[u16], n: u16) -> bool
     ensures { IsTrue result ↔ Any (λ v. n < v) list.now }
 {
     list.iter().any(|v| *v > n)
 }
 
-/// Whether the list holds the vertex.
+/// Whether `list` contains `vertex`.
 fn holds(list: &[u16], vertex: u16) -> bool
     ensures { IsTrue result ↔ Contains list.now vertex }
 {
     list.iter().any(|v| *v == vertex)
 }
 
-/// Whether the list of `vertex` names a neighbour twice. `last` has for each number the last vertex before this one
-/// whose list named it, or 0, and is updated.
+/// Whether `list`, that of `vertex`, names a vertex twice. `last` must have for each number the last vertex before this
+/// one whose list names it, or 0; the entries that are read, up to the first that repeats, are set to `vertex`.
 fn names_twice(list: &[u16], vertex: u16, last: &mut [u16; VERTEX_NUMBERS]) -> bool
     requires small { All (λ v. v < VERTEX_NUMBERS) list.now }
     requires unnamed { (v : ℕ) → v < VERTEX_NUMBERS → slice_index last.old v < vertex }
@@ -107,7 +108,7 @@ fn names_twice(list: &[u16], vertex: u16, last: &mut [u16; VERTEX_NUMBERS]) -> b
     false
 }
 
-/// Adds the pairs of the vertex and each entry of its list.
+/// Adds to `pairs` the ordered pair of `vertex` and each entry of `list`. All these numbers must be below 256.
 fn add_pairs(pairs: &mut Pairs, vertex: u16, list: &[u16])
     requires vertex { vertex < 256 }
     requires small { All (λ v. v < 256) list.now }
@@ -120,7 +121,8 @@ fn add_pairs(pairs: &mut Pairs, vertex: u16, list: &[u16])
     }
 }
 
-/// Whether `pairs` lacks, for some entry of the vertex's list, the ordered pair of that entry and the vertex.
+/// Whether `pairs` lacks, for some entry of `list`, the ordered pair of that entry and `vertex`; false if the list is
+/// empty.
 fn lacks_pair(pairs: &Pairs, vertex: u16, list: &[u16]) -> bool
     requires vertex { vertex < 256 }
     requires small { All (λ v. v < 256) list.now }
@@ -129,7 +131,7 @@ fn lacks_pair(pairs: &Pairs, vertex: u16, list: &[u16]) -> bool
     list.iter().any(|v| !pairs.contains(*v, vertex))
 }
 
-/// Whether some entry exceeds the number of lists (rule 1).
+/// Whether some entry is above the number of lists (rule 1).
 fn breaks_range(lists: &Lists<'_>) -> bool
     ensures { IsTrue result ↔ Breaks lists.now Rule.Range }
 {
@@ -154,7 +156,7 @@ fn breaks_loop(lists: &Lists<'_>) -> bool
     false
 }
 
-/// Whether some list names a vertex twice (rule 3).
+/// Whether some list names a vertex twice (rule 3). No entry may be above the number of lists.
 fn breaks_multi(lists: &Lists<'_>) -> bool
     requires { ¬ Breaks lists.now Rule.Range }
     ensures { IsTrue result ↔ Breaks lists.now Rule.Multi }
@@ -168,8 +170,8 @@ fn breaks_multi(lists: &Lists<'_>) -> bool
     false
 }
 
-/// Whether some list names a vertex whose list does not name it in turn (rule 4), for up to 255 lists, by a bit for
-/// each pair of vertices.
+/// Whether the list of some vertex u names a vertex v whose list does not name u (rule 4), tested with one bit for each
+/// pair of vertices. There must be at most 255 lists, and no entry may be above their number.
 fn lacks_any_pair(lists: &Lists<'_>) -> bool
     requires few { length lists.now < 256 }
     requires range { ¬ Breaks lists.now Rule.Range }
@@ -187,7 +189,8 @@ fn lacks_any_pair(lists: &Lists<'_>) -> bool
     false
 }
 
-/// Whether some entry of the vertex's list has a list that does not hold the vertex.
+/// Whether the list of `vertex` names a vertex whose list does not name `vertex`. A number that is no vertex has the
+/// empty list.
 fn lacks_return(lists: &Lists<'_>, vertex: u16) -> bool
     ensures { IsTrue result
         ↔ Any (λ v. ¬ Contains (list_of lists.now v) vertex) (list_of lists.now vertex) }
@@ -198,8 +201,8 @@ fn lacks_return(lists: &Lists<'_>, vertex: u16) -> bool
         .any(|v| !holds(lists.of_vertex(*v), vertex))
 }
 
-/// Whether some list names a vertex whose list does not name it in turn (rule 4), by a search of that list for each
-/// entry.
+/// Whether the list of some vertex u names a vertex v whose list does not name u (rule 4), tested by a search of the
+/// list of v for each entry. An entry that is no vertex has the empty list.
 fn lacks_any_return(lists: &Lists<'_>) -> bool
     ensures { IsTrue result ↔ Breaks lists.now Rule.Asymmetric }
 {
@@ -211,7 +214,8 @@ fn lacks_any_return(lists: &Lists<'_>) -> bool
     false
 }
 
-/// Whether some list names a vertex whose list does not name it in turn (rule 4).
+/// Whether the list of some vertex u names a vertex v whose list does not name u (rule 4). No entry may be above the
+/// number of lists.
 fn breaks_asymmetric(lists: &Lists<'_>) -> bool
     requires { ¬ Breaks lists.now Rule.Range }
     ensures { IsTrue result ↔ Breaks lists.now Rule.Asymmetric }

@@ -14,7 +14,8 @@ use std::alloc::AllocError;
 use std::iter::FusedIterator;
 use std::marker::Model;
 
-/// The reverse of the dart from `tail` to `head`, which is in the list of `tail`.
+/// The number of the dart from `head` to `tail`, the reverse of the dart from `tail` to `head`. `head` must be in the
+/// list of `tail`.
 fn reverse_between(lists: &Lists<'_>, tail: u16, head: u16) -> u16
     requires rules { KeepsBefore lists.now 8 }
     requires listed { Contains (list_of lists.now tail) head }
@@ -25,8 +26,8 @@ fn reverse_between(lists: &Lists<'_>, tail: u16, head: u16) -> u16
     lists.first_dart(head - 1) + lists.place_in(head - 1, tail)
 }
 
-/// The dart that follows dart `next` - 1 around its tail, whose darts are `first` to `end` - 1: `next`, or `first`
-/// after the last of them.
+/// The number of the dart that follows dart `next` - 1 around its tail, whose darts are `first` to `end` - 1: `next`,
+/// or `first` if `next` is not below `end`.
 fn after_in(next: u16, first: u16, end: u16) -> u16
     ensures inside { next < end → result ≡ next }
     ensures last { end ≤ next → result ≡ first }
@@ -34,8 +35,8 @@ fn after_in(next: u16, first: u16, end: u16) -> u16
     if next < end { next } else { first }
 }
 
-/// Appends the heads of the darts of the list at a place to `heads`, which must have room for them. It allocates
-/// nothing.
+/// Appends to `heads` the heads of the darts of the list at `place`, counted from 0, in order. `heads` must have
+/// capacity for all of them: it does not grow.
 pub(crate) fn add_heads(heads: &mut Vec<u16>, lists: &Lists<'_>, place: u16)
     requires within { place < length lists.now }
     requires heads { IsTable (first_dart lists.now place) (head_of lists.now) heads.old.items }
@@ -49,8 +50,10 @@ pub(crate) fn add_heads(heads: &mut Vec<u16>, lists: &Lists<'_>, place: u16)
     }
 }
 
-/// Writes for each dart of the list at a place its reverse and the dart after it into `rotation`, from twice the dart's
-/// number on. Each list has at most four entries, so to search one for a reverse takes constant time.
+/// Overwrites in `rotation`, for each dart of the list at `place`, counted from 0, the two numbers from twice the
+/// dart's number on: with its reverse, and the dart after it around its tail. The other numbers stay.
+///
+/// Each list has at most four entries, so to search one for a reverse takes constant time.
 fn write_list_rotation(rotation: &mut [u16], lists: &Lists<'_>, place: u16)
     requires rules { KeepsBefore lists.now 8 }
     requires within { place < length lists.now }
@@ -72,8 +75,8 @@ fn write_list_rotation(rotation: &mut [u16], lists: &Lists<'_>, place: u16)
     }
 }
 
-/// Overwrites `rotation` with two numbers for each dart: its reverse, and the dart after it, which is the next one of
-/// its list or, after the last one, the first.
+/// Overwrites `rotation`, which must have two numbers for each dart, with these: the dart's reverse, and the dart after
+/// it, which is the next one of its list or, after the last one, the first.
 pub(crate) fn write_rotation(rotation: &mut [u16], lists: &Lists<'_>)
     requires rules { KeepsBefore lists.now 8 }
     requires size { length rotation.old ≡ 2 * dart_count lists.now }
@@ -84,7 +87,8 @@ pub(crate) fn write_rotation(rotation: &mut [u16], lists: &Lists<'_>)
     }
 }
 
-/// Replaces the contents of `table` by two numbers for each dart: its reverse, and the dart after it.
+/// Replaces the contents of `table` by two numbers for each dart: its reverse, and the dart after it around its tail.
+/// `AllocError`, with `table` unchanged, if its buffer is too small and there is no memory.
 pub(crate) fn make_rotation(table: &mut Vec<u16>, lists: &Lists<'_>) -> Result<(), AllocError>
     requires rules { KeepsBefore lists.now 8 }
     ensures { OnOk result (IsRotation lists.now (dart_count lists.now) table.new.items) }
@@ -94,7 +98,8 @@ pub(crate) fn make_rotation(table: &mut Vec<u16>, lists: &Lists<'_>) -> Result<(
     Ok(())
 }
 
-/// Adds where each vertex's list begins among the heads of all darts, and at the end how many darts there are.
+/// Appends to `table` the number of the first dart of each vertex's list, in order, and then the number of darts.
+/// `AllocError` if its buffer is too small and there is no memory; some of these numbers may then be appended.
 pub(crate) fn add_starts(table: &mut Vec<u16>, lists: &Lists<'_>) -> Result<(), AllocError>
     ensures { OnOk result ((starts : List ℕ) × IsTable (length lists.now + 1) (first_dart lists.now) starts
         × (table.new.items ≡ table.old.items ++ starts)) }
@@ -132,6 +137,8 @@ impl<'a> Iterator for LesserDarts<'a> {
 
     ghost remaining = { item_count (λ left. left) };
 
+    /// The next lesser dart, which is then no longer among those that remain; `None`, now and at each later call, if
+    /// none remains.
     fn next(&mut self) -> Option<u16> {
         let graph = self.graph;
         for dart in self.from..graph.darts() {
@@ -148,7 +155,8 @@ impl<'a> Iterator for LesserDarts<'a> {
 impl<'a> FusedIterator for LesserDarts<'a> {}
 
 impl Graph {
-    /// The lesser dart of each edge, in order: the one of its two darts with the smaller number.
+    /// An iterator over the lesser dart of each edge, in ascending order: the one of its two darts with the smaller
+    /// number.
     pub fn lesser_darts(&self) -> LesserDarts<'_>
         ensures { result ≡ lesser_darts_of self.now }
     {

@@ -23,7 +23,7 @@ use std::alloc::AllocError;
 /// Stands for the face of a dart that no walk has come to.
 pub(crate) const UNSET: u16 = u16::MAX;
 
-/// Walks the face of `start` once round, and gives its darts the number `face`.
+/// Walks the face of the dart `start` once round, and sets `faces` at each of its darts to `face`; the others stay.
 fn walk_face(rotation: &[u16], faces: &mut [u16], start: u16, face: u16)
     requires tied { AreRotations (length faces.old) rotation.now }
     requires few { length faces.old ≤ MAX_DARTS }
@@ -62,7 +62,7 @@ fn number_faces(rotation: &[u16], faces: &mut [u16]) -> u16
     count
 }
 
-/// Counts into `degrees`, which must be all 0, how many darts each face has.
+/// Sets `degrees`, which must be all 0, at each face to the number of its darts; `faces` has the face of each dart.
 fn count_degrees(faces: &[u16], degrees: &mut [u16])
     requires few { length faces.now ≤ MAX_DARTS }
     requires named { (d : ℕ) → d < length faces.now → slice_index faces.now d < length degrees.old }
@@ -76,8 +76,8 @@ fn count_degrees(faces: &[u16], degrees: &mut [u16])
     }
 }
 
-/// Numbers the faces, writes the face of each dart into the end of the table, after the rotation of `darts` darts, and
-/// returns the number of faces. That end must be all `UNSET`.
+/// Numbers the faces of `darts` darts from 0 in the order of their least darts, writes the face of each dart to the end
+/// of `table`, which must be all `UNSET` there and have the rotation before it, and returns the number of faces.
 fn number_behind(table: &mut [u16], darts: usize) -> u16
     requires tied { AreRotations darts (take (2 * darts) table.old) }
     requires few { darts ≤ MAX_DARTS }
@@ -92,8 +92,8 @@ fn number_behind(table: &mut [u16], darts: usize) -> u16
     number_faces(rotation, faces)
 }
 
-/// Counts the darts of each face into the end of the table, after the rotation and the faces of `darts` darts. That end
-/// must be all 0.
+/// Writes the number of darts of each face to the end of `table`, which must be all 0 there and have the rotation and
+/// the faces of `darts` darts before it; that front of three numbers for each dart stays as it is.
 fn count_behind(table: &mut [u16], darts: usize)
     requires few { darts ≤ MAX_DARTS }
     requires size { 3 * darts ≤ length table.old }
@@ -109,8 +109,9 @@ fn count_behind(table: &mut [u16], darts: usize)
     count_degrees(&front[2 * darts..], degrees);
 }
 
-/// Appends the face of each dart and the degree of each face to a table that has the rotation of `darts` darts; returns
-/// the number of faces.
+/// Appends to `table`, which has the rotation of `darts` darts, the face of each dart and then the degree of each face;
+/// returns the number of faces. `AllocError` if its buffer is too small and there is no memory; the faces may then be
+/// appended.
 pub(crate) fn add_faces(table: &mut Vec<u16>, darts: usize) -> Result<u16, AllocError>
     requires tied { AreRotations darts table.old.items }
     requires few { darts ≤ MAX_DARTS }
@@ -123,7 +124,7 @@ pub(crate) fn add_faces(table: &mut Vec<u16>, darts: usize) -> Result<u16, Alloc
     Ok(count)
 }
 
-/// The number of faces of a rotation of `darts` darts. It allocates nothing.
+/// The number of faces of `rotation`, which has for each of `darts` darts its reverse and the dart after it.
 pub(crate) fn count_faces(rotation: &[u16], darts: usize) -> u16
     requires tied { AreRotations darts rotation.now }
     requires few { darts ≤ MAX_DARTS }
@@ -138,8 +139,9 @@ pub(crate) fn count_faces(rotation: &[u16], darts: usize) -> u16
 /// How many numbers the rotation of a graph has at most: two for each dart.
 const MAX_ROTATION: usize = 2 * MAX_DARTS;
 
-/// Whether vertices minus edges plus faces is not 2, for lists that keep the first seven rules. Both sides are doubled,
-/// since an edge is two darts.
+/// Whether vertices minus edges plus faces is not 2 (rule 8). The lists must keep rules 1 to 7.
+///
+/// The test doubles both sides, since an edge is two darts.
 fn breaks_genus(lists: &Lists<'_>) -> bool
     requires rules { KeepsBefore lists.now 8 }
     requires few { length lists.now ≤ MAX_VERTICES }
@@ -153,7 +155,7 @@ fn breaks_genus(lists: &Lists<'_>) -> bool
     2 * (usize::from(lists.count()) + usize::from(faces)) != darts + 4
 }
 
-/// The first of the eight rules that the lists break, or `None` if they break none.
+/// The first of the eight rules that `lists` break, or `None` if they break none.
 fn broken_by_lists(lists: &Lists<'_>) -> Option<Rule>
     requires { length lists.now ≤ MAX_VERTICES }
     ensures { MatchOption result (KeepsBefore lists.now 9) (λ rule. FirstBroken lists.now rule) }
@@ -168,8 +170,8 @@ fn broken_by_lists(lists: &Lists<'_>) -> Option<Rule>
     }
 }
 
-/// The first of the eight rules that a record breaks, or `None` if it breaks none. Arrays of `ENTRIES` and `STARTS`
-/// numbers must have room for its entries and for the starts of its lists.
+/// The first of the eight rules that `rec` breaks, or `None` if it breaks none. It must have at most `ENTRIES` entries,
+/// with the 0 of each list, and fewer than `STARTS` lists.
 #[inline(never)]
 fn broken_within<const ENTRIES: usize, const STARTS: usize>(rec: &Record) -> Option<Rule>
     requires fits_entries { ENTRIES < MAX_ENTRIES }

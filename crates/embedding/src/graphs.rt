@@ -81,7 +81,8 @@ impl Model for Graph {
 }
 
 impl Graph {
-    /// The graph of a record, if it breaks none of rules 1 to 7. The time is linear in the record's bytes.
+    /// The graph of `rec`, if it breaks none of rules 1 to 7. `Rule` with the first of these rules that it breaks;
+    /// `Memory` if it breaks none, but there is no memory for the graph. The time is linear in the record's bytes.
     ///
     /// # Errors
     ///
@@ -96,7 +97,9 @@ impl Graph {
         Graph::read_in(alloc, &mut scratch, rec)
     }
 
-    /// The graph of a record, exactly as [`Graph::read`]; reuses the caller's scratch.
+    /// The graph of `rec`, which takes both buffers out of `scratch` and enlarges any that is too small. `Rule` with
+    /// the first of rules 1 to 7 that it breaks: `scratch` stays as it is. `Memory` if it breaks none, but there is no
+    /// memory to enlarge a buffer: `scratch` may have lost its buffers, and can be used again.
     ///
     /// The graph takes its lists with it; [`Graph::give_back`] returns them.
     ///
@@ -122,8 +125,9 @@ impl Graph {
         }
     }
 
-    /// The graph of a record, as [`Graph::read_in`]. Arrays of `ENTRIES` and `STARTS` numbers must have room for its
-    /// entries and for the starts of its lists.
+    /// The graph of `rec`, which takes both buffers out of `scratch`. `Rule` with the first of rules 1 to 7 that it
+    /// breaks: `scratch` stays as it is. Else `Memory` if a buffer is too small and there is no memory: `scratch` has
+    /// lost both. `rec` must have at most `ENTRIES` entries, with the 0 of each list, and fewer than `STARTS` lists.
     #[inline(never)]
     fn read_within<const ENTRIES: usize, const STARTS: usize>(
         alloc: Global,
@@ -146,7 +150,8 @@ impl Graph {
         Graph::of(alloc, scratch, &lists)
     }
 
-    /// The graph of a wide record, which breaks none of rules 1 to 7.
+    /// The graph of the wide record `rec`, if it breaks none of rules 1 to 7. `Rule` with the first of these rules that
+    /// it breaks; `Memory` if it breaks none, but there is no memory for the graph.
     ///
     /// The time is linear in the record's entries if no list has more than four or there are at most 255 lists, and
     /// otherwise at most in proportion to the entries times the length of the longest list.
@@ -163,7 +168,9 @@ impl Graph {
         Graph::read_wide_in(alloc, &mut scratch, rec)
     }
 
-    /// The graph of a wide record, exactly as [`Graph::read_wide`]; reuses the caller's scratch.
+    /// The graph of the wide record `rec`, which takes both buffers out of `scratch` and enlarges any that is too
+    /// small. `Rule` with the first of rules 1 to 7 that it breaks: `scratch` stays as it is. `Memory` if it breaks
+    /// none, but there is no memory to enlarge a buffer: `scratch` may have lost its buffers, and can be used again.
     ///
     /// The graph takes its lists with it; [`Graph::give_back`] returns them.
     ///
@@ -186,8 +193,9 @@ impl Graph {
         }
     }
 
-    /// The graph of a wide record, as [`Graph::read_wide_in`]. An array of `STARTS` numbers must have room for the
-    /// starts of its lists.
+    /// The graph of the wide record `rec`, which takes both buffers out of `scratch`. `Rule` with the first of rules 1
+    /// to 7 that it breaks: `scratch` stays as it is. Else `Memory` if a buffer is too small and there is no memory:
+    /// `scratch` has lost both. `rec` must have fewer than `STARTS` lists.
     #[inline(never)]
     fn read_wide_within<const STARTS: usize>(
         alloc: Global,
@@ -207,8 +215,11 @@ impl Graph {
         Graph::of(alloc, scratch, &lists)
     }
 
-    /// The graph of lists, or the first of rules 1 to 7 that they break, or `Memory`. Unless a rule is broken, it takes
-    /// both buffers out of the scratch, and enlarges each that is too small, to just what a plane needs.
+    /// The graph of `lists`, which takes both buffers out of `scratch` and enlarges any that is too small. `Rule` with
+    /// the first of rules 1 to 7 that they break: `scratch` stays as it is. `Memory` if they break none, but there is
+    /// no memory to enlarge a buffer: `scratch` has then lost its buffers, and can be used again.
+    ///
+    /// A buffer that is enlarged gets just the size that a plane needs.
     fn of(alloc: Global, scratch: &mut Scratch, lists: &Lists<'_>) -> Result<Graph, ReadFault>
         requires { length lists.now ≤ MAX_VERTICES }
         ensures lists { IfOk result (λ graph. graph ≡ lists.now) }
@@ -236,7 +247,7 @@ impl Graph {
         })
     }
 
-    /// Returns the lists of this graph to the scratch, to be reused. It allocates nothing.
+    /// Drops this graph, and puts its two buffers into `scratch`, for the next graph, in place of those that it has.
     pub fn give_back(self, scratch: &mut Scratch) {
         scratch.heads = self.heads;
         scratch.table = self.table;
@@ -276,7 +287,7 @@ impl Graph {
         self.heads.len() as u16
     }
 
-    /// The neighbours of a vertex, clockwise: at most four.
+    /// The neighbours of `vertex`, counted from 1, in clockwise order: at most four.
     pub fn neighbours(&self, vertex: u16) -> &[u16]
         requires some { 0 < vertex }
         requires within { vertex ≤ length self.now }
@@ -310,7 +321,7 @@ impl Graph {
         self.heads[usize::from(dart)]
     }
 
-    /// The dart along the same edge in the other direction.
+    /// The dart along the same edge as `dart` in the other direction.
     pub fn reverse(&self, dart: u16) -> u16
         requires { dart < dart_count self.now }
         ensures value { result ≡ reverse_of self.now dart }
@@ -322,7 +333,7 @@ impl Graph {
         self.table[2 * usize::from(dart)]
     }
 
-    /// The next dart clockwise around the tail of a dart.
+    /// The next dart clockwise around the tail of `dart`: `dart` itself if its tail has no other.
     pub fn after(&self, dart: u16) -> u16
         requires { dart < dart_count self.now }
         ensures value { result ≡ after_of self.now dart }
@@ -332,7 +343,7 @@ impl Graph {
         self.table[2 * usize::from(dart) + 1]
     }
 
-    /// The face on the left of a dart.
+    /// The number of the face on the left of `dart`.
     ///
     /// Faces are walked by the darts' next ones, and are numbered from 0 in the order of their least darts.
     pub fn face_of(&self, dart: u16) -> u16
@@ -343,7 +354,7 @@ impl Graph {
         self.table[2 * self.heads.len() + usize::from(dart)]
     }
 
-    /// The number of faces.
+    /// The number of faces. The graph need not be a plane.
     pub fn face_count(&self) -> u16
         ensures value { (face : ℕ → ℕ) (f : ℕ) → HasFaces (dart_count self.now) (next_of self.now) face f
             → result ≡ f }
@@ -353,7 +364,7 @@ impl Graph {
         self.faces
     }
 
-    /// The number of darts of a face.
+    /// The number of darts of `face`, which must be below the number of faces.
     pub fn face_degree(&self, face: u16) -> u16
         requires { (other : ℕ → ℕ) (f : ℕ) → HasFaces (dart_count self.now) (next_of self.now) other f → face < f }
         ensures { (other : ℕ → ℕ) (f : ℕ) → HasFaces (dart_count self.now) (next_of self.now) other f

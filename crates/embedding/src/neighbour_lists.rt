@@ -59,7 +59,7 @@ impl<'a> Lists<'a> {
         self.count
     }
 
-    /// How many entries all lists have together.
+    /// How many entries all lists have together, without the 0s that end them.
     pub(crate) fn darts(&self) -> usize
         ensures count { result ≡ dart_count self.now }
         ensures few { result < MAX_ENTRIES }
@@ -67,7 +67,7 @@ impl<'a> Lists<'a> {
         self.entries.len() - usize::from(self.count)
     }
 
-    /// The list at a place, counted from 0.
+    /// The entries of the list at `place`, counted from 0, without the 0 that ends it; empty if it has none.
     pub(crate) fn at(&self, place: u16) -> &'a [u16]
         requires { place < length self.now }
         ensures value { result.now ≡ slice_index_or self.now place [] }
@@ -80,8 +80,8 @@ impl<'a> Lists<'a> {
         &self.entries[from..to - 1]
     }
 
-    /// The first three numbers from where the list at a place begins, also if it is shorter; it must not be empty. If
-    /// only two numbers are left, the second one is returned twice.
+    /// The first three numbers from where the list at `place`, counted from 0, begins, also those behind it if it is
+    /// shorter; it must not be empty. If only two numbers are left in the entries, the second one is returned twice.
     fn three_at(&self, place: u16) -> [u16; 3]
         requires within { place < length self.now }
         requires some { 0 < length (slice_index_or self.now place []) }
@@ -97,8 +97,11 @@ impl<'a> Lists<'a> {
         ]
     }
 
-    /// The index, 0 to 3, of a vertex in the list at a place, which must contain it and have at most four entries. No
-    /// branch depends on it, and the end of the list is not looked for: what follows the list comes after the vertex.
+    /// The index, 0 to 3, of `vertex` in the list at `place`, counted from 0. The list must contain it and have at most
+    /// four entries.
+    ///
+    /// No branch depends on the index, and the end of the list is not looked for: what follows the list comes after the
+    /// vertex.
     pub(crate) fn place_in(&self, place: u16, vertex: u16) -> u16
         requires within { place < length self.now }
         requires held { Contains (slice_index_or self.now place []) vertex }
@@ -113,7 +116,8 @@ impl<'a> Lists<'a> {
         u16::from(past_first) + u16::from(past_second) + u16::from(past_third)
     }
 
-    /// The list of a vertex, empty where no vertex has that number.
+    /// The entries of the list of `vertex`, without the 0 that ends it; empty if `vertex` is 0 or above the number of
+    /// lists.
     pub(crate) fn of_vertex(&self, vertex: u16) -> &'a [u16]
         ensures value { result.now ≡ list_of self.now vertex }
         ensures few { length self.now ≤ MAX_VERTICES }
@@ -125,7 +129,8 @@ impl<'a> Lists<'a> {
         }
     }
 
-    /// The number of the first dart of the list at a place.
+    /// The number of the first dart of the list at `place`, counted from 0; for an empty list, the number of entries
+    /// before it.
     pub(crate) fn first_dart(&self, place: u16) -> u16
         requires { place < length self.now }
         ensures value { result ≡ first_dart self.now place }
@@ -167,8 +172,12 @@ pub(crate) fn entry_count(rec: &Record) -> usize
     rec.bytes().len() - 1
 }
 
-/// Copies the bytes of lists as numbers of 16 bits, and writes where each list begins, in one pass. Each byte might be
-/// the 0 that ends its list, so the place after it is always written, and kept only if it is 0.
+/// Copies `bytes`, which are lists with a 0 after each, to `entries` as numbers of 16 bits, and writes to `starts`
+/// where each list begins and then where the last one ends. `entries` must be as long as `bytes`, and `starts` longer
+/// than the number of lists.
+///
+/// It does this in one pass. Each byte might be the 0 that ends its list, so the place after it is always written, and
+/// kept only if it is 0.
 fn copy_lists(bytes: &[u8], entries: &mut [u16], starts: &mut [u16])
     requires spelt { bytes.now ≡ flat_map ended (lists_in bytes.now) }
     requires size { length entries.old ≡ length bytes.now }
@@ -187,7 +196,10 @@ fn copy_lists(bytes: &[u8], entries: &mut [u16], starts: &mut [u16])
     }
 }
 
-/// Writes where each of the lists begins, in one pass over their entries, as [`copy_lists`] does.
+/// Writes to `starts` where each list in `entries` begins, and then where the last one ends, after its 0. `starts` must
+/// be longer than the number of lists.
+///
+/// It does this in one pass over the entries, as [`copy_lists`] does.
 pub(crate) fn find_starts(entries: &[u16], starts: &mut [u16])
     requires spelt { entries.now ≡ flat_map ended (lists_in entries.now) }
     requires short { length entries.now < MAX_ENTRIES }
@@ -203,7 +215,9 @@ pub(crate) fn find_starts(entries: &[u16], starts: &mut [u16])
     }
 }
 
-/// Writes the entries of a record's lists, and where each list begins; returns how many lists there are.
+/// Writes to `entries` the lists of `rec`, with a 0 after each, and to `starts` where each list begins and then where
+/// the last one ends; returns the number of lists. `entries` must be one shorter than the record's bytes, and `starts`
+/// longer than the number of lists.
 pub(crate) fn write_lists(rec: &Record, entries: &mut [u16], starts: &mut [u16]) -> u16
     requires size { length entries.old + 1 ≡ length rec.now }
     requires short { length entries.old < MAX_ENTRIES }

@@ -26,7 +26,8 @@ pub enum WideFault {
 }
 
 /// One record with entries of 16 bits: n, from 1 to 1,200, and n neighbour lists, each of entries other than 0 with one
-/// entry 0 after it; at most 65,535 entries in all. The bytes of a [`Record`](planar_code::Record) are such entries too.
+/// entry 0 after it; at most 65,535 entries in all. The bytes of a [`Record`](planar_code::Record) are such entries
+/// too.
 #[derive(Debug, Drop)]
 pub struct WideRecord {
     entries: Vec<u16>,
@@ -40,7 +41,7 @@ impl Model for WideRecord {
     ghost invariant = { λ r. IsWideRecord r.entries.items };
 }
 
-/// Whether the entries are exactly `count` lists, each ended by a 0.
+/// Whether `entries` are exactly `count` lists, each ended by a 0, and nothing else.
 fn are_lists(entries: &[u16], count: u16) -> bool
     ensures { IsTrue result ↔ AreLists entries.now count }
 {
@@ -57,7 +58,8 @@ fn are_lists(entries: &[u16], count: u16) -> bool
     remaining == 0
 }
 
-/// Whether the entries are one wide record.
+/// Whether `entries` are one wide record: first n, from 1 to 1,200, then exactly n lists, each ended by a 0, and at
+/// most 65,535 entries in all.
 fn is_wide_record(entries: &[u16]) -> bool
     ensures { IsTrue result ↔ IsWideRecord entries.now }
 {
@@ -72,8 +74,8 @@ fn is_wide_record(entries: &[u16]) -> bool
 }
 
 impl WideRecord {
-    /// Checks that the entries are one wide record, and returns it in their buffer; if they are not, the buffer is
-    /// dropped.
+    /// Checks that `entries` are one wide record, and returns it in their buffer. `Large` if the first entry is above
+    /// 1,200; otherwise `Record` if they are not one wide record. After an error the buffer is dropped.
     ///
     /// The time is linear in their number, and it allocates nothing.
     ///

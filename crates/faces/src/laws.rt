@@ -8,7 +8,7 @@ ghost use Rattle.embedding.specs.Rules.{KeepsBefore};
 ghost use Rattle.faces.specs.Faces.{IsFace, IsClosedUnder, steps};
 ghost use Rattle.faces.specs.Planes.{HasEnds, IsPlane, PlaneModel, darts, degree, face_at, reverse_dart};
 
-/// Faces partition the darts: the darts with each number are one face, and each face has a number.
+/// Theorem: faces partition the darts: the darts with each number are one face, and each face has a number.
 pub fn faces_are_numbered()
     ensures { (n f : ℕ) (next face : ℕ → ℕ) → HasFaces n next face f
         → ((k : ℕ) → k < f → IsFace n next (λ d. face d == k))
@@ -16,14 +16,14 @@ pub fn faces_are_numbered()
         → (k : ℕ) × (k < f) × ((d : ℕ) → d < n → (s d ≡ true) ↔ (face d ≡ k))) }
 {}
 
-/// The numbering of the darts by their faces is unique, and so is the number of faces.
+/// Theorem: the numbering of the darts by their faces is unique, and so is the number of faces.
 pub fn numbering_is_unique()
     ensures { (n f g : ℕ) (next face other : ℕ → ℕ)
         → HasFaces n next face f → HasFaces n next other g
         → (f ≡ g) × ((d : ℕ) → d < n → face d ≡ other d) }
 {}
 
-/// Two darts are in the same face if and only if some number of steps by "next" leads from one to the other.
+/// Theorem: two darts are in the same face if and only if some number of steps by "next" leads from one to the other.
 pub fn faces_are_orbits()
     ensures { (n f : ℕ) (next face : ℕ → ℕ) → HasFaces n next face f
         → ((d : ℕ) → d < n → next d < n)
@@ -31,12 +31,12 @@ pub fn faces_are_orbits()
         → (face d ≡ face e) ↔ ((k : ℕ) × (steps next k d ≡ e)) }
 {}
 
-/// The degrees of all faces of a plane sum to the number of darts.
+/// Theorem: the degrees of all faces of a plane sum to the number of darts.
 pub fn degrees_sum()
     ensures { (p : PlaneModel) → IsPlane p → sum_below p.faces (degree p) ≡ darts p }
 {}
 
-/// Any two darts of a connected graph are connected by "next" and "reverse".
+/// Theorem: any two darts of a connected graph are connected by "next" and "reverse".
 ///
 /// A set of darts that is closed under "next" and under "reverse" and holds one dart holds them all.
 pub fn darts_are_connected()
@@ -45,7 +45,7 @@ pub fn darts_are_connected()
         → (d e : ℕ) → d < dart_count g → e < dart_count g → s d ≡ true → s e ≡ true }
 {}
 
-/// Any two faces of a plane are connected in the dual graph.
+/// Theorem: any two faces of a plane are connected in the dual graph.
 ///
 /// A nonempty set of faces is all of them if, with the face of each dart, it contains the face across the dart.
 pub fn faces_are_connected()
@@ -54,7 +54,7 @@ pub fn faces_are_connected()
         → (k j : ℕ) → k < p.faces → j < p.faces → t k ≡ true → t j ≡ true }
 {}
 
-/// The ends, reverses, next darts and faces of a plane's darts are in range.
+/// Theorem: the ends, reverses, next darts and faces of a plane's darts are in range.
 pub fn planes_have_ends()
     ensures { (p : PlaneModel) → IsPlane p → HasEnds p }
 {}

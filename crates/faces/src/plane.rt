@@ -65,7 +65,7 @@ pub enum TraceFault {
     Memory(Graph),
 }
 
-/// The face with the most darts, the first one among equals.
+/// The number of the face with the most darts; among equals, the least number.
 fn greatest_face(graph: &Graph) -> u16
     requires { KeepsBefore graph.now 8 }
     ensures { (face : ℕ → ℕ) (f : ℕ) → HasFaces (dart_count graph.now) (next_of graph.now) face f
@@ -87,10 +87,11 @@ impl Plane {
     ghost use Rattle.faces.specs.Planes.{PlaneModel, IsPlane, HasGreatestOuter, HasEnds, darts, next, face_at, degree, with_outer};
     ghost use Rattle.faces.specs.Faults.{IsTraceFault};
 
-    /// The plane of a graph, with the face of most darts as its outer face.
+    /// The plane of `graph`, with the face of most darts as its outer face; among equals, the one that contains the
+    /// least dart. `Genus` with the graph, unchanged, exactly if its vertices minus its edges plus its faces is not 2.
+    /// There is no other error.
     ///
-    /// Among faces of equal degree the outer one is that which contains the least dart. It looks once at each face and
-    /// allocates nothing, since a graph keeps its faces.
+    /// It looks once at each face and allocates nothing, since a graph keeps its faces.
     ///
     /// # Errors
     ///
@@ -107,8 +108,9 @@ impl Plane {
         Plane::trace_in(alloc, &mut scratch, graph)
     }
 
-    /// The plane of a graph, with the face of most darts as its outer face, exactly as [`Plane::trace`]. The scratch is
-    /// neither read nor changed.
+    /// The plane of `graph`, with the face of most darts as its outer face; among equals, the one that contains the
+    /// least dart. `Genus` with the graph, unchanged, exactly if its vertices minus its edges plus its faces is not 2.
+    /// There is no other error. `scratch` is neither read nor changed.
     ///
     /// The plane's lists, which are those of its graph, can be returned to the scratch by [`Plane::give_back`].
     ///
@@ -129,7 +131,8 @@ impl Plane {
         Ok(Plane { graph, outer })
     }
 
-    /// Returns the lists of this plane's graph to `scratch.graph`, to be reused. It allocates nothing.
+    /// Drops this plane, and puts the two buffers of its graph into `scratch.graph`, for the next graph, in place of
+    /// those that it has.
     pub fn give_back(self, scratch: &mut Scratch) {
         self.graph.give_back(&mut scratch.graph);
     }
@@ -143,7 +146,7 @@ impl Plane {
         &self.graph
     }
 
-    /// The dart that follows this dart on its face.
+    /// The dart that follows `dart` on its face, which is the face on the left of both.
     pub fn next(&self, dart: u16) -> u16
         requires { dart < darts self.now }
         ensures value { result ≡ next self.now dart }
@@ -153,7 +156,7 @@ impl Plane {
         self.graph.after(self.graph.reverse(dart))
     }
 
-    /// The face on the left of a dart.
+    /// The number of the face on the left of `dart`.
     pub fn face_of(&self, dart: u16) -> u16
         requires { dart < darts self.now }
         ensures value { result ≡ face_at self.now dart }
@@ -162,7 +165,7 @@ impl Plane {
         self.graph.face_of(dart)
     }
 
-    /// The least dart of a face. The time is linear in the number of that dart.
+    /// The least dart of `face`. The time is linear in the number of that dart.
     pub fn least_dart(&self, face: u16) -> u16
         requires { face < self.now.faces }
         ensures inside { result < darts self.now }
@@ -188,7 +191,7 @@ impl Plane {
         self.graph.face_count()
     }
 
-    /// The number of darts of a face.
+    /// The number of darts of `face`.
     pub fn degree(&self, face: u16) -> u16
         requires { face < self.now.faces }
         ensures value { result ≡ degree self.now face }
@@ -196,7 +199,7 @@ impl Plane {
         self.graph.face_degree(face)
     }
 
-    /// The outer face.
+    /// The number of the outer face.
     pub fn outer(&self) -> u16
         ensures value { result ≡ self.now.outer }
         ensures named { result < self.now.faces }

@@ -47,12 +47,13 @@ impl Chunks {
         }
     }
 
-    /// The memory that the text holds, in bytes.
+    /// The memory that the text holds, in bytes: the capacity of all its chunks, and not the length of the text.
     pub(crate) fn size(&self) -> usize {
         self.size
     }
 
-    /// Appends `text`, undivided, and returns how many bytes of memory that took.
+    /// Appends `text`, undivided, and returns how many bytes of memory were allocated for it: 0 if it fits in the last
+    /// chunk, otherwise the capacity of a new chunk. `AllocError` if there is no memory for it; then nothing changes.
     ///
     /// # Errors
     ///
@@ -74,8 +75,9 @@ impl Chunks {
         Ok(room)
     }
 
-    /// Appends the text to `buffer`, which is written to the sink when it is nearly full; the end of the text stays in
-    /// `buffer`.
+    /// Appends the text to `buffer`, which is written to `sink` each time it is nearly full; the end of the text stays
+    /// in `buffer`. This text stays as it is. `Refused` exactly if `sink` fails, which has then taken a prefix of what
+    /// was in `buffer` and this text.
     ///
     /// # Errors
     ///
@@ -109,7 +111,8 @@ pub struct Waiting {
     pub mark: Option<Mark>,
 }
 
-/// A list with a state for each of `files` files, of which nothing has arrived yet; `AllocError` if there is no memory.
+/// A new list with the state of each of `files` files, in order, of which nothing has arrived: no lines, a count of 0,
+/// no mark. `AllocError` if there is no memory for the list.
 pub(crate) fn none_come(alloc: Global, files: u32) -> Result<Vec<Waiting>, AllocError>
     ensures count { IfOk result (λ waiting. length waiting.items ≡ files) }
     ensures empty { IfOk result (λ waiting. All IsNothing waiting.items) }

@@ -1,5 +1,5 @@
-//! Texts of files on their way to a sink, in the order of files: what has arrived of each file, buffers for those that are
-//! not current yet, and pauses while too much is buffered.
+//! Texts of files on their way to a sink, in the order of files: what has arrived of each file, buffers for those that
+//! are not current yet, and pauses while too much is buffered.
 #![tactic(auto)]
 
 mod chunks;

@@ -44,7 +44,8 @@ pub struct KnownEnd<J: KnownFiles> {
     pub ghost is_end: { ∥ IsEndAt (J.meaning file) count mark ∥₁ } by { Prim.hlevel props },
 }
 
-/// The `KnownEnd` for the end of a file, which must fit the meaning that `J` gives the file.
+/// The `KnownEnd` of file `file`, with the number of records and the mark of `end`, which must fit the meaning that `J`
+/// gives the file.
 pub fn known_end<J: KnownFiles>(file: u32, end: SourceEnd) -> KnownEnd<J>
     requires { IsEndAt (J.meaning file) end.count end.mark }
 {
@@ -70,8 +71,9 @@ pub struct Pace<'p> {
 }
 
 impl Pace<'_> {
-    /// Pauses the files after the current file if `held`, the bytes of buffered text, reaches the limit, and those
-    /// after the next file that has not ended if it reaches a quarter of the limit; otherwise lifts all pauses.
+    /// Pauses the files after file `current` if `held`, the bytes of buffered text, is at least the limit; those after
+    /// the next file in `waiting` that has not ended if it is at least a quarter of it; otherwise lifts all pauses.
+    /// This replaces earlier pauses.
     pub(crate) fn keep(&self, held: usize, current: u32, waiting: &[Waiting]) {
         if held >= self.most {
             self.pauses.pause_after(current);
@@ -83,7 +85,8 @@ impl Pace<'_> {
     }
 }
 
-/// The first file after the current file that has not ended; a number past the last file if all have ended.
+/// The index of the first file after file `current` that has not ended, by its state in `waiting`; a number past the
+/// last file if all of these have ended.
 fn next_unended(current: u32, waiting: &[Waiting]) -> u32 {
     for file in current.saturating_add(1)..u32::MAX {
         let place = file as usize;
@@ -119,7 +122,9 @@ impl Model for FileOrder {
 }
 
 impl FileOrder {
-    /// An empty reorder buffer for the texts of `files` files. The sink gets `first` before them.
+    /// An empty reorder buffer for the texts of `files` files; file 0 is current. `first` waits in its fixed buffer to
+    /// go to the sink before them; nothing is written yet. `AllocError` if there is no memory for the fixed buffer or
+    /// for a list of this many files. `first` has at most `ROOM` bytes.
     ///
     /// # Errors
     ///
@@ -139,16 +144,16 @@ impl FileOrder {
         })
     }
 
-    /// The number of the current file, the first whose text is not written completely; past the last file if all texts
-    /// are.
+    /// The index, from 0, of the current file, the first whose text is not written completely, even if its end is kept
+    /// already; past the last file if all texts are.
     pub fn current(&self) -> u32
         ensures { result ≡ self.now.current }
     {
         self.current
     }
 
-    /// Pauses later files or lets them go on, depending on how much is buffered; if a message was refused, they go on,
-    /// since no more is taken in.
+    /// Pauses later files or lets them go on, by `pace` and how much text is buffered here; lets all go on if `goes_on`
+    /// is false, since after a refused message no more is taken in. Nothing changes here.
     pub fn keep_pace(&self, pace: &Pace<'_>, goes_on: bool) {
         if goes_on {
             pace.keep(self.held, self.current, self.waiting.as_slice());
@@ -157,15 +162,15 @@ impl FileOrder {
         }
     }
 
-    /// Whether a file is the current file or a later one of the run.
+    /// Whether file `file` is the current file or a later one of the run.
     fn is_to_come(&self, file: u32) -> bool
         ensures { IsTrue result ↔ ((self.now.current ≤ file) × (file < length self.now.waiting)) }
     {
         self.current <= file && (file as usize) < self.waiting.len()
     }
 
-    /// Whether the next entry of a file is the one at place `ordinal`: false if the file has ended or is not to come,
-    /// or if the place is `MAX_RECORDS` or more.
+    /// Whether the next entry of file `file` is the one at place `ordinal`, from 0: false if the file has ended or is
+    /// not to come (it is before the current file, or none of the run), or if `ordinal` is `MAX_RECORDS` or more.
     pub fn is_next(&self, file: u32, ordinal: u32) -> bool
         ensures open { IsTrue result → (self.now.current ≤ file) × (file < length self.now.waiting) }
         ensures next { IsTrue result → (other : Waiting) → IsNext ordinal (slice_index_or self.now.waiting file other) }
@@ -179,12 +184,14 @@ impl FileOrder {
         here.mark.is_none() && here.count == ordinal && ordinal < MAX_RECORDS
     }
 
-    /// Counts one more entry of a file. Its text goes on to the sink if the file is current, and is buffered otherwise.
+    /// Counts one more entry of file `file`; sends `text` on to `sink` through the fixed buffer, or buffers it if the
+    /// file is not current. `Refused` exactly if `sink` fails, `Memory` if there is no memory to buffer it: the entry
+    /// is then counted, too. `LaneLost`, and nothing changes, if 2^32 - 1 entries of the file are counted.
     ///
     /// # Errors
     ///
-    /// `Refused` exactly if the sink has then failed; `Memory` only if the file is not current, and there is no memory to
-    /// buffer its text; `LaneLost` only if 2^32 - 1 entries of the file are counted already.
+    /// `Refused` exactly if the sink has then failed; `Memory` only if the file is not current, and there is no memory
+    /// to buffer its text; `LaneLost` only if 2^32 - 1 entries of the file are counted already.
     pub fn add<S: Sink>(
         &mut self,
         alloc: Global,
@@ -214,13 +221,14 @@ impl FileOrder {
         Ok(())
     }
 
-    /// Stores the mark of a file that has ended, and writes nothing; `LaneLost` if it had ended before or `known` is
-    /// not this end.
+    /// Stores `mark` as the mark of file `file`, and writes nothing; the current file stays current. `LaneLost`, and
+    /// nothing changes, if the file has ended already, is before the current file or none of the run, or if `known` has
+    /// another file, another mark or another number of entries.
     ///
     /// # Errors
     ///
-    /// `LaneLost` if it has ended, or if `known` is not its end with this mark after the entries that have arrived. There
-    /// is no other error.
+    /// `LaneLost` if it has ended, or if `known` is not its end with this mark after the entries that have arrived.
+    /// There is no other error.
     pub fn keep_end<J: KnownFiles>(
         &mut self,
         file: u32,
@@ -247,7 +255,8 @@ impl FileOrder {
         Ok(())
     }
 
-    /// The end of the current file, if it has ended.
+    /// The end of the current file, its mark and the number of its entries, if it has ended; `None` if it has not, or
+    /// if the run has no more files.
     pub fn current_end(&self) -> Option<SourceEnd>
         ensures below { IsSome result → self.now.current < length self.now.waiting }
         ensures ended { IfSome result (λ end. (other : Waiting) → HasEnd end (slice_index_or self.now.waiting self.now.current other)) }
@@ -262,7 +271,8 @@ impl FileOrder {
         })
     }
 
-    /// Moves on to the next file, and returns whether it is one of the run.
+    /// Makes the next file the current file, and returns whether it is one of the run; writes nothing. `LaneLost`, and
+    /// nothing changes, if its index does not fit in 32 bits.
     ///
     /// # Errors
     ///
@@ -282,7 +292,9 @@ impl FileOrder {
         }
     }
 
-    /// Writes the buffered lines of the current file to the sink, through the fixed buffer, and frees their memory.
+    /// Sends the buffered lines of the current file on to `sink`, through the fixed buffer, in which the last ones may
+    /// stay, and frees their memory. `Refused` exactly if `sink` fails, which has then taken a prefix of the text; the
+    /// lines are then freed, too. The current file must be one of the run.
     ///
     /// # Errors
     ///
@@ -305,8 +317,9 @@ impl FileOrder {
         lines.put(&mut self.buffer, sink)
     }
 
-    /// Appends `text` to the text in transit to the sink; it is written when the fixed buffer is nearly full, or by
-    /// `flush`.
+    /// Appends `text` to the text in transit to `sink`; it is written when the fixed buffer is nearly full, or by
+    /// `flush`. No entry is counted. `Refused` exactly if `sink` fails, which has then taken a prefix of the text in
+    /// transit.
     ///
     /// # Errors
     ///
@@ -322,14 +335,16 @@ impl FileOrder {
         Ok(self.buffer.put(sink, text)?)
     }
 
-    /// Whether all text in transit has reached the sink.
+    /// Whether all text in transit has reached the sink: the fixed buffer is empty. Texts that are buffered for later
+    /// files do not count.
     pub fn is_flushed(&self) -> bool
         ensures { IsTrue result ↔ (self.now.buffer ≡ []) }
     {
         self.buffer.is_empty()
     }
 
-    /// Writes the text in transit to the sink.
+    /// Writes the text in transit to `sink`, and empties the fixed buffer; texts buffered for later files stay there.
+    /// `Refused` exactly if `sink` fails, which has then taken a prefix of the text in transit.
     ///
     /// # Errors
     ///

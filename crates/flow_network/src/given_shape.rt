@@ -9,7 +9,7 @@ use common::MAX_VERTICES;
 use faces::Plane;
 use std::marker::Model;
 
-/// Whether a dart or a face is marked. Those past the end of the list are not.
+/// Whether entry `number` of `marks`, the marks of darts or of faces, is true; false past the end of the list.
 pub fn has_mark(marks: &[bool], number: u16) -> bool
     ensures { result ≡ is_marked marks.now number }
 {
@@ -22,9 +22,9 @@ pub const MAX_GIVEN_TURNS: usize = 6 * MAX_VERTICES + 4;
 
 /// Angles and turns that a shape is to keep, in two lists that are borrowed.
 ///
-/// Place d of each list belongs to dart d, and past the end of a list nothing is given. An angle lies at the head of its
-/// dart and is 1 to 4 right angles. Turns are counted to the left, and a negative number is of turns to the right. Those of
-/// an edge stand at its lesser dart; what stands at the other one is not read.
+/// Place d of each list belongs to dart d, and past the end of a list nothing is given. An angle lies at the head of
+/// its dart and is 1 to 4 right angles. Turns are counted to the left, and a negative number is of turns to the right.
+/// Those of an edge stand at its lesser dart; what stands at the other one is not read.
 #[derive(Debug, Drop)]
 pub struct Given<'a> {
     angles: &'a [Option<u8>],
@@ -52,16 +52,16 @@ impl<'a> Given<'a> {
         }
     }
 
-    /// Whether all given angles are 1 to 4, and the given turns, left or right, are at most `MAX_GIVEN_TURNS` in all,
-    /// as `new` requires.
+    /// Whether `new` can take these lists: each angle that is given is 1 to 4, and the absolute values of all turns
+    /// that are given add up to at most `MAX_GIVEN_TURNS`. Entries that are `None` do not count.
     pub fn can_be(angles: &[Option<u8>], turns: &[Option<i32>]) -> bool
         ensures { IsTrue result ↔ CanBeGiven angles.now turns.now }
     {
         angles.iter().all(|angle| is_angle(*angle)) && are_few(turns)
     }
 
-    /// The angles and turns that these lists give, each indexed by dart; `can_be` must hold of them. It allocates
-    /// nothing.
+    /// The angles and turns that these two borrowed lists give, each indexed by dart. They are not checked: `can_be`
+    /// must hold of them. It allocates nothing.
     pub fn new(angles: &'a [Option<u8>], turns: &'a [Option<i32>]) -> Given<'a>
         requires { CanBeGiven angles.now turns.now }
         ensures { result ≡ record { angles = angles.now; turns = turns.now } }
@@ -69,7 +69,7 @@ impl<'a> Given<'a> {
         Given { angles, turns }
     }
 
-    /// Whether both lists are empty.
+    /// Whether both lists are empty; false for a list with entries, even if all of them are `None`.
     pub fn is_nothing(&self) -> bool
         ensures nothing { IsTrue result ↔ (self.now ≡ nothing_given) }
         ensures can { CanBeGiven self.now.angles self.now.turns }
@@ -77,7 +77,8 @@ impl<'a> Given<'a> {
         self.angles.is_empty() && self.turns.is_empty()
     }
 
-    /// The angle that is given at the head of a dart, in right angles; `None` if none is given.
+    /// The angle that is given at the head of a dart, 1 to 4 right angles; `None` if none is given, also past the end
+    /// of the list.
     pub fn angle(&self, dart: u16) -> Option<u8>
         ensures value { result ≡ angle_given self.now dart }
         ensures angle { IsAngle result }
@@ -90,7 +91,8 @@ impl<'a> Given<'a> {
         }
     }
 
-    /// The left turns that are given along a dart, negative for right turns; `None` if none are given.
+    /// The left turns that are given along a dart, negative for right turns: the entry of the lesser dart of its edge,
+    /// negated for the greater dart; `None` if none are given, also past the end of the list.
     pub fn turns(&self, plane: &Plane, dart: u16) -> Option<i32>
         requires { dart < darts plane.now }
         ensures value { result ≡ turns_given plane.now self.now dart }
@@ -102,8 +104,8 @@ impl<'a> Given<'a> {
         self.turns_of_edge(plane, dart)
     }
 
-    /// The left turns that are given along a dart, negative for right turns, read at the lesser dart of its edge;
-    /// `None` if none are given.
+    /// The left turns that are given along a dart, negative for right turns: the entry of the lesser dart of its edge,
+    /// negated for the greater dart; `None` if none are given, also past the end of the list.
     fn turns_of_edge(&self, plane: &Plane, dart: u16) -> Option<i32>
         requires { dart < darts plane.now }
         ensures value { result ≡ turns_given plane.now self.now dart }
@@ -117,7 +119,8 @@ impl<'a> Given<'a> {
         }
     }
 
-    /// The entry of this dart, not of its edge, in the list of turns; `None` after the end of the list.
+    /// The entry of this dart itself, not of the lesser dart of its edge, in the list of turns; `None` also past the
+    /// end of the list.
     fn turns_in_list(&self, dart: u16) -> Option<i32>
         ensures value { result ≡ slice_index_or self.now.turns dart None }
         ensures few { nat_abs (lefts_given result) ≤ MAX_GIVEN_TURNS }
@@ -131,7 +134,7 @@ impl<'a> Given<'a> {
     }
 }
 
-/// The same turns along the reverse dart: the negated number, or `None`.
+/// The same turns along the reverse dart: the negated number, or `None` for `None`.
 fn back(turns: Option<i32>) -> Option<i32>
     requires { nat_abs (lefts_given turns) ≤ MAX_GIVEN_TURNS }
     ensures { result ≡ walked_back turns }
@@ -142,14 +145,15 @@ fn back(turns: Option<i32>) -> Option<i32>
     }
 }
 
-/// Whether an angle, if there is one, is 1 to 4 right angles.
+/// Whether `angle` is `None` or 1 to 4 right angles.
 fn is_angle(angle: Option<u8>) -> bool
     ensures { IsTrue result ↔ IsAngle angle }
 {
     matches!(angle, None | Some(1..=4))
 }
 
-/// Whether the turns of all entries, left or right, are at most `MAX_GIVEN_TURNS` in all. Linear in the list.
+/// Whether the absolute values of all entries that are not `None` add up to at most `MAX_GIVEN_TURNS`. Linear in the
+/// list.
 fn are_few(turns: &[Option<i32>]) -> bool
     ensures { IsTrue result ↔ (turns_in_all turns.now ≤ MAX_GIVEN_TURNS) }
 {
@@ -163,7 +167,7 @@ fn are_few(turns: &[Option<i32>]) -> bool
     true
 }
 
-/// How many right angles beyond the first a given angle has; 0 if none is given.
+/// How many right angles beyond the first a given angle has: the angle less 1; 0 for `None`.
 pub(crate) fn beyond(angle: Option<u8>) -> i32
     requires { IsAngle angle }
     ensures { result ≡ pos (beyond_first angle) }
@@ -174,7 +178,7 @@ pub(crate) fn beyond(angle: Option<u8>) -> i32
     }
 }
 
-/// The given number of left turns, negative for right turns; 0 if none are given.
+/// The given number of left turns, negative for right turns; 0 for `None`.
 pub(crate) fn lefts(turns: Option<i32>) -> i32
     ensures { result ≡ lefts_given turns }
 {

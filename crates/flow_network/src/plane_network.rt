@@ -28,7 +28,7 @@ pub struct Scratch {
 }
 
 impl Scratch {
-    /// An empty scratch. It allocates nothing.
+    /// A scratch with empty lists. It allocates nothing.
     pub fn empty(alloc: Global) -> Scratch {
         Scratch {
             supplies: Vec::new(alloc),
@@ -56,8 +56,8 @@ fn face_supply(plane: &Plane, face: u16) -> i32
     turn - i32::from(plane.degree(face))
 }
 
-/// The supply of a vertex, numbered from 1: 4 less its degree, less the right angles beyond the first of its given
-/// angles. Linear in the darts of the plane.
+/// The supply of a vertex, numbered from 1: 4 less its degree, less the right angles beyond the first of the angles
+/// that are given at the heads of its arriving darts. Linear in the darts of the plane.
 pub fn vertex_to_turn(plane: &Plane, given: &Given<'_>, vertex: u16) -> i32
     requires some { 0 < vertex }
     requires within { vertex ≤ vertices plane.now }
@@ -70,7 +70,8 @@ pub fn vertex_to_turn(plane: &Plane, given: &Given<'_>, vertex: u16) -> i32
     units
 }
 
-/// How many right angles beyond the first a dart's given angle has at a vertex: none if the dart does not arrive there.
+/// How many right angles beyond the first the angle given at the head of `dart` has; 0 if none is given, or if `vertex`
+/// is not the head.
 fn beyond_at(plane: &Plane, given: &Given<'_>, dart: u16, vertex: u16) -> i32
     requires { dart < darts plane.now }
     ensures value { result ≡ pos (if head plane.now dart == vertex then beyond_first (angle_given given.now dart) else 0) }
@@ -83,7 +84,8 @@ fn beyond_at(plane: &Plane, given: &Given<'_>, dart: u16, vertex: u16) -> i32
     }
 }
 
-/// Returns the supply of each node of the plane's flow network: of all vertices, then of all faces.
+/// Returns the supplies of the nodes of the plane's flow network, first of all vertices, then of all faces, in the
+/// buffer of `old`, whose contents are lost. `AllocError` if that is too small and there is no memory; it is then gone.
 ///
 /// Each is what the vertex or the face has to turn besides what is given. Reuses the buffer of `old`.
 pub fn supplies_of(old: Vec<i32>, plane: &Plane, given: &Given<'_>) -> Result<Vec<i32>, AllocError>
@@ -101,7 +103,8 @@ pub fn supplies_of(old: Vec<i32>, plane: &Plane, given: &Given<'_>) -> Result<Ve
     Ok(supplies)
 }
 
-/// The supply of each node if nothing is given, of all vertices, then of all faces, in the buffer of `old`.
+/// Returns the supply of each node as if nothing were given, first of all vertices, then of all faces, in the buffer of
+/// `old`, whose contents are lost. `AllocError` if that is too small and there is no memory; it is then gone.
 fn supplies_of_plane(old: Vec<i32>, plane: &Plane) -> Result<Vec<i32>, AllocError>
     ensures nodes { IfOk result (λ s. length s.items ≡ vertices plane.now + plane.now.faces) }
     ensures at_vertex { IfOk result (λ s. (v : ℕ) → 1 ≤ v → v ≤ vertices plane.now
@@ -123,7 +126,7 @@ fn supplies_of_plane(old: Vec<i32>, plane: &Plane) -> Result<Vec<i32>, AllocErro
 }
 
 /// Corrects `supplies`, computed as if nothing were given: given right angles beyond the first move from the vertex to
-/// the face, and faces lose the given left turns of their darts.
+/// the face, and each face loses the given left turns of its darts (negative ones raise its supply).
 fn take_given(supplies: &mut [i32], plane: &Plane, given: &Given<'_>)
     requires can { CanBeGiven given.now.angles given.now.turns }
     requires nodes { length supplies.old ≡ vertices plane.now + plane.now.faces }
@@ -149,7 +152,8 @@ fn take_given(supplies: &mut [i32], plane: &Plane, given: &Given<'_>)
     }
 }
 
-/// The capacity of the corner arc of a dart: 0 if its angle is given, else 3.
+/// The capacity of the corner arc of a dart: `AtMost(0)` if its angle is given, else `AtMost(3)`. `is_nothing` must be
+/// whether `given` has two empty lists.
 fn corner_cap(given: &Given<'_>, is_nothing: bool, dart: u16) -> Cap
     requires { IsTrue is_nothing ↔ (given.now ≡ nothing_given) }
     ensures { result ≡ corner_cap (angle_given given.now dart) }
@@ -163,7 +167,8 @@ fn corner_cap(given: &Given<'_>, is_nothing: bool, dart: u16) -> Cap
     }
 }
 
-/// The capacity of the crossing arc of a dart: 0 if its turns are given, else unlimited.
+/// The capacity of the crossing arc of a dart: `AtMost(0)` if its turns are given, else `Any`. `is_nothing` must be
+/// whether `given` has two empty lists.
 fn crossing_cap(plane: &Plane, given: &Given<'_>, is_nothing: bool, dart: u16) -> Cap
     requires within { dart < darts plane.now }
     requires nothing { IsTrue is_nothing ↔ (given.now ≡ nothing_given) }
@@ -178,7 +183,9 @@ fn crossing_cap(plane: &Plane, given: &Given<'_>, is_nothing: bool, dart: u16) -
     }
 }
 
-/// Returns the arcs of the plane's flow network: the corner arcs of all darts, then the crossing arcs of all darts.
+/// Returns the arcs of the plane's flow network, the corner arcs of all darts, then the crossing arcs of all darts, in
+/// the buffer of `old`, whose contents are lost. `AllocError` if that is too small and there is no memory; it is then
+/// gone.
 ///
 /// The arcs of what is given have capacity 0. Reuses the buffer of `old`.
 pub fn arcs_of(old: Vec<Arc>, plane: &Plane, given: &Given<'_>) -> Result<Vec<Arc>, AllocError>
@@ -195,8 +202,8 @@ pub fn arcs_of(old: Vec<Arc>, plane: &Plane, given: &Given<'_>) -> Result<Vec<Ar
     Ok(arcs)
 }
 
-/// A list of `count` arcs, to be overwritten, in the buffer of `old`. If that is too small, it allocates exactly
-/// `count`.
+/// A list of `count` arcs in the buffer of `old`, all of which the caller is to overwrite. If the buffer is too small,
+/// it allocates exactly `count`: `AllocError` if there is no memory, and `old` is then gone.
 fn resized(old: Vec<Arc>, count: usize) -> Result<Vec<Arc>, AllocError>
     ensures { IfOk result (λ a. length a.items ≡ count) }
 {
@@ -212,7 +219,8 @@ fn resized(old: Vec<Arc>, count: usize) -> Result<Vec<Arc>, AllocError>
     Ok(arcs)
 }
 
-/// Writes the corner arcs of all darts, followed by their crossing arcs.
+/// Overwrites `arcs`, which has two places for each dart, with the corner arcs of all darts, followed by their crossing
+/// arcs. The arcs of what is given get capacity 0.
 fn write_arcs(arcs: &mut [Arc], plane: &Plane, given: &Given<'_>)
     requires { length arcs.old ≡ darts plane.now + darts plane.now }
     ensures arcs { length arcs.new ≡ darts plane.now + darts plane.now }
@@ -259,9 +267,11 @@ fn write_arcs(arcs: &mut [Arc], plane: &Plane, given: &Given<'_>)
 /// | Thing | Number |
 /// |---|---|
 /// | node of vertex v | v - 1; it supplies 4 less its degree, less what its given angles have beyond the first |
-/// | node of face f | n + f; an inner face supplies 4 less its degree, the outer face -4 less its degree; each what its given angles have beyond the first more, and its given left turns less |
+/// | node of face f | n + f; it supplies 4 less its degree, the outer face -4 less its degree; what is given: below |
 /// | corner arc of dart d | d, from its head to its face, at most 3 units, cost 0; none if its angle is given |
-/// | crossing arc of dart d | D + d, from its face to the face across, any number of units, cost 1 each; none if its turns are given |
+/// | crossing arc of dart d | D + d, from its face to the face across, no limit, cost 1; none if its turns are given |
+///
+/// A face supplies more by what its given angles have beyond the first, and less by its given left turns.
 #[derive(Debug, Drop)]
 pub struct FaceNet {
     network: Network,
@@ -285,7 +295,8 @@ impl Model for FaceNet {
 impl FaceNet {
     ghost use Rattle.flow_network.specs.FaceNet.{IsFaceNetOf, IsKeepingNetOf};
 
-    /// The flow network of a plane. Linear in the darts.
+    /// The flow network of a plane with its current outer face, where nothing is given. `AllocError` if there is no
+    /// memory for it. Linear in the darts.
     ///
     /// # Errors
     ///
@@ -298,7 +309,8 @@ impl FaceNet {
         FaceNet::build_keeping_in(alloc, &mut scratch, plane, &Given::nothing())
     }
 
-    /// The flow network of a plane for the shapes that keep what is given, in the buffers of the caller's scratch.
+    /// The flow network of a plane for the shapes that keep what is given, in the two lists of `scratch`, which it
+    /// takes with it; they grow if too small. `AllocError` if there is no memory for that; the lists may then be lost.
     ///
     /// There need not be a flow, unless nothing is given. Linear in the darts. The network takes its lists with it;
     /// [`FaceNet::give_back`] returns them.
@@ -333,21 +345,23 @@ impl FaceNet {
         })
     }
 
-    /// The network as nodes with supplies and arcs.
+    /// The network itself, borrowed: its nodes with their supplies, and its arcs.
     pub fn network(&self) -> &Network
         ensures { result.now ≡ self.now.network }
     {
         &self.network
     }
 
-    /// Returns the lists of this network to the scratch, to be reused. It allocates nothing.
+    /// Moves the two lists of this network to `scratch`, to be reused; the lists that were there are dropped. It
+    /// allocates nothing.
     pub fn give_back(self, scratch: &mut Scratch) {
         let (supplies, arcs) = self.network.into_lists();
         scratch.supplies = supplies;
         scratch.arcs = arcs;
     }
 
-    /// Makes `face` the outer face in place of the plane's, by moving supply between the two faces.
+    /// Makes `face` the outer face of this network in place of that of `plane`, by moving 8 units of supply from `face`
+    /// to the old one; `plane` itself keeps its outer face. If both are one face, nothing changes.
     ///
     /// Eight units more are supplied at the old one, and eight less at the new one. It allocates nothing.
     pub fn set_outer(&mut self, plane: &Plane, face: u16)
@@ -364,21 +378,22 @@ impl FaceNet {
         self.network.shift(from, to, 8);
     }
 
-    /// The number of the corner arc of a dart, which carries its angle less one.
+    /// The number of the corner arc of a dart, which is the dart's own. The arc carries its angle less one.
     pub fn corner_arc(&self, dart: u16) -> u32
         ensures { result ≡ dart }
     {
         u32::from(dart)
     }
 
-    /// The number of the crossing arc of a dart, which carries its left turns.
+    /// The number of the crossing arc of a dart: the dart's own plus the number of all darts. The arc carries its left
+    /// turns.
     pub fn crossing_arc(&self, dart: u16) -> u32
         ensures { result ≡ self.now.darts + dart }
     {
         self.darts + u32::from(dart)
     }
 
-    /// The node of a vertex; vertices are numbered from 1.
+    /// The node of a vertex; vertices are numbered from 1, nodes from 0.
     pub fn vertex_node(&self, vertex: u16) -> u32
         requires { 1 ≤ vertex }
         ensures { result ≡ vertex - 1 }
@@ -386,7 +401,7 @@ impl FaceNet {
         u32::from(vertex) - 1
     }
 
-    /// The node of a face; faces are numbered from 0.
+    /// The node of a face: the number of vertices plus that of the face; faces are numbered from 0.
     pub fn face_node(&self, face: u16) -> u32
         ensures { result ≡ self.now.vertices + face }
     {

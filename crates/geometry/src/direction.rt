@@ -65,7 +65,7 @@ impl Direction {
         }
     }
 
-    /// The direction with this number: `number` quarter turns to the left from east.
+    /// The direction with this number, 0 to 3: `number` quarter turns to the left from east.
     pub fn from_quarters(number: u8) -> Direction
         requires { number < 4 }
         ensures { quarters result ≡ number }
@@ -79,7 +79,8 @@ impl Direction {
         }
     }
 
-    /// The direction that is `quarters` quarter turns to the left. It takes constant time.
+    /// The direction that is `quarters` quarter turns to the left of this one; four or a multiple of it is no change.
+    /// It takes constant time.
     pub fn left_quarters(self, quarters: u8) -> Direction
         ensures { result ≡ left_quarters quarters self }
     {

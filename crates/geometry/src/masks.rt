@@ -14,8 +14,9 @@ use std::alloc::AllocError;
 /// The number of columns of a row.
 pub(crate) const COLUMNS: u32 = 63;
 
-/// Whether no two of the rectangles, all left of column `COLUMNS` and below row `height`, have a point in common. Reuses
-/// `table` for the flags.
+/// Whether no two of the rectangles, all left of column `COLUMNS` and below row `height`, have a point in common. The
+/// flags overwrite `table`, which is grown if it has fewer than `height` items. `AllocError` if there is no memory for
+/// that.
 pub(crate) fn flag_all(
     rectangles: &[Rectangle],
     height: usize,
@@ -39,7 +40,8 @@ pub(crate) fn flag_all(
     Ok(true)
 }
 
-/// Flags the points of a rectangle; false if one of them is flagged already.
+/// Flags the points of the rectangle `new` in `table`, and returns true; false if one of them is flagged already: the
+/// rows of the rectangle below that point are then flagged, and all others stay as they were.
 fn flag(table: &mut [u64], new: Rectangle) -> bool
     requires filled { IsNonempty new }
     requires narrow { new.right < COLUMNS }
@@ -52,7 +54,7 @@ fn flag(table: &mut [u64], new: Rectangle) -> bool
     add_mask(rows, mask)
 }
 
-/// The bits of the columns `left` to `right`.
+/// The word in which the bits of the columns `left` to `right`, both included, are set, and no others.
 fn mask_of(left: u32, right: u32) -> u64
     requires filled { left ≤ right }
     requires narrow { right < COLUMNS }
@@ -61,8 +63,9 @@ fn mask_of(left: u32, right: u32) -> u64
     (1u64 << (right + 1)) - (1u64 << left)
 }
 
-/// Adds the bits of the mask to each row in turn; stops and returns false at a row that already has one of these bits.
-/// Both are done in one pass, since the end of a loop over few rows is hard to predict.
+/// Sets the bits of `mask` in each item of `rows` in turn, and returns true; stops and returns false at an item that
+/// already has one of these bits, with those before it changed. Both are done in one pass, since the end of a loop over
+/// few rows is hard to predict.
 fn add_mask(rows: &mut [u64], mask: u64) -> bool
     ensures free { OnTrue result (EachIndex rows.old (λ y. bit_and (slice_index rows.old y) mask ≡ 0)) }
     ensures met { OnFalse result (SomeIndex rows.old (λ y. bit_and (slice_index rows.old y) mask ≢ 0)) }

@@ -33,8 +33,8 @@ const TABLE_ROWS: usize = 8;
 // was measured to be faster from some 350 on.
 const ALL_ROWS: usize = 128;
 
-/// Whether no two of the rectangles have a point in common. It may reorder `rectangles`, and reuses the buffer of
-/// `table`.
+/// Whether no two of the rectangles have a point in common. It may reorder `rectangles`, and overwrites `table`, whose
+/// buffer it reuses. `AllocError` if there is no memory for the dictionary, or for `table` if that is too small.
 ///
 /// It takes O(n log n) time for n rectangles, however many points they contain.
 ///
@@ -58,8 +58,8 @@ pub fn all_apart_in(
     }
 }
 
-/// Whether no two of the rectangles, sorted by their left columns, have a point in common. Reuses `table` or, if they
-/// have too many rows, allocates a dictionary.
+/// Whether no two of the rectangles, sorted by their left columns, have a point in common. It overwrites `table` or, if
+/// they have too many rows, allocates a dictionary. `AllocError` if there is no memory for the one that it uses.
 fn sweep(alloc: Global, rectangles: &[Rectangle], table: &mut Vec<u64>) -> Result<bool, AllocError>
     requires filled { All IsNonempty rectangles.now }
     requires ordered { IsNonDecreasingBy (λ r. r.left) rectangles.now }
@@ -71,8 +71,8 @@ fn sweep(alloc: Global, rectangles: &[Rectangle], table: &mut Vec<u64>) -> Resul
     }
 }
 
-/// The number of rows of a table that covers all rows of the rectangles; `None` if the table or all rectangles together
-/// would have too many.
+/// The number of rows, from row 0 on, of a table that covers all rows of the rectangles, 0 if there are no rectangles;
+/// `None` if the table or all rectangles together would have too many.
 fn table_height(rectangles: &[Rectangle]) -> Option<usize>
     requires { All IsNonempty rectangles.now }
     ensures { IfSome result (λ height. All (λ r. r.top < height) rectangles.now) }
@@ -90,7 +90,7 @@ fn table_height(rectangles: &[Rectangle]) -> Option<usize>
 }
 
 /// The number of rows of a table of bits that has room for all rectangles, less than twice as many as needed. `None` if
-/// some rectangle goes beyond the columns that have bits, 0 to 62, or the rows are too many.
+/// there is no rectangle, if one goes beyond the columns that have bits, 0 to 62, or if the rows are too many.
 ///
 /// Numbers are gathered by `or`, in which no step is a branch. The rows of all rectangles together need no count here:
 /// those that are flagged are disjoint, so at most `COLUMNS` of them share a row.
@@ -111,7 +111,8 @@ fn narrow_height(rectangles: &[Rectangle]) -> Option<usize>
     Some(height)
 }
 
-/// Whether all rectangles lie in columns 0 to 62, those that have bits; none of them goes beyond column `right`.
+/// Whether all rectangles lie in columns 0 to 62, those that have bits. `right` must be a column beyond which none of
+/// them goes.
 fn are_narrow(rectangles: &[Rectangle], right: u32) -> bool
     requires { All (λ r. r.right ≤ right) rectangles.now }
     ensures { OnTrue result (All (λ r. r.right < COLUMNS) rectangles.now) }
@@ -120,7 +121,7 @@ fn are_narrow(rectangles: &[Rectangle], right: u32) -> bool
 }
 
 /// Whether no two of the rectangles, sorted by their left columns and all below row `height`, have a point in common.
-/// Reuses `frontier` as its table.
+/// It overwrites `frontier`, which becomes a table of `height` items. `AllocError` if there is no memory for it.
 pub(crate) fn sweep_with_table(
     rectangles: &[Rectangle],
     height: usize,
@@ -141,7 +142,8 @@ pub(crate) fn sweep_with_table(
     Ok(true)
 }
 
-/// Moves the frontier past a new rectangle; false if in one of its rows the frontier is already beyond its left column.
+/// Moves `frontier` past the rectangle `new`, and returns true: each of its rows gets the next column on its right.
+/// False if in one of these rows the frontier is already beyond its left column; nothing changes then.
 fn move_past(frontier: &mut [u64], new: Rectangle) -> bool
     requires filled { IsNonempty new }
     requires low { new.top < length frontier.old }
@@ -156,7 +158,7 @@ fn move_past(frontier: &mut [u64], new: Rectangle) -> bool
     true
 }
 
-/// Whether the frontier is beyond a column in one of these rows.
+/// Whether the frontier is beyond the column `left`, at a greater one, in one of these rows.
 fn is_beyond(rows: &[u64], left: u64) -> bool
     ensures beyond { OnTrue result (SomeIndex rows.now (λ y. left < slice_index rows.now y)) }
     ensures within { OnFalse result (EachIndex rows.now (λ y. slice_index rows.now y ≤ left)) }
@@ -164,7 +166,8 @@ fn is_beyond(rows: &[u64], left: u64) -> bool
     rows.iter().any(|column| left < *column)
 }
 
-/// Whether no two of the rectangles, sorted by their left columns, have a point in common.
+/// Whether no two of the rectangles, sorted by their left columns, have a point in common. It allocates a dictionary of
+/// the active rectangles; `AllocError` if there is no memory for it.
 pub(crate) fn sweep_with_dictionary(
     alloc: Global,
     rectangles: &[Rectangle],
@@ -183,8 +186,9 @@ pub(crate) fn sweep_with_dictionary(
     Ok(true)
 }
 
-/// Removes the rectangles that share a row with a new one and end left of it; false if one that shares a row reaches its
-/// left column.
+/// Removes from `active` the rectangles that share a row with `new` and end left of it, and returns true. At one that
+/// shares a row and reaches the left column of `new` it stops and returns false; what it removed until then stays
+/// removed.
 fn clear_ended(active: &mut BTreeMap<u32, Rectangle>, new: Rectangle) -> bool
     requires { IsSweepDictionary (get nat_cmp active.old) }
     ensures clears { Clears (get nat_cmp active.old) (get nat_cmp active.new) new }
@@ -203,7 +207,8 @@ fn clear_ended(active: &mut BTreeMap<u32, Rectangle>, new: Rectangle) -> bool
     true
 }
 
-/// The entry of `active` with the greatest key that is at most `row`; `None` if no key is.
+/// The key and, second, the rectangle of the entry of `active` with the greatest key that is at most `row`; `None` if
+/// no key is.
 fn highest_up_to(active: &BTreeMap<u32, Rectangle>, row: u32) -> Option<(u32, Rectangle)>
     ensures none { IfNone result ((k : ℕ) → k ≤ row → get nat_cmp active.now k ≡ None) }
     ensures below { IfSome result (λ e. e.0 ≤ row) }

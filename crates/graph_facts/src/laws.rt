@@ -10,30 +10,30 @@ ghost use Rattle.graph_facts.specs.Conditions.{chooses, others_than, those_meeti
 ghost use Rattle.graph_facts.specs.Tables.{IsTable, TableModel};
 ghost use Rattle.graph_facts.specs.Words.{AreNamesOf, columns_in, listed};
 
-/// A graph is one of the others exactly if it does not meet the conditions.
+/// Theorem: a graph is one of the others exactly if it does not meet the conditions.
 pub fn chosen_or_other()
     ensures { (conditions : Conditions) (facts : Facts)
         → chooses (others_than conditions) facts ≡ not (chooses (those_meeting conditions) facts) }
 {}
 
-/// A text names columns exactly if it lists the names of those that are asked for, each once and in any order.
+/// Theorem: a text names columns exactly if it lists the names of those that are asked for, each once and in any order.
 pub fn listed_columns()
     ensures { (text : List ℕ) (columns : Columns) → (columns_in text ≡ Some columns) ↔ AreNamesOf columns (listed text) }
 {}
 
-/// Combinations are the same only if they have the same numbers and the same rule.
+/// Theorem: combinations are the same only if they have the same numbers and the same rule.
 pub fn same_is_equal()
     ensures { (c d : Combination) → is_same c d ≡ true → c ≡ d }
 {}
 
-/// Graphs have one table in given columns, and so one text of it.
+/// Theorem: the same graphs have only one table in given columns, and so only one text of it.
 pub fn one_table()
     ensures { (graphs : List Facts) (table other : TableModel)
         → IsTable graphs table → IsTable graphs other → table.columns ≡ other.columns
         → table ≡ other }
 {}
 
-/// The table does not depend on the order of the graphs.
+/// Theorem: the table of graphs does not depend on their order.
 pub fn order_is_free()
     ensures { (graphs others : List Facts) (table : TableModel)
         → IsPermutation graphs others → IsTable graphs table → IsTable others table }

@@ -34,7 +34,8 @@ pub struct Facts {
 }
 
 impl Facts {
-    /// The facts of a graph that breaks no rule, with a shape that has the fewest bends.
+    /// The facts of a graph that breaks no rule: the numbers of vertices, edges and faces of `plane`, the bends of
+    /// `shape`, which must be the fewest, and no broken rule.
     pub fn of_shape(plane: &Plane, shape: &Shape) -> Facts
         ensures { result ≡ laid_facts plane.now shape.now }
     {
@@ -47,7 +48,8 @@ impl Facts {
         }
     }
 
-    /// The facts of a record that breaks this rule first.
+    /// The facts of `rec`, which breaks `rule` first: its numbers of vertices and of edges, and `None` for faces and
+    /// bends. The edges are `None`, too, if its lists are those of no simple graph.
     pub fn of_refused(rec: &Record, rule: Rule) -> Facts
         ensures { result ≡ refused_facts (lists_of rec.now) rule }
     {
@@ -61,7 +63,8 @@ impl Facts {
     }
 }
 
-/// The number of edges of a record that breaks this rule first; `None` if its lists are those of no simple graph.
+/// The number of edges of `rec`, which breaks `rule` first; `None` if `rule` is one of the first four (range, loop,
+/// multi, asymmetric), so that its lists are those of no simple graph.
 fn edges_of_refused(rec: &Record, rule: Rule) -> Option<u32>
     ensures { result ≡ edges_of_refused rule (lists_of rec.now) }
 {
@@ -73,7 +76,7 @@ fn edges_of_refused(rec: &Record, rule: Rule) -> Option<u32>
     }
 }
 
-/// Half the number of entries of a record's lists, rounded down.
+/// Half the number of entries of all lists of `rec`, rounded down; the zeros that end the lists do not count.
 #[tactic(auto, using(crate::proofs::RecordEntries::record_size, crate::proofs::RecordEntries::few_entries))]
 fn half_of_entries(rec: &Record) -> u32
     ensures { result ≡ dart_count (lists_of rec.now) / 2 }
@@ -83,7 +86,7 @@ fn half_of_entries(rec: &Record) -> u32
     (entries / 2) as u32
 }
 
-/// The place of a rule in the order in which rules are tried, from 1.
+/// The place of `rule` in the order in which rules are tried, from 1 to 8.
 pub(crate) fn place_of(rule: Rule) -> u8
     ensures { result ≡ rule_number rule }
 {
@@ -120,7 +123,8 @@ pub enum RangeFault {
 }
 
 impl Range {
-    /// The range that a text names: `A:B`, `A:`, `:B`, or `A` for this number alone.
+    /// The range that `text` names: `A:B`, `A:` without a last number, `:B` from 0, or `A` for this number alone.
+    /// `Empty` if `text` is `A:B` with A above B; `Malformed` if it has another form, or a number of more than 32 bits.
     ///
     /// # Errors
     ///
@@ -137,14 +141,14 @@ impl Range {
         }
     }
 
-    /// Whether a number is in the range.
+    /// Whether `number` is in the range; its first and last number are.
     pub fn contains(&self, number: u32) -> bool
         ensures { result ≡ in_range self.now number }
     {
         self.from <= number && is_up_to(self.to, number)
     }
 
-    /// Whether any number is in the range.
+    /// Whether any number is in the range: its first number is at most its last one, or it has no last one.
     fn has_numbers(&self) -> bool
         ensures { result ≡ has_numbers self.now }
     {
@@ -152,7 +156,7 @@ impl Range {
     }
 }
 
-/// Whether a number is at most the limit; true if there is no limit.
+/// Whether `number` is at most `limit`; true if `limit` is `None`.
 fn is_up_to(limit: Option<u32>, number: u32) -> bool
     ensures { result ≡ is_up_to limit number }
 {
@@ -162,8 +166,8 @@ fn is_up_to(limit: Option<u32>, number: u32) -> bool
     }
 }
 
-/// The range that a text names, also an empty one, whose first number is above its last; `None` if the text has another
-/// form.
+/// The range that `text` names, `A:B`, `A:`, `:B` or `A`, also an empty one, whose first number is above its last;
+/// `None` if the text has another form, or a number of more than 32 bits.
 fn ends_of(text: &str) -> Option<Range>
     ensures some { IfSome result (NamesEnds text.now) }
     ensures none { IfNone result ((range : Range) → ¬ NamesEnds text.now range) }
@@ -174,7 +178,7 @@ fn ends_of(text: &str) -> Option<Range>
     }
 }
 
-/// The range of the single number that a text names; `None` if the text is no number of at most 32 bits.
+/// The range that contains only the number that `text` names; `None` if the text is no number of at most 32 bits.
 fn one_number(text: &str) -> Option<Range>
     ensures some { IfSome result (IsOneNumber text.now) }
     ensures none { IfNone result ((range : Range) → ¬ IsOneNumber text.now range) }
@@ -188,7 +192,9 @@ fn one_number(text: &str) -> Option<Range>
     }
 }
 
-/// The range between two ends, each a number or empty, but not both; `None` if the texts are no such ends.
+/// The range from the number `low` to the number `high`, also an empty one: from 0 if `low` is an empty text, and
+/// without a last number if `high` is. `None` if both texts are empty, or one is neither empty nor a number of at most
+/// 32 bits.
 fn two_ends(low: &str, high: &str) -> Option<Range>
     ensures some { IfSome result (AreTwoEnds low.now high.now) }
     ensures none { IfNone result ((range : Range) → ¬ AreTwoEnds low.now high.now range) }
@@ -205,7 +211,8 @@ fn two_ends(low: &str, high: &str) -> Option<Range>
     }
 }
 
-/// The number that a text names, or `Some(None)` if it is empty; `None` if it is neither a number nor empty.
+/// `Some` of the number that `text` names, `Some(None)` if `text` is empty, and `None` if it is neither a number of at
+/// most 32 bits nor empty.
 fn end_of(text: &str) -> Option<Option<u32>>
     ensures some { IfSome result (IsEnd text.now) }
     ensures none { IfNone result ((end : Option ℕ) → ¬ IsEnd text.now end) }
@@ -240,7 +247,8 @@ pub struct Conditions {
 }
 
 impl Conditions {
-    /// Whether a graph meets every condition. One that has no such number meets no condition on it.
+    /// Whether a graph with these `facts` meets every condition; true if there are none. A fact that is `None` lies in
+    /// no range; no broken rule meets `BreaksNone`.
     pub fn meets(&self, facts: &Facts) -> bool
         ensures { result ≡ meets self.now facts.now }
     {
@@ -261,8 +269,8 @@ pub struct Selection {
 }
 
 impl Selection {
-    /// Whether a graph with these facts is chosen: whether it meets the conditions, or if the others are asked for,
-    /// whether it does not.
+    /// Whether a graph with these `facts` is chosen: whether it meets the conditions, or if `others` is true, whether
+    /// it does not.
     pub fn chooses(&self, facts: &Facts) -> bool
         ensures { result ≡ chooses self.now facts.now }
     {
@@ -270,7 +278,8 @@ impl Selection {
         if self.others { !meets } else { meets }
     }
 
-    /// Whether a record with these facts is chosen. It is not if memory ran out for it.
+    /// Whether a record with these `facts` is chosen; false if they are `None` because memory ran out for it, even if
+    /// the others are asked for.
     pub fn is_chosen(&self, facts: &Option<Facts>) -> bool
         ensures { result ≡ is_chosen self.now facts.now }
     {
@@ -281,7 +290,8 @@ impl Selection {
     }
 }
 
-/// Whether a number meets a condition on it: true without a condition, otherwise false without a number.
+/// Whether `number` is in the range `condition`; true if `condition` is `None`, and otherwise false if `number` is
+/// `None`.
 fn meets_range(condition: Option<Range>, number: Option<u32>) -> bool
     ensures { result ≡ meets_range condition number }
 {
@@ -292,7 +302,7 @@ fn meets_range(condition: Option<Range>, number: Option<u32>) -> bool
     }
 }
 
-/// Whether the first broken rule, `None` if none is broken, meets a condition on it; true without a condition.
+/// Whether `rule`, the first broken rule or `None` if none is broken, meets `condition`; true if `condition` is `None`.
 fn meets_rule(condition: Option<RuleCondition>, rule: Option<Rule>) -> bool
     ensures { result ≡ meets_rule condition rule }
 {
@@ -305,7 +315,8 @@ fn meets_rule(condition: Option<RuleCondition>, rule: Option<Rule>) -> bool
 }
 
 impl RuleCondition {
-    /// The condition that a text names: `none`, or the word of a rule; `None` for any other text.
+    /// The condition that `text` names: `BreaksNone` for `none`, `BreaksFirst` for the word of a rule, in lower case;
+    /// `None` for any other text.
     pub fn parse(text: &str) -> Option<RuleCondition>
         ensures some { IfSome result (IsRuleText text.now) }
         ensures none { IfNone result ((condition : RuleCondition) → ¬ IsRuleText text.now condition) }
@@ -335,8 +346,8 @@ impl Columns {
         rule: false,
     };
 
-    /// The columns whose names a text lists, with commas between them: some of `n`, `m`, `f`, `bends` and `rule`, each
-    /// at most once; `None` if it is no such list.
+    /// The columns whose names `text` lists, with commas between them: one or more of `n`, `m`, `f`, `bends` and
+    /// `rule`, in any order, each at most once; `None` if it is no such list, or is empty.
     pub fn parse(text: &str) -> Option<Columns>
         ensures { result ≡ columns_in text.now }
     {
@@ -344,8 +355,8 @@ impl Columns {
     }
 }
 
-/// Adds the column with this name to these columns; `None` if `columns` is `None` or has it already, or if no column
-/// has this name.
+/// The columns of `columns` and the one with this `name`; `None` if `columns` is `None` or has it already, or if no
+/// column has this name.
 fn with_column(columns: Option<Columns>, name: &str) -> Option<Columns>
     ensures { result ≡ with_column columns name.now }
 {

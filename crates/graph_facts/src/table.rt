@@ -44,14 +44,15 @@ pub struct Combination {
 }
 
 impl Columns {
-    /// Whether some column is asked for.
+    /// Whether at least one column is asked for.
     pub fn is_any(&self) -> bool
         ensures { result ≡ asks_any self.now }
     {
         self.vertices || self.edges || self.faces || self.bends || self.rule
     }
 
-    /// The combination of a graph with these facts: what it has in these columns, and `None` in all others.
+    /// The combination of a graph with these `facts`: what it has in the columns that are asked for, and `None` in all
+    /// others and where it has no such number or breaks no rule.
     pub fn combination_of(&self, facts: &Facts) -> Combination
         ensures { result ≡ combination_of self.now facts.now }
     {
@@ -70,7 +71,7 @@ impl Columns {
 }
 
 impl Combination {
-    /// The place of the rule in the order in which rules are tried, from 1; `None` without a rule.
+    /// The place of the rule in the order in which rules are tried, from 1 to 8; `None` without a rule.
     fn rule_place(&self) -> Option<u8>
         ensures { result ≡ rule_place self.now }
     {
@@ -87,6 +88,8 @@ impl Ord for Combination {
 
     ghost matches_eq = { Prim.search (comparing, rules) };
 
+    /// The order of two combinations: by vertices, edges, faces, bends and last by the place of the rule, each with
+    /// `None` before all else.
     fn cmp(&self, other: &Combination) -> Ordering {
         self.vertices
             .cmp(&other.vertices)
@@ -102,6 +105,7 @@ impl PartialOrd for Combination {
 
     ghost laws = { partial_order_from_total compare_total };
 
+    /// The order of two combinations, the same as by `cmp`; never `None`.
     fn partial_cmp(&self, other: &Combination) -> Option<Ordering> {
         Some(self.cmp(other))
     }
@@ -112,6 +116,7 @@ impl PartialEq for Combination {
 
     ghost laws = { partial_equiv_from_equiv (eq_by_cmp_equiv compare_total) };
 
+    /// Whether two combinations have the same numbers and the same rule.
     fn eq(&self, other: &Combination) -> bool {
         self.cmp(other) == Ordering::Equal
     }
@@ -140,7 +145,7 @@ impl Model for Counts {
 }
 
 impl Counts {
-    /// The table of no graphs, in these columns.
+    /// The table of no graphs, in `columns`: it has no combination, and the number of all graphs is 0.
     pub fn new(alloc: Global, columns: Columns) -> Counts
         ensures columns { result.columns ≡ columns }
         ensures table { IsTable [] result }
@@ -152,7 +157,8 @@ impl Counts {
         }
     }
 
-    /// Counts one more graph.
+    /// Counts one more graph, with these `facts`, for its combination and for the number of all graphs; each number
+    /// stops at 2^64 - 1. `AllocError` if there is no memory for a new combination; then nothing changes.
     ///
     /// # Errors
     ///
@@ -170,28 +176,29 @@ impl Counts {
         Ok(())
     }
 
-    /// The columns.
+    /// The columns that the table was made with.
     pub fn columns(&self) -> Columns
         ensures { result ≡ self.now.columns }
     {
         self.columns
     }
 
-    /// The number of all graphs.
+    /// The number of all graphs that were counted.
     pub fn total(&self) -> u64
         ensures { result ≡ self.now.total }
     {
         self.total
     }
 
-    /// The number of graphs with each combination that occurs, in their order.
+    /// The number of graphs with each combination that occurs, in the order of the combinations; empty if no graph was
+    /// counted.
     pub(crate) fn rows(&self) -> &BTreeMap<Combination, u64>
         ensures { result.now.entries ≡ self.now.rows }
     {
         &self.rows
     }
 
-    /// The number of graphs with a combination; 0 if it does not occur.
+    /// The number of graphs with this `combination`; 0 if it does not occur.
     fn number_of(&self, combination: &Combination) -> u64
         ensures { result ≡ number_at self.now.rows combination.now }
     {
@@ -199,7 +206,9 @@ impl Counts {
     }
 }
 
-/// Writes a table: a line for each combination that occurs, in their order, and one for the number of all graphs.
+/// Writes the table `counts` to `sink`: a line for each combination that occurs, in their order, and last one with the
+/// number of all graphs. It uses a fixed buffer. `Write` exactly if `sink` fails, which has then taken a prefix of the
+/// text.
 ///
 /// Without columns this last line is the only one.
 ///
@@ -221,8 +230,9 @@ pub fn write_counts<S: Sink>(counts: &Counts, sink: &mut S) -> Result<(), WriteF
     lines.flush(sink)
 }
 
-/// Adds the line of a combination and its number of graphs to the buffer `lines`, if a column is asked for. If the
-/// buffer is nearly full, it is written to the sink first.
+/// Appends the line of `combination` and its `number` of graphs to the buffer `lines` if `columns` has any column, and
+/// otherwise does nothing. If `lines` is nearly full, it is written to `sink` first: `Write` exactly if `sink` then
+/// fails; it has taken a prefix of `lines`, and the line is not appended.
 fn write_row<S: Sink>(
     lines: &mut TextBuffer,
     sink: &mut S,
@@ -242,8 +252,9 @@ fn write_row<S: Sink>(
     Ok(())
 }
 
-/// Adds the line of the number of all graphs to the buffer `lines`. If the buffer is nearly full, it is written to the
-/// sink first.
+/// Appends the line of the number of all graphs, `total`, to the buffer `lines`. If `lines` is nearly full, it is
+/// written to `sink` first: `Write` exactly if `sink` then fails; it has taken a prefix of `lines`, and the line is not
+/// appended.
 fn write_total<S: Sink>(lines: &mut TextBuffer, sink: &mut S, total: u64) -> Result<(), WriteFault>
     requires { S.failed sink.old ≡ false }
     ensures { StaysInTransit (S.taken sink.old) lines.old (S.taken sink.new) lines.new
@@ -254,7 +265,8 @@ fn write_total<S: Sink>(lines: &mut TextBuffer, sink: &mut S, total: u64) -> Res
     Ok(())
 }
 
-/// Appends the line of a combination and its number of graphs.
+/// Appends the line of `combination` and its `number` of graphs to `lines`: each column that is asked for, the number,
+/// and a newline. At least `LINE` bytes of `lines` must be free.
 fn push_row(lines: &mut TextBuffer, columns: &Columns, combination: &Combination, number: u64)
     requires { length lines.old + LINE ≤ ROOM }
     ensures { lines.new ≡ lines.old ++ columns_text columns.now (combination.now, number) }
@@ -269,7 +281,8 @@ fn push_row(lines: &mut TextBuffer, columns: &Columns, combination: &Combination
     lines.push(b"\n");
 }
 
-/// Appends the line of the number of all graphs.
+/// Appends the line of the number of all graphs, `total`, with a newline, to `lines`. At least `LINE` bytes of `lines`
+/// must be free.
 fn push_total(lines: &mut TextBuffer, total: u64)
     requires { length lines.old + LINE ≤ ROOM }
     ensures { lines.new ≡ lines.old ++ total_text total }
@@ -279,7 +292,8 @@ fn push_total(lines: &mut TextBuffer, total: u64)
     lines.push(b"\n");
 }
 
-/// Appends the column with this name and number, if it is asked for; `-` if there is no number.
+/// Appends the column with this `name` and `number` to `lines`, and a space after it; `-` in place of the number if it
+/// is `None`. Does nothing if `asked` is false. There must be room in `lines` for the name and 41 bytes more.
 fn push_column(lines: &mut TextBuffer, asked: bool, name: &[u8], number: Option<u32>)
     requires { length lines.old + length name.now + 41 ≤ ROOM }
     ensures text { lines.new ≡ lines.old ++ column_text asked name.now (number_text number) }
@@ -296,7 +310,8 @@ fn push_column(lines: &mut TextBuffer, asked: bool, name: &[u8], number: Option<
     lines.push(b" ");
 }
 
-/// Appends the column of the first broken rule, if it is asked for; `none` if no rule is broken.
+/// Appends the column of the first broken rule to `lines`, and a space after it: the word of `rule`, or `none` if it is
+/// `None`. Does nothing if `asked` is false. At least 20 bytes of `lines` must be free.
 fn push_rule(lines: &mut TextBuffer, asked: bool, rule: Option<Rule>)
     requires { length lines.old + 20 ≤ ROOM }
     ensures text { lines.new ≡ lines.old ++ column_text asked (codes "rule=") (rule_text rule) }

@@ -34,9 +34,8 @@ pub struct Fan<E: Numbered, M: Drop + Send> {
     pub gatherer: Gatherer<Message<E, M>>,
 }
 
-/// A new fan with room for `capacity` messages; its first `lanes` lanes are to run.
-///
-/// The givers are in the order of their lanes.
+/// A new empty fan that holds at most `capacity` messages: the givers of its first `lanes` lanes, which are to run,
+/// those of its other lanes, both in the order of the lanes, and the gatherer. `Memory` if there is no memory for it.
 pub fn new_fan<E: Numbered, M: Drop + Send>(
     alloc: Global,
     capacity: u32,
@@ -89,9 +88,11 @@ impl<E: Numbered, M: Drop + Send, O: Opener> Promise<LaneReturn<E, M>> for LaneP
 /// The handle of a running lane.
 pub type Running<E, M, O> = PromisedHandle<LaneReturn<E, M>, LanePromise<E, M, O>>;
 
-/// Joins the threads of lanes, and drops what they return.
+/// Waits until the threads of all these lanes have ended, and drops what they return. There is no error: the fault of a
+/// lane is dropped too.
 ///
-/// What a thread returns is dropped only if it is joined: a lane's end of the fan keeps the messages that are left in it.
+/// What a thread returns is dropped only if it is joined: a lane's end of the fan keeps the messages that are left in
+/// it.
 pub fn drop_lanes<E: Numbered, M: Drop + Send, R: Threads, O: Opener>(
     rt: &R,
     running: Vec<Running<E, M, O>>,
@@ -101,8 +102,8 @@ pub fn drop_lanes<E: Numbered, M: Drop + Send, R: Threads, O: Opener>(
     }
 }
 
-/// Joins the threads of lanes; returns what they return, in order. `Memory` if there is no memory for that; they are
-/// joined all the same.
+/// Waits until the threads of all these lanes have ended; returns what each returns, in the order of `running`.
+/// `Memory` if there is no memory for that list: the threads have then ended too, and what they return is dropped.
 fn join_lanes<E: Numbered, M: Drop + Send, R: Threads, O: Opener, F: Drop>(
     rt: &R,
     running: Vec<Running<E, M, O>>,
@@ -122,8 +123,9 @@ fn join_lanes<E: Numbered, M: Drop + Send, R: Threads, O: Opener, F: Drop>(
 }
 
 impl<R: Threads + Wait + Sync, O: Opener, G: Gate, L> Shared<'_, R, O, G, L> {
-    /// Settles the fan with the givers of all lanes, also of those that did not run; returns the seats of those that
-    /// ran, or the fault of the first that failed.
+    /// Settles the fan with the givers of all lanes: of those that ran, in `ended`, and of the others, in `givers`.
+    /// Returns the seats of those that ran, in order, or the fault of the first that failed (`LaneLost` if its stop was
+    /// refused), or `Memory` if there is no memory for the lists; an error drops all three arguments.
     ///
     /// This proves that the messages taken of each lane are all that it gave, and that all messages of a file drawn by
     /// one seat arrived. `Memory` also if there is no memory for the lists.
@@ -161,8 +163,9 @@ impl<R: Threads + Wait + Sync, O: Opener, G: Gate, L> Shared<'_, R, O, G, L> {
 /// The handles of lanes that run.
 type RunningLanes<E, M, O> = Vec<Running<E, M, O>>;
 
-/// Runs the lanes of a run, each in threads of its own, passes their messages to the consumer on this thread, and waits
-/// until all have ended; returns the consumer, and stores the result in `ran`.
+/// Runs the lanes of `run`, each in threads of its own, passes their messages to `consumer` on this thread, and waits
+/// until all have ended. Returns the consumer with what it took in, and replaces `ran` by the result: `Ok`, or
+/// `Memory`, `LaneLost`, `Thread` or a refusal of the consumer.
 ///
 /// The result is not returned in a pair with the consumer: what a reference in the consumer refers to would then not be
 /// known.
@@ -237,8 +240,9 @@ pub fn run_lanes<
 }
 
 impl<'s, R: Threads + Wait + Sync, O: Opener, G: Gate, L: LaneKind + 's> Shared<'s, R, O, G, L> {
-    /// Runs a lane for each seat, passes all their messages to the consumer, and joins their threads, whatever happened;
-    /// returns the seats.
+    /// Runs a lane for each seat in threads of its own, passes all their messages to `consumer`, and waits until the
+    /// threads have ended, also after an error. Returns the seats in the order of the lanes; `Memory`, `LaneLost`,
+    /// `Thread` or a refusal of `consumer`, which then keeps what it took in.
     ///
     /// The messages of a lane end with its stop. Then the consumer holds all of each file that one seat drew.
     fn start_and_gather<'e, C: Consumer<L::Entry, L::End>>(
@@ -277,8 +281,9 @@ impl<'s, R: Threads + Wait + Sync, O: Opener, G: Gate, L: LaneKind + 's> Shared<
         }
     }
 
-    /// Starts a lane for each seat in a thread of its own, with the givers in order; returns the handles of the lanes.
-    /// An error has the handles of those that were started before.
+    /// Starts a lane in a thread of its own for each of `givers`, in order, with a seat from the end of `seats`;
+    /// returns the handles of the lanes in that order. An error has the handles of the lanes started before, and
+    /// `Thread` if a thread could not be started, or `Memory` if there is no memory for the list of handles.
     fn start_lanes<'e>(
         &'s self,
         scope: &'s Scope<'s, &'e ()>,

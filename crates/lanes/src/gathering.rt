@@ -38,7 +38,8 @@ pub enum RunFault<F: Drop> {
 impl RunFault<Infallible> {
     ghost use Rattle.lanes.specs.Faults.{IsOfLanes};
 
-    /// This fault, as that of a run with any consumer.
+    /// The same fault of a lane, which has no consumer, as the fault of a run with any consumer: `Memory`, `LaneLost`
+    /// or `Thread`. It only converts, and cannot fail.
     pub fn of_any_consumer<F: Drop>(self) -> RunFault<F>
         ensures { IsOfLanes result }
     {
@@ -56,6 +57,7 @@ impl<F: Drop> From<AllocError> for RunFault<F> {
 
     ghost from_gives = { λ _ fault. fault ≡ Memory };
 
+    /// The fault `Memory` for a failed allocation. It only converts, and cannot fail.
     fn from(_refused: AllocError) -> RunFault<F> {
         RunFault::Memory
     }
@@ -67,6 +69,8 @@ impl From<WriteFault> for RunFault<SinkFault> {
 
     ghost from_gives = { λ fault run_fault. run_fault ≡ run_fault_of fault };
 
+    /// The fault of a run for text that was not written completely: `Refused` with `SinkFault` for `Write`, and
+    /// `Memory` for `Memory`. It only converts, and cannot fail.
     fn from(fault: WriteFault) -> RunFault<SinkFault> {
         match fault {
             WriteFault::Write => RunFault::Refused(SinkFault),
@@ -76,6 +80,7 @@ impl From<WriteFault> for RunFault<SinkFault> {
 }
 
 impl<F: Drop> From<Memory> for RunFault<F> {
+    /// The fault `Memory` if memory ran out for a link, a fan or tickets. It only converts, and cannot fail.
     fn from(_refused: Memory) -> RunFault<F> {
         RunFault::Memory
     }
@@ -86,12 +91,14 @@ impl<T: Drop, F: Drop> From<Closed<T>> for RunFault<F> {
 
     ghost from_gives = { λ _ fault. IsOfLanes fault };
 
+    /// The fault `LaneLost` for a call that a link or a fan refused; drops the refused item.
     fn from(_refused: Closed<T>) -> RunFault<F> {
         RunFault::LaneLost
     }
 }
 
 impl<F: Drop> From<Gone> for RunFault<F> {
+    /// The fault `LaneLost` for an end of a link or of the fan that was gone.
     fn from(_gone: Gone) -> RunFault<F> {
         RunFault::LaneLost
     }
@@ -113,14 +120,17 @@ pub trait Consumer<E: Numbered, M: Drop>: Drop {
 
     ghost passed_on: { Self → Type 0 };
 
-    /// Takes in an item. If it refuses, for a reason of the implementation, no more messages are gathered.
+    /// Takes in `item`, or drops it with an error: `Memory` if memory ran out, `LaneLost` if no lane gives such a
+    /// message, or `Refused` with the consumer's own reason. After an error the run gathers no more messages, and the
+    /// implementation determines what the consumer still holds.
     fn item(&mut self, item: E) -> Result<(), RunFault<Self::Refusal>>
         requires { (ns : List Note) × holds self.old ns }
         ensures taken { OnOk result ((ns : List Note) → holds self.old ns → holds self.new (ns ++ Item (E.about item) ∷ [])) }
         ensures gave_up { IfErr result (λ fault. gave_up self.new fault) }
         ensures stays { stays self.old self.new };
 
-    /// Takes in the end of a file: its mark, and what else is known of that end. It refuses as `item` does.
+    /// Takes in the end of file `file`: its mark, and in `known` what else is known of that end. The errors are those
+    /// of `item`: `Memory`, `LaneLost` or `Refused`; after one the run gathers no more messages.
     fn end(&mut self, file: u32, mark: Mark, known: M) -> Result<(), RunFault<Self::Refusal>>
         requires { (ns : List Note) × holds self.old ns }
         ensures taken { OnOk result ((ns : List Note) → holds self.old ns → holds self.new (ns ++ End file mark ∷ [])) }
@@ -131,8 +141,9 @@ pub trait Consumer<E: Numbered, M: Drop>: Drop {
     fn is_flushed(&self) -> bool
         ensures { IsTrue result ↔ passed_on self.now };
 
-    /// Passes on what is buffered. It is called if no message has arrived for some time, so that nothing is delayed
-    /// long. It refuses as `item` does.
+    /// Passes on what is buffered, so that nothing is buffered any more; called if no message has arrived for some
+    /// time. What it holds stays the same. The errors are those of `item`: `Memory`, `LaneLost` or `Refused`; after one
+    /// the run gathers no more messages.
     fn flush(&mut self) -> Result<(), RunFault<Self::Refusal>>
         requires { (ns : List Note) × holds self.old ns }
         ensures kept { OnOk result ((ns : List Note) → holds self.old ns → holds self.new ns) }
@@ -163,7 +174,8 @@ pub struct Drafts<E: Numbered> {
 }
 
 impl<E: Numbered> Drafts<E> {
-    /// An empty draft for each of `files` files. `AllocError` if there is no memory for them.
+    /// A draft without entries and without a mark for each of the files 0 to `files` - 1, in order. `AllocError` if
+    /// there is no memory for them.
     pub fn new(alloc: Global, files: u32) -> Result<Drafts<E>, AllocError>
         ensures count { IfOk result (λ drafts. vec_len drafts.files ≡ files) }
         ensures empty { IfOk result (λ drafts. AreDrafts E.about 0 [] drafts.files.items) }
@@ -178,7 +190,8 @@ impl<E: Numbered> Drafts<E> {
         Ok(Drafts { files: drafts })
     }
 
-    /// Returns the draft of each file; it is complete if everything about the file was received.
+    /// Consumes the drafts and returns the draft of each file, in the order of the files' numbers. It checks nothing: a
+    /// draft is complete only if everything about its file was received.
     pub fn into_ready(self) -> Vec<Draft<E>>
         ensures count { vec_len result ≡ vec_len self.files }
         ensures ready { (choice : Choice) (meaning : ℕ → Meaning) (ns : List Note) → AreDrafts E.about 0 ns self.files.items
@@ -199,6 +212,8 @@ impl<E: Numbered, M: Drop> Consumer<E, M> for Drafts<E> {
 
     ghost passed_on = { λ _. ⊤ };
 
+    /// Appends `item` to the draft of its file; drops it and returns `Ok` if its file has no draft. `Memory`, its only
+    /// error, if there is no memory to append it: `item` is dropped, and the drafts stay as they are.
     fn item(&mut self, item: E) -> Result<(), RunFault<Infallible>>
         ensures taken { OnOk result ((ns : List Note) → AreDrafts E.about 0 ns self.old.files.items
             → AreDrafts E.about 0 (ns ++ Item (E.about item) ∷ []) self.new.files.items) }
@@ -213,6 +228,8 @@ impl<E: Numbered, M: Drop> Consumer<E, M> for Drafts<E> {
         Ok(())
     }
 
+    /// Stores `mark` in the draft of file `file`, in place of an earlier mark; does nothing if that file has no draft.
+    /// It drops `known`, and always returns `Ok`.
     fn end(&mut self, file: u32, mark: Mark, _known: M) -> Result<(), RunFault<Infallible>>
         ensures taken { OnOk result ((ns : List Note) → AreDrafts E.about 0 ns self.old.files.items
             → AreDrafts E.about 0 (ns ++ End file mark ∷ []) self.new.files.items) }
@@ -225,10 +242,12 @@ impl<E: Numbered, M: Drop> Consumer<E, M> for Drafts<E> {
         Ok(())
     }
 
+    /// Always true: drafts buffer nothing that is passed on later.
     fn is_flushed(&self) -> bool {
         true
     }
 
+    /// Does nothing and always returns `Ok`: drafts buffer nothing that is passed on later.
     fn flush(&mut self) -> Result<(), RunFault<Infallible>>
         ensures same { self.new ≡ self.old }
     {
@@ -246,7 +265,7 @@ impl<E: Numbered, M: Drop> Consumer<E, M> for Drafts<E> {
 /// message arrives.
 const PATIENCE: u64 = 250_000;
 
-/// Sets the entry of a lane in `stops` to true; does nothing if the list has no such entry.
+/// Sets the entry at index `lane` of `stops` to true; does nothing if `stops` has no such entry.
 fn set_stopped(stops: &mut Vec<bool>, lane: u32)
     ensures count { vec_len stops.new ≡ vec_len stops.old }
     ensures noted { (k : ℕ) → slice_index_or stops.new.items k false ≡ true
@@ -258,8 +277,9 @@ fn set_stopped(stops: &mut Vec<bool>, lane: u32)
     }
 }
 
-/// Removes the next message from the fan, and returns the number of its lane and the message; flushes the consumer if
-/// none arrives within `patience` microseconds, which it reduces or resets.
+/// Takes the next message from `gatherer`, and waits for it; returns its lane's number and it. Subtracts the time
+/// waited from `patience` while `consumer` has something buffered, flushes it once 0 microseconds are left, and resets
+/// `patience` if nothing is buffered. `LaneLost` if all givers are gone, or the fault of the flush, as `Memory`.
 ///
 /// While something is buffered in the consumer, it waits at most the remaining `patience`; then the consumer flushes,
 /// and it waits until a message arrives. `LaneLost`: the givers of all lanes were gone. Otherwise the fault is the
@@ -287,8 +307,9 @@ fn next_message<E: Numbered, M: Drop, C: Consumer<E, M>, R: Wait>(
     Ok(gatherer.take(rt)?)
 }
 
-/// Passes the items of a message to the consumer, in order, and sends their emptied list back; at the first refusal it
-/// returns the fault and drops the other items.
+/// Passes the items of `batch` to `consumer`, in order, and sends their emptied list back to the stage that filled it.
+/// At the first refusal returns that fault of `consumer` (`Memory`, `LaneLost` or `Refused`), and drops the other items
+/// and the list.
 fn take_in<E: Numbered, M: Drop, C: Consumer<E, M>, R: Wait>(
     rt: &R,
     batch: Batch<E>,
@@ -307,13 +328,15 @@ fn take_in<E: Numbered, M: Drop, C: Consumer<E, M>, R: Wait>(
     Ok(())
 }
 
-/// Passes the messages of a fan to the consumer until its first `lanes` lanes have stopped; returns the gatherer.
+/// Passes the messages of the fan to `consumer`, as they arrive, until its first `lanes` lanes have stopped; returns
+/// the gatherer. `LaneLost` if all givers were gone before, `Memory` if there is no memory for its list of lanes, or a
+/// refusal of `consumer`: it then drops the gatherer, and `consumer` keeps what it took in.
 ///
 /// The messages are passed on as they arrive, from whichever lane. If they arrive slowly, what is buffered in the
 /// consumer is flushed at most about a quarter of a second later.
 ///
-/// `LaneLost`: the givers of all lanes were gone. `Memory`: no memory for the list of lanes that have stopped. Otherwise
-/// the fault is the consumer's. In each case it drops the gatherer, so that no lane waits for it.
+/// `LaneLost`: the givers of all lanes were gone. `Memory`: no memory for the list of lanes that have stopped.
+/// Otherwise the fault is the consumer's. In each case it drops the gatherer, so that no lane waits for it.
 pub fn gather<E: Numbered, M: Drop, C: Consumer<E, M>, R: Wait>(
     rt: &R,
     alloc: Global,

@@ -24,8 +24,9 @@ pub struct Lane<E: Numbered, M: Drop + Send> {
 }
 
 impl<'s, R: Threads + Wait + Sync, O: Opener, G: Gate, L: LaneKind + 's> Shared<'s, R, O, G, L> {
-    /// Runs a lane to its end, its last stage on this thread and the others on a thread each; returns its end of the
-    /// fan, the result of sending its stop, and its seat or its fault.
+    /// Runs a lane to its end, its last stage on this thread and the others on a thread each, for which it waits, and
+    /// sends one stop in any case. Returns its end of the fan, the result of that send (`Closed` if the gatherer was
+    /// gone), and its seat or its fault: `Memory`, `Thread` or `LaneLost`.
     ///
     /// The result of the last stage for each record, and the end of each file, go to the giver, and after them one
     /// stop, whatever happened in the lane; the result of that last give is returned with the giver.
@@ -45,8 +46,9 @@ impl<'s, R: Threads + Wait + Sync, O: Opener, G: Gate, L: LaneKind + 's> Shared<
         LaneReturn { giver, stop, seat }
     }
 
-    /// Makes the stages of a lane, starts the first three, each in a thread of its own, runs the last one, and joins the
-    /// others; returns the lane's seat. It does not give the stop: that is left to the caller.
+    /// Makes and runs the stages of a lane, three in threads, which it joins, and the last here, which gives to
+    /// `giver`; returns the lane's seat. It gives no stop. `Memory` if memory runs out for the stages, `Thread` if a
+    /// thread could not be started, `LaneLost` if an end of a link or of the fan was gone: what was given stays given.
     ///
     /// It settles the links between the stages by the ends that they returned. This proves that the last stage gave all
     /// that the first one read.

@@ -44,6 +44,7 @@ pub enum Message<T: Drop, M: Drop> {
 pub struct Gone;
 
 impl<T: Drop> From<Closed<T>> for Gone {
+    /// The error `Gone` for a call that a link or a fan refused; drops the refused item.
     fn from(_refused: Closed<T>) -> Gone {
         Gone
     }
@@ -60,8 +61,8 @@ pub trait Outlet<T: Drop, M: Drop>: Drop {
 
     ghost stays: { Self → Self → Type 0 };
 
-    /// Sends a message, and waits while there is no room for it. `Gone` if the other end is gone: nothing is sent, and
-    /// the message is dropped.
+    /// Sends `message`, and waits while there is no room for it. `Gone` if the other end is gone: nothing is sent, and
+    /// `message` is dropped.
     fn tell<R: Wait>(&mut self, rt: &R, message: Message<T, M>) -> Result<(), Gone>
         ensures more { OnOk result (told self.new ≡ told self.old ++ notes_of about message) }
         ensures refused { OnErr result (told self.new ≡ told self.old) }
@@ -80,6 +81,8 @@ impl<T: Numbered, M: Drop> Outlet<T, M> for Giver<Message<T, M>> {
 
     ghost stays = { λ x y. GivesToSame x y };
 
+    /// Sends `message` on the link, and waits while the link is full. `Gone` if the taker is gone: nothing is sent, and
+    /// `message` is dropped.
     fn tell<R: Wait>(&mut self, rt: &R, message: Message<T, M>) -> Result<(), Gone>
         ensures more { OnOk result (notes T.about (given self.new) ≡ notes T.about (given self.old) ++ notes_of T.about message) }
         ensures refused { OnErr result (notes T.about (given self.new) ≡ notes T.about (given self.old)) }
@@ -100,6 +103,8 @@ impl<T: Numbered, M: Drop> Outlet<T, M> for LaneGiver<Message<T, M>> {
 
     ghost stays = { λ x y. GivesToSameLane x y };
 
+    /// Sends `message` at this lane of the fan, and waits while the fan is full. `Gone` if the gatherer is gone:
+    /// nothing is sent, and `message` is dropped.
     fn tell<R: Wait>(&mut self, rt: &R, message: Message<T, M>) -> Result<(), Gone>
         ensures more { OnOk result (notes T.about (given_at self.new) ≡ notes T.about (given_at self.old) ++ notes_of T.about message) }
         ensures refused { OnErr result (notes T.about (given_at self.new) ≡ notes T.about (given_at self.old)) }
@@ -128,13 +133,13 @@ pub struct ReturnQueue<T: Drop> {
 }
 
 impl<T: Drop> ReturnQueue<T> {
-    /// An end without a queue: what is sent is dropped, and nothing arrives.
+    /// An end without a queue, which allocates nothing: what is sent is dropped, and nothing arrives.
     pub fn none() -> ReturnQueue<T> {
         ReturnQueue { queue: None }
     }
 
-    /// Allocates a queue with room for `room` items, and returns two equal ends of it; `AllocError` if there is no
-    /// memory.
+    /// Allocates an empty queue that holds at most `room` items, and returns two ends of it, which are alike: each can
+    /// send and receive. `AllocError` if there is no memory.
     pub fn new(alloc: Global, room: usize) -> Result<(ReturnQueue<T>, ReturnQueue<T>), AllocError>
         requires { 0 < room }
     {
@@ -146,8 +151,8 @@ impl<T: Drop> ReturnQueue<T> {
         ))
     }
 
-    /// Allocates a queue with room for `room` items, and returns one end of it; `again` makes more ends. `AllocError`
-    /// if there is no memory.
+    /// Allocates an empty queue that holds at most `room` items, and returns one end of it; `again` makes more ends.
+    /// `AllocError` if there is no memory.
     pub fn alone(alloc: Global, room: usize) -> Result<ReturnQueue<T>, AllocError>
         requires { 0 < room }
     {
@@ -155,8 +160,8 @@ impl<T: Drop> ReturnQueue<T> {
         Ok(ReturnQueue { queue: Some(queue) })
     }
 
-    /// Another end of the same queue; an end without a queue if this one has none, or if the queue can have no more
-    /// ends.
+    /// Another end of the same queue, for which nothing is allocated; an end without a queue if this one has none, or
+    /// if the queue can have no more ends.
     pub fn again(&self) -> ReturnQueue<T> {
         match &self.queue {
             Some(queue) => match Arc::try_clone(queue) {
@@ -167,7 +172,8 @@ impl<T: Drop> ReturnQueue<T> {
         }
     }
 
-    /// Sends an item back. If the queue is full, or there is none, the item is dropped.
+    /// Puts `thing` into the queue for the other end; drops it if the queue is full or this end has none. It does not
+    /// wait.
     pub fn send<R: Wait>(&self, rt: &R, thing: T) {
         if let Some(queue) = &self.queue {
             match queue.push(rt, thing) {
@@ -177,7 +183,7 @@ impl<T: Drop> ReturnQueue<T> {
         }
     }
 
-    /// Takes the oldest item off the queue, or returns `None` at once if there is none.
+    /// Takes the oldest item off the queue and returns it; `None` at once if the queue is empty or this end has none.
     pub fn receive<R: Wait>(&self, rt: &R) -> Option<T> {
         match &self.queue {
             Some(queue) => queue.pop(rt),
@@ -185,7 +191,8 @@ impl<T: Drop> ReturnQueue<T> {
         }
     }
 
-    /// Takes the oldest item off the queue, or returns `None` if none arrives within about a millisecond of naps.
+    /// Takes the oldest item off the queue and returns it; if the queue is empty, naps for about a millisecond in all
+    /// until one arrives. `None` if none has arrived by then, or at once if this end has no queue.
     pub fn await_item<R: Wait>(&self, rt: &R) -> Option<T> {
         let Some(queue) = &self.queue else {
             return None;
@@ -224,8 +231,8 @@ pub struct Filling<T: Drop> {
 }
 
 impl<T: Drop> Filling<T> {
-    /// An empty filling, with a queue by which its lists return. If memory runs out for the queue, lists are not
-    /// reused.
+    /// A filling without items, and a queue by which its lists return. There is no error: if memory runs out for the
+    /// queue, its lists are not reused.
     pub fn new(alloc: Global) -> Filling<T>
         ensures { result.items.items ≡ [] }
     {
@@ -241,8 +248,9 @@ impl<T: Drop> Filling<T> {
         }
     }
 
-    /// Collects an item for the next message; if there is no list with room for it, sends the items so far and then
-    /// this one to `to`. It may wait; `Gone` if the other end of `to` is gone.
+    /// Collects `item` for the next message; if the list is full or there is none, sends the collected items and then
+    /// `item` in a message of its own to `to`, and may wait. `Gone` if the other end of `to` is gone: the items to be
+    /// sent are dropped. It is no error if memory runs out for a list.
     pub fn add<M: Drop, R: Wait, O: Outlet<T, M>>(
         &mut self,
         rt: &R,
@@ -263,8 +271,9 @@ impl<T: Drop> Filling<T> {
         to.tell(rt, Message::Item(item))
     }
 
-    /// Sends the collected items to `to` in one message, a single one without a list, and is then empty; sends nothing
-    /// if there are none. `Gone` if the other end of `to` is gone.
+    /// Sends the collected items to `to` in one message (a single item without a list), waits while there is no room
+    /// for it, and has then collected none; sends nothing if there are none. `Gone` if the other end of `to` is gone:
+    /// the items are dropped, and none is collected then either.
     pub fn give<M: Drop, R: Wait, O: Outlet<T, M>>(
         &mut self,
         rt: &R,
@@ -286,8 +295,9 @@ impl<T: Drop> Filling<T> {
         to.tell(rt, Message::Items(Batch { items, home }))
     }
 
-    /// Gets an empty list to collect items in, if there is none and one is free; may allocate it, or wait about a
-    /// millisecond for one to return.
+    /// If there is no list to collect items in, gets an empty one: one that has returned, a new one, or one that
+    /// returns within about a millisecond. It stays without a list if it gets none or memory runs out for it. The
+    /// collected items stay.
     fn make_room<R: Wait>(&mut self, rt: &R)
         ensures { self.new.items.items ≡ self.old.items.items }
     {
@@ -300,8 +310,9 @@ impl<T: Drop> Filling<T> {
         }
     }
 
-    /// A list that has returned, or a new one; if all are in transit, waits about a millisecond for one to return.
-    /// `None` if none does or memory ran out.
+    /// A list that has returned, or else a new one for `MOST_ITEMS` items while fewer than `LISTS` are made, or else
+    /// one for whose return it waits about a millisecond. `None` if none returns or memory runs out; the collected
+    /// items stay.
     fn free_list<R: Wait>(&mut self, rt: &R) -> Option<Vec<T>>
         ensures { self.new.items.items ≡ self.old.items.items }
     {

@@ -36,7 +36,9 @@ pub trait RecordSink {
     // Which record it may be passed, of which file and at which place there.
     ghost accepts: { Self → ℕ → ℕ → List ℕ → Type 0 };
 
-    /// Keeps the record at place `ordinal` of a file, with this choice of the outer face.
+    /// Keeps the record `rec`, with place `ordinal` (from 0) in file `file`, and `choice` of its outer face. `Refusal`,
+    /// a reason of the implementation, such as lack of memory, if it does not keep `rec`: it drops it, and the file is
+    /// read no further.
     ///
     /// # Errors
     ///
@@ -54,8 +56,9 @@ pub trait RecordSink {
             ++ Item (record { file = file; ordinal = ordinal; bytes = rec; choice = choice }) ∷ []) }
         ensures stays { stays self.old self.new };
 
-    /// Called once all records were kept that one read of a file completed, so that the sink can pass them on and none
-    /// waits for the next read. It may block.
+    /// Passes on the records kept so far; called once all records are kept that one read of file `file` completed, so
+    /// that none waits for the next read. It may block. `Refusal`, a reason of the implementation as of `keep`, such as
+    /// lack of memory: the file is then read no further.
     ///
     /// # Errors
     ///
@@ -97,6 +100,9 @@ impl<K: RecordSink> Receiver for FileReceiver<'_, K> {
     ghost stays = { λ x y. (x.file ≡ y.file) × (x.sink.ghost_name ≡ y.sink.ghost_name)
         × K.stays x.sink.now y.sink.now };
 
+    /// Takes all records out of `records`, passes them to `keep` of the sink, in order, with places from `first` on,
+    /// and then calls its `pass_on`. At the first refusal returns the sink's reason, such as lack of memory: the sink
+    /// has kept the records before, and the others are dropped.
     fn receive(
         &mut self,
         alloc: Global,
@@ -125,7 +131,9 @@ impl<K: RecordSink> Receiver for FileReceiver<'_, K> {
     ghost stays_on = { λ x y z p q. (p.0 ∙ q.0, p.1 ∙ q.1, K.stays_on _ _ _ p.2 q.2) };
 }
 
-/// Reads a file and passes its records to `sink`, in order; returns their number and the file's mark.
+/// Reads file `file`, piece by piece into `buffer`, and passes its records to `sink`, in order; returns their number
+/// and its mark, which is `Io` if it could not be opened or read, `Memory` if memory ran out for that. The only error
+/// is a refusal of `sink`, which has then kept the records before.
 ///
 /// It reads to the end of the file, to its failure or to the first fault in its bytes. The records are numbered from 0
 /// and have this choice of the outer face.
@@ -202,7 +210,9 @@ impl<R: Wait, G: Gate, L: LaneKind> RecordSink for RecordGiver<'_, R, G, L> {
 
     ghost accepts = { λ _ file ordinal bytes. L.accepts file ordinal bytes };
 
-    /// Passes the gate and adds the record to the next message; sends that message once it is full.
+    /// Calls the gate and adds the record to the next message; sends that message once it is full, and waits while the
+    /// link is full. `Gone` if the taker of the link is gone: the records to be sent are dropped. If memory runs out
+    /// for the list of a message, the record is sent alone, without an error.
     fn keep(
         &mut self,
         _alloc: Global,
@@ -222,7 +232,8 @@ impl<R: Wait, G: Gate, L: LaneKind> RecordSink for RecordGiver<'_, R, G, L> {
         self.filling.give(self.rt, &mut self.giver)
     }
 
-    /// Sends the records collected so far, and then blocks as long as the file is paused.
+    /// Sends the records collected so far, waiting while the link is full, and then blocks as long as file `file` is
+    /// paused. `Gone` if the taker of the link is gone: these records are dropped.
     fn pass_on(&mut self, file: u32) -> Result<(), Gone>
         ensures kept { OnOk result (notes L.Framed.about (given self.new.giver) ++ notes_of_items L.Framed.about self.new.filling.items.items
             ≡ notes L.Framed.about (given self.old.giver) ++ notes_of_items L.Framed.about self.old.filling.items.items) }
@@ -243,7 +254,8 @@ impl<R: Wait, G: Gate, L: LaneKind> RecordSink for RecordGiver<'_, R, G, L> {
 }
 
 impl<R: Wait, G: Gate, L: LaneKind> RecordGiver<'_, R, G, L> {
-    /// Sends the records that were not sent yet.
+    /// Sends the records collected so far in one message, waiting while the link is full; sends nothing if there are
+    /// none. `Gone` if the taker of the link is gone: these records are dropped. It sends neither an end nor a stop.
     pub fn give_all(&mut self) -> Result<(), Gone>
         ensures told { OnOk result (notes L.Framed.about (given self.new.giver)
             ≡ notes L.Framed.about (given self.old.giver) ++ notes_of_items L.Framed.about self.old.filling.items.items) }
@@ -267,7 +279,9 @@ pub struct FirstStage<A: Numbered, M: Drop + Send> {
 }
 
 impl<R: Wait, O: Opener, G: Gate, L: LaneKind> Shared<'_, R, O, G, L> {
-    /// Reads the files that its seat draws, and gives their messages and a stop; returns its giver and its seat.
+    /// Reads the files that its seat draws until none is left, gives the records and one end of each, and then one
+    /// stop; returns its giver and its seat. `Gone`, the only error, if the taker of its link was gone: both are
+    /// dropped. If a file fails or memory runs out for it, its mark says so.
     ///
     /// It draws until none is left. For each file it gives its records and one end, and after the last file one stop.
     /// `Gone` if the other end of its link was gone.
@@ -307,8 +321,9 @@ impl<R: Wait, O: Opener, G: Gate, L: LaneKind> Shared<'_, R, O, G, L> {
         unreachable!()
     }
 
-    /// Reads one drawn file, and gives its records and one end. Before it opens the file, and after each read, it blocks
-    /// as long as the file is paused.
+    /// Reads file `file` through `buffer`, gives its records and one end to the link of `gives`, and tells the opener
+    /// its mark; blocks while the file is paused, before it opens it and after each read. `Gone` if the taker is gone;
+    /// `gives` may then have given a part. If memory runs out for the file, its mark says so.
     fn read_drawn(
         &self,
         file: u32,

@@ -31,7 +31,8 @@ pub trait Opener: Sync {
 
     ghost meaning: { Self → ℕ → Meaning };
 
-    /// Opens the file with this number, from 0.
+    /// Opens the file with number `file`, from 0, at its beginning. `Io` if it could not be opened or there is none,
+    /// `Memory` if memory ran out.
     ///
     /// # Errors
     ///
@@ -58,7 +59,8 @@ pub struct MemOpener {
 impl MemOpener {
     ghost use Rattle.lanes.specs.MemReads.{most_of};
 
-    /// An opener of files with these bytes; a read returns at most `most` of them.
+    /// An opener by which file k has the bytes at index k of `files`; past the end of `files` no file opens. A read
+    /// returns at most `most` bytes.
     pub fn new(files: Vec<Vec<u8>>, most: usize) -> MemOpener
         requires { 0 < most }
         ensures opens { (k : ℕ) → k < vec_len files
@@ -79,7 +81,10 @@ impl Opener for MemOpener {
 
     ghost meaning = { λ o k. meaning_in o.files.items k };
 
-    // The contract of every opener, and that no read returns more bytes than chosen.
+    /// Opens a copy of the bytes of file `file`, from 0, at their beginning. `Io` if there is no such file, `Memory` if
+    /// there is no memory for the copy.
+    ///
+    /// The contract of every opener, and that no read returns more bytes than chosen.
     fn open(&self, alloc: Global, file: u32) -> Result<MemTap, OpenFault>
         ensures opens { Opens ⟦<MemTap as Tap>⟧.to_come ⟦<MemTap as Tap>⟧.fails
             (⟦<MemOpener as Opener>⟧.meaning self.now file) result }
@@ -113,7 +118,8 @@ pub enum Stage {
 /// It is called on the stage's thread before the stage works on the record; the first stage calls it before it gives
 /// the record. It has no influence on results.
 pub trait Gate: Sync {
-    /// Called once for each record by each stage of a lane, with the record's place in its file.
+    /// Called once for each record by each stage of a lane, with the lane's number and the record's place in its file,
+    /// both from 0. It may block to delay the stage, and cannot fail.
     fn pass(&self, lane: u32, stage: Stage, ordinal: u32);
 }
 
@@ -122,6 +128,7 @@ pub trait Gate: Sync {
 pub struct OpenGate;
 
 impl Gate for OpenGate {
+    /// Does nothing and returns at once.
     fn pass(&self, _lane: u32, _stage: Stage, _ordinal: u32) {}
 }
 
@@ -144,18 +151,19 @@ impl Pauses {
         }
     }
 
-    /// Pauses the reading of all files after `file`, and lets `file` and those before it go on; wakes the threads that
-    /// sleep in `wait` if this changes anything.
+    /// Pauses the reading of all files after `file`, and lets `file` and those before it go on, whatever was paused so
+    /// far; wakes the threads that sleep in `wait` if this changes anything.
     pub fn pause_after(&self, file: u32) {
         self.set(u64::from(file) + 1);
     }
 
-    /// Lets all files go on.
+    /// Lets all files go on, and wakes the threads that sleep in `wait`; does nothing if no file is paused.
     pub fn lift(&self) {
         self.set(NO_FILE);
     }
 
-    /// Blocks as long as this file is paused. Its thread sleeps until the word is written.
+    /// Blocks this thread as long as `file` is paused; returns at once if it is not. The thread sleeps until the first
+    /// paused file changes.
     pub fn wait<R: Wait>(&self, rt: &R, file: u32) {
         for _ in rt.forever() {
             let first = self.first.load(Ordering::SeqCst);
@@ -166,8 +174,8 @@ impl Pauses {
         }
     }
 
-    /// Stores `first` as the number of the first paused file; if this changes it, wakes all threads that sleep in
-    /// `wait`.
+    /// Stores `first` as the number of the first paused file (`NO_FILE`: none is paused); if this changes it, wakes all
+    /// threads that sleep in `wait`.
     fn set(&self, first: u64) {
         if self.first.load(Ordering::SeqCst) != first {
             self.first.store(first, Ordering::SeqCst);

@@ -41,15 +41,16 @@ pub trait Staged: Numbered {
     /// The stage that does the work.
     const STAGE: Stage;
 
-    /// An empty scratch, without queues on which buffers return. It allocates nothing.
+    /// An empty scratch, without queues on which lists return. It allocates nothing.
     fn scratch(alloc: Global) -> Self::Scratch;
 
     /// Moves into `scratch` the lists that later stages of the lane have sent back, and sends back those that this
     /// stage no longer needs. It is called before each record, never waits, and has no influence on results.
     fn exchange<R: Wait>(rt: &R, scratch: &mut Self::Scratch);
 
-    /// Does the work of this stage on the item, with the buffers of `scratch`; returns the item for the next stage,
-    /// which is about the same record and choice of the outer face.
+    /// Does the work of this stage on the item, with the buffers of `scratch`, which it changes; returns the item for
+    /// the next stage, about the same record and choice of the outer face. There is no error: if the work fails or
+    /// memory runs out for it, the returned item says so.
     fn work(self, alloc: Global, scratch: &mut Self::Scratch) -> Self::Next
         ensures { Self.Next.about result ≡ Self.about self };
 }
@@ -94,17 +95,20 @@ pub trait LaneKind: Sync {
     // Which ends it may be passed: of which file, with how many records and which mark.
     ghost ends: { ℕ → ℕ → Mark → Type 0 };
 
-    /// The first item for the record at place `ordinal` of a file, with this choice of the outer face.
+    /// The item of the first stage for the record `rec` with place `ordinal` (from 0) in file `file`, and `choice` of
+    /// its outer face.
     fn framed(&self, file: u32, ordinal: u32, rec: Record, choice: Choice) -> Self::Framed
         requires { accepts file ordinal rec }
         ensures { Self.Framed.about result ≡ record { file = file; ordinal = ordinal; bytes = rec; choice = choice } };
 
-    /// Returns what the message of a file's end carries besides the file's number and mark.
+    /// What the message of the end of file `file` carries besides the file's number and mark; `end` has the number of
+    /// its records, and its mark.
     fn end(&self, file: u32, end: SourceEnd) -> Self::End
         requires { ends file end.count end.mark };
 
-    /// New scratches for the second, third and fourth stage of a lane whose links have room for `capacity` messages.
-    /// Lists that one stage no longer needs may return through them to the stage that fills them.
+    /// New scratches for the second, third and fourth stage of a lane whose links hold at most `capacity` messages;
+    /// through them lists return to the stage that fills them. `AllocError` if there is no memory for the channels of
+    /// their return.
     ///
     /// # Errors
     ///
@@ -125,8 +129,9 @@ pub(crate) struct RunningStage<'g, A: Staged, R, G> {
 }
 
 impl<A: Staged, R: Wait, G: Gate> RunningStage<'_, A, R, G> {
-    /// Passes the gate, which may delay it, exchanges lists with other stages, and does the stage's work on one record;
-    /// returns the item for the next stage.
+    /// Calls the gate, which may delay it, exchanges lists with other stages, and does the stage's work on `item` with
+    /// its scratch; returns the item for the next stage. There is no error: if the work fails or memory runs out for
+    /// it, the returned item says so.
     pub(crate) fn work_on(&mut self, item: A) -> A::Next
         ensures told { A.Next.about result ≡ A.about item }
         ensures same { self.new.filling.items.items ≡ self.old.filling.items.items }
@@ -136,8 +141,9 @@ impl<A: Staged, R: Wait, G: Gate> RunningStage<'_, A, R, G> {
         item.work(self.alloc, &mut self.scratch)
     }
 
-    /// Does the stage's work on the items of a message, in order, sends the results to `to`, and sends the emptied list
-    /// back. `Gone` if the other end of `to` is gone.
+    /// Does the stage's work on the items of `batch`, in order, sends all results to `to`, waiting while there is no
+    /// room, and sends the emptied list back. `Gone`, the only error, if the other end of `to` is gone: what was not
+    /// sent is dropped. If memory runs out for an item, its result says so.
     pub(crate) fn pass_on<M: Drop, O: Outlet<A::Next, M>>(
         &mut self,
         batch: Batch<A>,
@@ -167,8 +173,9 @@ pub struct StageWork<A: Staged> {
     pub scratch: A::Scratch,
 }
 
-/// Runs a middle stage of a lane on this thread until the stop, which it passes on; returns both its ends, or `Gone` if
-/// the other end of one of them was gone.
+/// Runs a middle stage of a lane on this thread until the stop, which it passes on: takes messages, does its work and
+/// gives the results. Returns `taker` and `giver`, or `Gone` if the other end of one was gone, and drops both. There is
+/// no other error: if memory runs out for an item, its result says so.
 ///
 /// It gives all that `run_until_stop` gives, and then the stop.
 pub fn run_stage<A: Staged, M: Drop, R: Wait, G: Gate>(
@@ -188,8 +195,9 @@ pub fn run_stage<A: Staged, M: Drop, R: Wait, G: Gate>(
     Ok((taker, giver))
 }
 
-/// Runs a stage of a lane on this thread until the stop, which it does not pass on; returns the receiving end, or
-/// `Gone` if the other end of its link or of its outlet was gone.
+/// Runs a stage of a lane on this thread until the stop, which it does not pass on: takes messages, does its work and
+/// gives the results to `to`. Returns `taker`; drops it, with `Gone`, if the other end of it or of `to` was gone: what
+/// `to` gave stays given. If memory runs out for an item, its result says so.
 ///
 /// It gives what the stage before gives, in order: records with the work of this stage done, and ends unchanged. The
 /// records of a message are given once the work is done on all of them. It does not give the stop: that is left to the

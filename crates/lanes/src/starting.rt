@@ -44,8 +44,8 @@ pub struct Stages<L: LaneKind> {
     pub draw: LastStage<L::Shaped, L::End>,
 }
 
-/// Makes the four stages of lane `lane`, which draws files by this seat, and starts none of them. Each link has room
-/// for `capacity` messages; `Memory` if there is no memory.
+/// Makes the four stages of lane `lane`, which draws files by `seat`, with empty links that hold at most `capacity`
+/// messages each; starts none of them. `Memory` if there is no memory: `seat` is then dropped.
 pub fn new_stages<L: LaneKind>(
     kind: &L,
     alloc: Global,
@@ -135,7 +135,8 @@ pub type Started<A, M> = PromisedHandle<
 >;
 
 impl<'s, R: Threads + Wait + Sync, O: Opener, G: Gate, L: LaneKind + 's> Shared<'s, R, O, G, L> {
-    /// Starts the first stage of a lane in a thread of its own; `None` if the thread could not be started.
+    /// Starts the first stage of a lane in a thread of its own, and returns its handle; `None` if the thread could not
+    /// be started, for example for lack of memory: `reading` is then dropped.
     pub fn start_read<'e>(
         &'s self,
         scope: &'s Scope<'s, &'e ()>,
@@ -167,7 +168,8 @@ impl<'s, R: Threads + Wait + Sync, O: Opener, G: Gate, L: LaneKind + 's> Shared<
     }
 }
 
-/// Starts a stage of this lane in a thread of its own; `None` if the thread could not be started.
+/// Starts a middle stage of lane `lane` in a thread of its own, and returns its handle; `None` if the thread could not
+/// be started, for example for lack of memory: `stage` is then dropped.
 pub fn start_stage<'s, 'e, R: Wait + Sync, G: Gate, A: Staged + 's, M: Drop + Send + 's>(
     scope: &'s Scope<'s, &'e ()>,
     rt: &'s R,

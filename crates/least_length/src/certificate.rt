@@ -13,7 +13,9 @@ use crate::least::Scratch;
 use crate::segments::{Balance, Segment, Sight, Wire};
 use std::alloc::AllocError;
 
-/// Whether the weighted pairs `sights` certify that the total length of the wires is least with these coordinates.
+/// Whether the weights of the pairs `sights` certify that the wires have least total length with `coordinates`; false
+/// also if a wire or pair has a member that is no segment, or segments lose their order. Overwrites the buffers of the
+/// check in `scratch`; `AllocError` if there is no memory for them.
 ///
 /// There is one coordinate for each segment. True means that no coordinates with which segments keep their order on
 /// each level give a lesser total length.
@@ -39,7 +41,9 @@ pub fn certify_lengths(
     certify(&mut scratch.balance, segments, wires, coordinates, sights)
 }
 
-/// Whether the weighted pairs certify least total length, as [`certify_lengths`], with only the buffers that it needs.
+/// Whether the weights of the pairs `sights` certify that the wires have least total length with `coordinates`, as
+/// [`certify_lengths`] says. Overwrites the buffers in `balance`, the only ones that it needs; `AllocError` if there is
+/// no memory for them.
 pub(crate) fn certify(
     balance: &mut Balance,
     segments: &[Segment],
@@ -66,7 +70,7 @@ pub(crate) fn certify(
     balance.is_balanced(segments.len(), wires, sights)
 }
 
-/// Whether both ends of each wire are segments.
+/// Whether both ends of each wire are indices of `segments`; true if there are no wires.
 pub(crate) fn have_ends(segments: &[Segment], wires: &[Wire]) -> bool
     ensures { (result ≡ true) ↔ ((i : ℕ) → i < length wires.now → HasEnds segments.now (wire_at wires.now i)) }
 {
@@ -79,7 +83,7 @@ pub(crate) fn have_ends(segments: &[Segment], wires: &[Wire]) -> bool
     true
 }
 
-/// Whether no wire has a level above this one.
+/// Whether no wire has a level above `top`; true if there are no wires.
 pub(crate) fn have_levels(wires: &[Wire], top: u16) -> bool
     ensures { (result ≡ true) ↔ ((i : ℕ) → i < length wires.now → (wire_at wires.now i).level ≤ top) }
 {
@@ -91,7 +95,8 @@ pub(crate) fn have_levels(wires: &[Wire], top: u16) -> bool
     true
 }
 
-/// Whether both members of each pair are segments, and the first is before the second on some level.
+/// Whether in each pair of `sights` both members are indices of `segments`, both cross a common level, and the first,
+/// `before`, has a lesser coordinate than the second, `behind`; true if there are no pairs.
 fn are_sights(segments: &[Segment], sights: &[Sight]) -> bool
     ensures { (result ≡ true) ↔ ((i : ℕ) → i < length sights.now → IsSight segments.now (sight_at sights.now i)) }
 {
@@ -103,7 +108,8 @@ fn are_sights(segments: &[Segment], sights: &[Sight]) -> bool
     true
 }
 
-/// Whether both members of a pair are segments, and the first is before the second on some level.
+/// Whether both members of the pair `sight` are indices of `segments`, both cross a common level, and the first,
+/// `before`, has a lesser coordinate than the second, `behind`. Its weight does not matter.
 fn is_sight(segments: &[Segment], sight: Sight) -> bool
     ensures { (result ≡ true) ↔ IsSight segments.now sight }
 {
@@ -115,7 +121,8 @@ fn is_sight(segments: &[Segment], sight: Sight) -> bool
     stands_before(segments[first], segments[second])
 }
 
-/// Whether some level is crossed by both segments, and there the first is before the second.
+/// Whether both segments cross a common level and `first` has a lesser coordinate than `second`; false if the
+/// coordinates are equal.
 fn stands_before(first: Segment, second: Segment) -> bool
     ensures { (result ≡ true) ↔ StandsBefore first second }
 {
@@ -124,8 +131,9 @@ fn stands_before(first: Segment, second: Segment) -> bool
     low <= high && first.coordinate < second.coordinate
 }
 
-/// Whether segments keep their order on each level with these coordinates. It compares each segment with all others:
-/// quadratic in the segments.
+/// Whether segments keep their order on each level: of each two that cross a common level, the one with the lesser own
+/// coordinate has the lesser one in `coordinates`, too. Quadratic in the segments, since it compares each with all
+/// others.
 pub(crate) fn is_order_kept(segments: &[Segment], coordinates: &[u16]) -> bool
     requires { length coordinates.now ≡ length segments.now }
     ensures { (result ≡ true) ↔ KeepsOrder segments.now (coordinates_in coordinates.now) }
@@ -138,8 +146,8 @@ pub(crate) fn is_order_kept(segments: &[Segment], coordinates: &[u16]) -> bool
     true
 }
 
-/// Whether with these coordinates the segment at `place` stays before each segment that crosses a common level and that
-/// it is before now. Linear in the segments.
+/// Whether the segment at `place` has a lesser coordinate in `coordinates` than each segment that crosses a common
+/// level and has a greater own coordinate. Linear in the segments.
 fn keeps_order(segments: &[Segment], coordinates: &[u16], place: usize) -> bool
     requires count { length coordinates.now ≡ length segments.now }
     requires place { place < length segments.now }
@@ -155,7 +163,7 @@ fn keeps_order(segments: &[Segment], coordinates: &[u16], place: usize) -> bool
     true
 }
 
-/// The sum of the weights of all pairs.
+/// The sum of the weights of the pairs `sights`; 0 if there are none.
 fn weigh(sights: &[Sight]) -> u64
     requires { length sights.now ≤ MAX_SIGHTS }
     ensures { result ≡ total_weight sights.now }
@@ -167,7 +175,8 @@ fn weigh(sights: &[Sight]) -> u64
     total
 }
 
-/// The total length of the wires.
+/// The total length of the wires with `coordinates`, one for each segment: the sum of the differences between the
+/// coordinates at both ends of each wire; 0 if there are no wires.
 pub(crate) fn measure(wires: &[Wire], coordinates: &[u16]) -> u64
     requires few { length wires.now ≤ MAX_WIRES }
     requires ends { (i : ℕ) → i < length wires.now → ((wire_at wires.now i).from < length coordinates.now) × ((wire_at wires.now i).to < length coordinates.now) }
@@ -182,19 +191,18 @@ pub(crate) fn measure(wires: &[Wire], coordinates: &[u16]) -> u64
     total
 }
 
-/// Weights in balance at each segment bound the total length of the wires from below.
-///
-/// Their sum is at most the total length with any coordinates that keep the order.
+/// Theorem: if the weights of pairs are in balance with the wires at each segment, their sum is at most the total
+/// length of the wires with any coordinates that keep the order of segments on each level.
 pub fn weights_bound_lengths()
     ensures { (segments : List Segment) (wires : List Wire) (sights : List Sight) (coordinates : ℕ → ℕ) → AreWeights segments wires sights → KeepsOrder segments coordinates → total_weight sights ≤ total_length wires coordinates }
 {}
 
-/// With shortest coordinates, segments keep their current order on each level.
+/// Theorem: with coordinates that give the wires least total length, segments keep their current order on each level.
 pub fn shortest_keep_order()
     ensures { (segments : List Segment) (wires : List Wire) (coordinates : ℕ → ℕ) → IsShortest segments wires coordinates → KeepsOrder segments coordinates }
 {}
 
-/// With any two shortest coordinates the total length of the wires is the same.
+/// Theorem: any two choices of coordinates that each give the wires least total length give the same total length.
 pub fn shortest_are_equally_long()
     ensures { (segments : List Segment) (wires : List Wire) (first second : ℕ → ℕ) → IsShortest segments wires first → IsShortest segments wires second → total_length wires first ≡ total_length wires second }
 {}

@@ -31,8 +31,11 @@ impl Scratch {
     }
 }
 
-/// Whether segments keep their order on each level with these coordinates; overwrites `frontier`. Linear in their
-/// levels if they are listed in the order of their own coordinates and keep it, otherwise quadratic in the segments.
+/// Whether segments keep their order on each level with `coordinates`, one for each segment. Overwrites `frontier`;
+/// `AllocError` if there is no memory for it, one entry for each level.
+///
+/// Linear in their levels if they are listed in the order of their own coordinates and keep it, otherwise quadratic in
+/// the segments.
 pub(crate) fn is_order_kept(
     frontier: &mut Vec<u32>,
     segments: &[Segment],
@@ -50,7 +53,8 @@ pub(crate) fn is_order_kept(
 }
 
 /// Whether segments are listed in the order of their own coordinates, and each has one in `coordinates` above those of
-/// all listed before it on its levels. `frontier` must be all zeros, and is overwritten.
+/// all listed before it on its levels; false also if `frontier` has no entry for a level. `frontier` must be all zeros,
+/// and is overwritten, in part if the result is false.
 fn is_swept(frontier: &mut [u32], segments: &[Segment], coordinates: &[u16]) -> bool
     requires { length coordinates.now ≡ length segments.now }
     ensures { result ≡ true → KeepsOrder segments.now (coordinates_in coordinates.now) }
@@ -69,8 +73,8 @@ fn is_swept(frontier: &mut [u32], segments: &[Segment], coordinates: &[u16]) -> 
     true
 }
 
-/// Records a coordinate in `frontier` on the levels of a segment; stops and returns false at the first level that has
-/// met one at least as great.
+/// Sets the entries of `frontier` on the levels of `segment` to `coordinate` plus 1, and returns true. At the first
+/// level with an entry above `coordinate` it stops and returns false; the entries of lower levels are then set.
 fn move_past(frontier: &mut [u32], segment: Segment, coordinate: u32) -> bool
     requires levels { segment.high < length frontier.old }
     requires coordinate { coordinate < 2 ^ 16 }
@@ -98,8 +102,9 @@ pub(crate) fn highest(segments: &[Segment]) -> u16
     most
 }
 
-/// Looks for coordinates that shorten the wires; if it finds any, writes those of least total length into `coordinates`
-/// and returns true. Each segment that the search goes over takes one of `looks`, and it gives up if too few are left.
+/// Searches for coordinates that shorten the wires; returns true if `coordinates` then has those of least total length,
+/// one for each segment. After false or an error, what it holds does not matter. Takes one of `looks` for each segment
+/// gone over; if too few are left, all, and gives up. Overwrites `scratch`. `AllocError` if there is no memory.
 ///
 /// There is one coordinate for each segment. With them segments keep their order on each level, and no such coordinates
 /// give a lesser total length. The segments must be given in the order of their coordinates; wires run along levels, to
@@ -108,12 +113,12 @@ pub(crate) fn highest(segments: &[Segment]) -> u16
 /// Each wire pulls its two segments together by one unit. Segment by segment, units that pull up are sent along pairs
 /// to segments that are pulled down: over segments that are next to each other, and if these lead no further, all
 /// segments reached move up together (the primal-dual method for least-cost flow: Ahuja, Magnanti and Orlin, Network
-/// Flows, 1993). True is returned only if [`certify_lengths`](crate::certify_lengths) accepts the result. It is false if
-/// the wires are no shorter than with the segments' own coordinates; if the search would go over more segments than there
-/// are `looks`, of which it takes one for each segment, each time, and all if they are too few; if more than 16,384 pairs
-/// are met, if more than 65,536 wires or 65,533 segments are given, or if the input is other than said above. That it is
-/// never false otherwise is measured and not proved. It reuses the caller's scratch and list; if it is false, what the
-/// list holds does not matter.
+/// Flows, 1993). True is returned only if [`certify_lengths`](crate::certify_lengths) accepts the result. It is false
+/// if the wires are no shorter than with the segments' own coordinates; if the search would go over more segments than
+/// there are `looks`, of which it takes one for each segment, each time, and all if they are too few; if more than
+/// 16,384 pairs are met, if more than 65,536 wires or 65,533 segments are given, or if the input is other than said
+/// above. That it is never false otherwise is measured and not proved. It reuses the caller's scratch and list; if it
+/// is false, what the list holds does not matter.
 ///
 /// # Errors
 ///
@@ -139,11 +144,12 @@ pub fn find_shorter(
     Ok(is_shorter(segments, wires, coordinates.as_slice()))
 }
 
-/// Writes the coordinates that the last search came to; returns whether segments keep their order with them and the
-/// wires are shorter than with the segments' own coordinates. If not, what `coordinates` holds does not matter.
+/// Writes to `coordinates` those that the last search in `scratch` came to; returns whether segments keep their order
+/// with them and the wires are shorter than with the segments' own. After false or an error, what it holds does not
+/// matter. Overwrites a buffer of `scratch`, but not what was found. `AllocError` if there is no memory.
 ///
-/// If a search of [`find_shorter`] had too few looks, this makes use of what it found until then: the same scratch, segments
-/// and wires are to be given. The total length need not be least.
+/// If a search of [`find_shorter`] had too few looks, this makes use of what it found until then: the same scratch,
+/// segments and wires are to be given. The total length need not be least.
 ///
 /// # Errors
 ///
@@ -171,10 +177,12 @@ pub fn take_shorter(
     Ok(is_shorter(segments, wires, coordinates.as_slice()))
 }
 
-/// Searches for coordinates, and for weights in balance; returns false if there are too many segments or pairs, if a
-/// wire has an end that is no segment or a level above all segments, or if the search fails or has no looks left. If true,
-/// the weights may still not be in balance, since the search stops after `MAX_PULLS` pulls on a segment; they are tested
-/// later.
+/// Searches for coordinates and weights in balance, and stores both in `scratch`. False if there are too many segments
+/// or pairs, a wire has an end that is no segment or a level above all segments, or the search fails or has too few of
+/// `looks` left; it takes one for each segment gone over. `AllocError` if there is no memory for `scratch`.
+///
+/// If true, the weights may still not be in balance, since the search stops after `MAX_PULLS` pulls on a segment; they
+/// are tested later.
 fn balance(
     scratch: &mut Scratch,
     segments: &[Segment],
@@ -192,7 +200,9 @@ fn balance(
     scratch.pulling.balance(segments, wires, top, looks)
 }
 
-/// Writes the coordinates that the pulls led to, and returns whether the weights of pairs certify them as least.
+/// Writes to `coordinates` those that the last search in `scratch` came to; returns whether the weights found certify
+/// them as least, and false also if one is above 65,535. After false or an error, what it holds may be incomplete.
+/// Overwrites the buffers of the check in `scratch`; `AllocError` if there is no memory.
 fn write_certified(
     scratch: &mut Scratch,
     segments: &[Segment],
@@ -214,7 +224,8 @@ fn write_certified(
     certify(balance, segments, wires, coordinates.as_slice(), sights)
 }
 
-/// Whether the wires are shorter with these coordinates than with the segments' own.
+/// Whether the total length of the wires is less with `coordinates`, one for each segment, than with the segments' own;
+/// false if both are equal.
 fn is_shorter(segments: &[Segment], wires: &[Wire], coordinates: &[u16]) -> bool
     requires few { length wires.now ≤ MAX_WIRES }
     requires ends { (i : ℕ) → i < length wires.now → HasEnds segments.now (wire_at wires.now i) }
@@ -224,7 +235,7 @@ fn is_shorter(segments: &[Segment], wires: &[Wire], coordinates: &[u16]) -> bool
     measure(wires, coordinates) < measure_own(segments, wires)
 }
 
-/// The total length of the wires with the segments' own coordinates.
+/// The total length of the wires with the segments' own coordinates; 0 if there are no wires.
 fn measure_own(segments: &[Segment], wires: &[Wire]) -> u64
     requires few { length wires.now ≤ MAX_WIRES }
     requires ends { (i : ℕ) → i < length wires.now → HasEnds segments.now (wire_at wires.now i) }

@@ -44,7 +44,7 @@ pub(crate) struct Pulling {
 }
 
 impl Pulling {
-    /// Empty buffers; nothing is allocated.
+    /// A search with empty buffers, in which nothing has moved; it allocates nothing.
     pub(crate) fn empty(alloc: Global) -> Pulling
         ensures { result.coordinates.items ≡ [] }
     {
@@ -60,12 +60,16 @@ impl Pulling {
         }
     }
 
-    /// Searches for weights in balance at each segment, and coordinates with which weighted pairs are adjacent, and
-    /// stores both; returns false if there are too many pairs, units cannot be sent or no looks are left. True does not
-    /// prove balance, which is missed if a segment needs more than `MAX_PULLS` sends.
+    /// Searches for weights in balance at each segment, and for coordinates with which weighted pairs are adjacent;
+    /// stores both here. False if there are more than `MAX_SIGHTS` pairs, units cannot be sent, or too few of `looks`
+    /// are left; it takes one for each segment gone over. `AllocError` if there is no memory for the buffers.
     ///
-    /// The segments are in the order of their coordinates, and no level is above `top`. Each segment that the search goes
-    /// over takes one of the looks, each time.
+    /// True does not prove balance, which is missed if a segment needs more than `MAX_PULLS` sends. After false, the
+    /// coordinates and weights are as far as the search came; with too many pairs, the coordinates are those of an
+    /// earlier search.
+    ///
+    /// The segments are in the order of their coordinates, and no level is above `top`. Each segment that the search
+    /// goes over takes one of the looks, each time.
     pub(crate) fn balance(
         &mut self,
         segments: &[Segment],
@@ -100,8 +104,9 @@ impl Pulling {
         Ok(true)
     }
 
-    /// Starts a search: copies the coordinates of the segments, adds up the pulls of wires and of the weights of
-    /// adjacent pairs, and sets the weights of all other pairs to 0.
+    /// Starts a search: sets `moved` to false, copies the segments' own coordinates, sets the weights of pairs that are
+    /// not adjacent to 0, and sums in `up` and `down` the pulls of the wires and of the other weights. `AllocError` if
+    /// there is no memory for these three lists: they are then incomplete, and no weight changes.
     fn begin(&mut self, segments: &[Segment], wires: &[Wire]) -> Result<(), AllocError>
         requires few { vec_len self.old.sight_lists.sights ≤ MAX_SIGHTS }
         requires pairs { ArePairs (length segments.now) self.old.sight_lists.sights.items }
@@ -131,9 +136,9 @@ impl Pulling {
         Ok(())
     }
 
-    /// Sends units that pull a segment up to others, until no more pull it up than down, or `MAX_PULLS` times.
-    /// Returns false if a send fails or no looks are left, and true otherwise: also if units are left after `MAX_PULLS`
-    /// sends.
+    /// Sends units that pull the segment `root` up to others, until no more pull it up than down, or `MAX_PULLS` times;
+    /// returns true in both cases. False if a send fails or too few of `looks` are left; each send takes some of them.
+    /// `AllocError` if there is no memory for the segments reached. Earlier sends stay in all cases.
     fn relieve(&mut self, root: u16, looks: &mut u64) -> Result<bool, AllocError>
         requires ready { IsReady self.old }
         requires root { root < vec_len self.old.coordinates }
@@ -152,9 +157,11 @@ impl Pulling {
         Ok(true)
     }
 
-    /// Sends units that pull a segment up along pairs to one that is pulled down. If no pair leads on, those reached
-    /// move up together until one does. Returns false if none is reached, a coordinate or a weight has no room, or no
-    /// looks are left: each time that it goes over the segments reached, it takes one for each.
+    /// Sends units that pull `root` up along pairs to a segment that is pulled down. If no pair leads on, it takes one
+    /// of `looks` for each segment reached, and moves these up until one does. False if none is found, a coordinate or
+    /// weight leaves its range, or too few `looks` are left; `AllocError` if there is no memory.
+    ///
+    /// Segments that moved before that stay where they are then.
     fn send(&mut self, root: u16, looks: &mut u64) -> Result<bool, AllocError>
         requires ready { IsReady self.old }
         requires root { root < vec_len self.old.coordinates }
@@ -183,8 +190,11 @@ impl Pulling {
         Ok(false)
     }
 
-    /// Reaches all segments to which pairs lead from those still to be looked at, up to the first one that is pulled down,
-    /// which it returns. It searches depth first, which finds one after fewer segments than their order does.
+    /// Goes from the segments in `unlooked` along pairs up to the first segment that is pulled down more than up, and
+    /// returns it; `None` if there is none. Marks the segments reached, appends them to `reached`, and removes those
+    /// looked at from `unlooked`. `AllocError` if there is no memory for these lists.
+    ///
+    /// It searches depth first, which finds one after fewer segments than their order does.
     fn search_pairs(&mut self) -> Result<Option<u16>, AllocError>
         requires ready { IsReady self.old }
         requires unlooked { AreSegments (vec_len self.old.coordinates) self.old.unlooked.items }
@@ -206,8 +216,9 @@ impl Pulling {
         Ok(None)
     }
 
-    /// Reaches the segments to which the pairs of one segment lead, up to the first one that is pulled down, which it
-    /// returns.
+    /// Reaches the segments to which the pairs of `segment` lead, up to the first one that is pulled down more than up,
+    /// and returns it; `None` if there is none. Marks each with its pair and appends it to `reached` and `unlooked`.
+    /// `AllocError` if there is no memory for these lists.
     fn visit(&mut self, segment: u16) -> Result<Option<u16>, AllocError>
         requires ready { IsReady self.old }
         requires unlooked { AreSegments (vec_len self.old.coordinates) self.old.unlooked.items }
@@ -236,8 +247,9 @@ impl Pulling {
         Ok(None)
     }
 
-    /// The segment to which a pair leads from this one, if it is not reached yet: the second of the pair, if the two
-    /// are adjacent, or the first, if the pair has a weight to take back.
+    /// The segment to which the pair with the index `pair` leads from `segment`, one of its members: the second, if
+    /// both are adjacent, or the first, if the pair has a weight to take back. `None` if it leads to none, or to one
+    /// reached already.
     fn next(&self, pair: usize, segment: u16) -> Option<u16>
         requires ready { IsReady self.now }
         requires pair { pair < vec_len self.now.sight_lists.sights }
@@ -252,8 +264,9 @@ impl Pulling {
         (leads && self.marks[usize::from(next)] == UNREACHED).then_some(next)
     }
 
-    /// Moves all segments reached up until one of them is adjacent to one that is not reached; returns false if none is
-    /// in their way, or a coordinate has no room. Only those that are adjacent then are still to be looked at.
+    /// Moves all segments reached up until one is adjacent to one not reached, replaces `unlooked` by those that then
+    /// are, and sets `moved`. False if no segment is in their way, and none moves, or if a coordinate would be above
+    /// 4,294,967,295, and some have moved. `AllocError` if there is no memory for `unlooked`, and none moves.
     fn move_up(&mut self) -> Result<bool, AllocError>
         requires ready { IsReady self.old }
         ensures ready { OnOk result (IsReady self.new) }
@@ -271,8 +284,8 @@ impl Pulling {
         Ok(raise(coordinates, self.reached.as_slice(), slack))
     }
 
-    /// How far all segments reached can move up together; `u32::MAX` if none is in their way. Those that can move no
-    /// further are then still to be looked at.
+    /// How far all segments reached can move up together; `u32::MAX` if no other segment is in their way. Replaces
+    /// `unlooked` by those of them that can move no further than that; `AllocError` if there is no memory for it.
     fn least_slack(&mut self) -> Result<u32, AllocError>
         requires { IsReady self.old }
         ensures ready { OnOk result (IsReady self.new) }
@@ -291,7 +304,8 @@ impl Pulling {
         Ok(least)
     }
 
-    /// How far this segment can move up towards segments that are not reached; `u32::MAX` if none is in its way.
+    /// How far `segment` can move up before it is adjacent to one that is not reached; 0 if it is so now, and
+    /// `u32::MAX` if none is in its way.
     fn slack_of(&self, segment: u16) -> u32
         requires ready { IsReady self.now }
         requires segment { segment < vec_len self.now.coordinates }
@@ -308,8 +322,9 @@ impl Pulling {
         least
     }
 
-    /// Sends as many units as possible along the path by which the search reached `target` from `root`; returns false
-    /// if a weight leaves its range: others on the path may then have changed.
+    /// Sends as many units as possible along the path by which the search reached `target` from `root`: changes the
+    /// weights on it, the pull down on `root` and the pull up on `target`, and returns true. False if a weight would
+    /// leave its range: other weights on the path may then have changed, but no pull.
     fn augment(&mut self, root: u16, target: u16) -> bool
         requires ready { IsReady self.old }
         requires root { root < vec_len self.old.coordinates }
@@ -332,8 +347,8 @@ impl Pulling {
         true
     }
 
-    /// The number of units, at most `most`, that the path by which the search reached `target` can carry: no more than
-    /// the weight of any pair that it takes back from.
+    /// The number of units that the path by which the search reached `target` can carry: `most`, or the least weight of
+    /// the pairs from which the path takes units back, if that is less.
     fn measure(&self, target: u16, most: u32) -> u32
         requires ready { IsReady self.now }
         requires target { target < vec_len self.now.coordinates }
@@ -357,15 +372,17 @@ impl Pulling {
         units
     }
 
-    /// How far the segments of a pair can come nearer to each other.
+    /// How far the segments of the pair `sight` can come nearer to each other with the current coordinates: their
+    /// difference minus 1, or 0 if the first does not have the lesser one.
     fn slack(&self, sight: Sight) -> u32
         requires { IsPair (vec_len self.now.coordinates) sight }
     {
         slack_between(self.coordinates.as_slice(), sight)
     }
 
-    /// Replaces `coordinates` by those of all segments, shifted so that the least is 0; returns false if one is then
-    /// above 65,535, and leaves the list incomplete.
+    /// Replaces `coordinates` by those of the search, in the order of segments, shifted so that the least is 0, and
+    /// returns true. False if one is then above 65,535, `AllocError` if there is no memory for `coordinates`: it then
+    /// has only those before that one.
     pub(crate) fn write(&self, coordinates: &mut Vec<u16>) -> Result<bool, AllocError> {
         let least = least_of(self.coordinates.as_slice());
         coordinates.clear();
@@ -379,8 +396,9 @@ impl Pulling {
     }
 }
 
-/// Returns the lesser of `slack`, how far a segment can move, and `least`, how far those listed can. It appends the
-/// segment if that can move no further than those listed, and removes these first if it can move less.
+/// Returns the lesser of `slack`, how far `segment` can move, and `least`, how far those in `listed` can. If `slack` is
+/// less, it empties `listed`; if it is less or equal, it then appends `segment`. `AllocError` if there is no memory to
+/// append, which leaves `listed` without `segment`.
 fn note_least(
     listed: &mut Vec<u16>,
     segment: u16,
@@ -398,7 +416,7 @@ fn note_least(
     Ok(slack.min(least))
 }
 
-/// Takes this many looks from those that are left; false if there are fewer, and then none is left.
+/// Takes `count` from `looks` and returns true; if `looks` is less than `count`, sets it to 0 and returns false.
 fn spend(looks: &mut u64, count: usize) -> bool
     ensures left { result ≡ true → looks.old ≡ looks.new + count }
     ensures none { result ≡ false → looks.new ≡ 0 }
@@ -412,7 +430,7 @@ fn spend(looks: &mut u64, count: usize) -> bool
     true
 }
 
-/// The least of these coordinates.
+/// The least of `coordinates`; `u32::MAX` if there are none.
 fn least_of(coordinates: &[u32]) -> u32
     ensures { (r : ℕ) → r < length coordinates.now → result ≤ slice_index coordinates.now r }
 {
@@ -423,7 +441,8 @@ fn least_of(coordinates: &[u32]) -> u32
     least
 }
 
-/// Takes the weights of pairs that are not adjacent away.
+/// Sets the weight of each pair in `sights` to 0 if its segments can come nearer to each other with `coordinates`; all
+/// other weights stay.
 fn drop_distant(sights: &mut [Sight], coordinates: &[u32])
     requires { ArePairs (length coordinates.now) sights.old }
     ensures { ArePairs (length coordinates.now) sights.new }
@@ -435,7 +454,7 @@ fn drop_distant(sights: &mut [Sight], coordinates: &[u32])
     }
 }
 
-/// Marks these segments as not reached.
+/// Sets the entries of `marks` for these `segments` to `UNREACHED`; all other entries stay.
 fn clear_marks(marks: &mut [u16], segments: &[u16])
     requires { AreSegments (length marks.old) segments.now }
     ensures { (r : ℕ) → slice_index marks.new r ≤ slice_index marks.old r }
@@ -445,7 +464,8 @@ fn clear_marks(marks: &mut [u16], segments: &[u16])
     }
 }
 
-/// Adds `slack` to the coordinates of these segments; returns false if one has no room: earlier ones have then changed.
+/// Adds `slack` to the coordinate of each of `segments` in `coordinates`, and returns true; false if one would be above
+/// 4,294,967,295: those of earlier segments have then changed.
 fn raise(coordinates: &mut [u32], segments: &[u16], slack: u32) -> bool
     requires { AreSegments (length coordinates.old) segments.now }
 {
@@ -458,8 +478,9 @@ fn raise(coordinates: &mut [u32], segments: &[u16], slack: u32) -> bool
     true
 }
 
-/// Adds units to the weights of pairs walked up, and takes them from those walked down, on the path that `marks` give
-/// from `target` back; returns false if a weight leaves its range: earlier ones have then changed.
+/// Walks back from `target` on the path that `marks` give; adds `units` in `sights` to the weights of pairs that the
+/// path walks up, takes them from those that it walks down, and returns true. False if a weight would leave its range:
+/// those nearer to `target` have then changed.
 fn shift(sights: &mut [Sight], marks: &[u16], target: u16, units: u32) -> bool
     requires few { length sights.old ≤ MAX_SIGHTS }
     requires pairs { ArePairs (length marks.now) sights.old }
@@ -489,7 +510,8 @@ fn shift(sights: &mut [Sight], marks: &[u16], target: u16, units: u32) -> bool
     true
 }
 
-/// How far the segments of a pair can come nearer to each other with these coordinates.
+/// How far the segments of the pair `sight` can come nearer to each other with `coordinates`: their difference minus 1,
+/// or 0 if the first does not have the lesser one.
 fn slack_between(coordinates: &[u32], sight: Sight) -> u32
     requires { IsPair (length coordinates.now) sight }
 {

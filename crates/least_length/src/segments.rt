@@ -57,7 +57,7 @@ pub(crate) struct Chains {
 }
 
 impl Chains {
-    /// No lists; nothing is allocated.
+    /// Chains with no list and no member; nothing is allocated.
     pub(crate) fn empty(alloc: Global) -> Chains {
         Chains {
             firsts: Vec::new(alloc),
@@ -65,7 +65,8 @@ impl Chains {
         }
     }
 
-    /// Replaces all lists and members by `lists` empty lists.
+    /// Replaces all lists and members by `lists` empty lists, numbered from 0. `AllocError` if there is no memory for
+    /// them; the old ones are then gone, too.
     pub(crate) fn begin(&mut self, lists: usize) -> Result<(), AllocError>
         ensures lists { OnOk result (vec_len self.new.firsts ≡ lists) }
         ensures members { OnOk result (vec_len self.new.nexts ≡ 0) }
@@ -75,7 +76,8 @@ impl Chains {
         self.firsts.resize(lists, 0)
     }
 
-    /// Adds a new member, which gets the next number, at the front of a list.
+    /// Adds a new member, which gets the next number, at the front of the list `list`. `AllocError` if there is no
+    /// memory for it; nothing changes then.
     pub(crate) fn add(&mut self, list: u16) -> Result<(), AllocError>
         requires list { list < vec_len self.old.firsts }
         requires few { vec_len self.old.nexts + 1 < 2 ^ 32 }
@@ -88,7 +90,7 @@ impl Chains {
         Ok(())
     }
 
-    /// The first member of a list; 0 if none.
+    /// The number of the first member of the list `list`, the one added last; 0 if the list is empty.
     pub(crate) fn first(&self, list: u16) -> u32
         requires { list < vec_len self.now.firsts }
         ensures { result ≤ vec_len self.now.nexts }
@@ -96,7 +98,7 @@ impl Chains {
         self.firsts[usize::from(list)]
     }
 
-    /// The member that follows this one in its list; 0 if none.
+    /// The number of the member that follows `member` in its list, one added earlier; 0 if `member` is the last.
     pub(crate) fn next(&self, member: u32) -> u32
         requires some { 0 < member }
         requires member { member ≤ vec_len self.now.nexts }
@@ -129,8 +131,8 @@ impl Balance {
         }
     }
 
-    /// Whether each of `segments` segments is pulled up as much as down, by wires and by the weights of pairs;
-    /// overwrites its buffers.
+    /// Whether each of `segments` segments is pulled up as much as down, by `wires` and by the weights of the pairs
+    /// `sights`. Overwrites the buffers `up` and `down`; `AllocError` if there is no memory for them.
     pub(crate) fn is_balanced(
         &mut self,
         segments: usize,
@@ -152,8 +154,8 @@ impl Balance {
     }
 }
 
-/// Whether each segment is pulled up as much as down. It adds the pulls of wires and weights to `up` and `down`, which
-/// must be all zeros.
+/// Whether each segment is pulled up as much as down. It adds the pulls of `wires` and of the weights of `sights` to
+/// `up` and `down`, which have one entry for each segment and must be all zeros.
 fn is_balanced_in(wires: &[Wire], sights: &[Sight], up: &mut [u64], down: &mut [u64]) -> bool
     requires wires { length wires.now ≤ MAX_WIRES }
     requires sights { length sights.now ≤ MAX_SIGHTS }
@@ -169,7 +171,8 @@ fn is_balanced_in(wires: &[Wire], sights: &[Sight], up: &mut [u64], down: &mut [
     are_same(up, down)
 }
 
-/// Adds a unit up where each wire starts, and one down where it ends.
+/// Adds, for each wire, 1 to the entry of `up` for the segment where it starts, and 1 to that of `down` for the segment
+/// where it ends. All entries must be 0 at first.
 pub(crate) fn add_wires(wires: &[Wire], up: &mut [u64], down: &mut [u64])
     requires few { length wires.now ≤ MAX_WIRES }
     requires starts { (i : ℕ) → i < length wires.now → (wire_at wires.now i).from < length up.old }
@@ -187,7 +190,8 @@ pub(crate) fn add_wires(wires: &[Wire], up: &mut [u64], down: &mut [u64])
     }
 }
 
-/// Adds the weight of each pair to `up` at its second segment, and to `down` at its first.
+/// Adds the weight of each pair in `sights` to the entry of `up` for its second segment, `behind`, and to that of
+/// `down` for its first, `before`.
 pub(crate) fn add_sights(sights: &[Sight], up: &mut [u64], down: &mut [u64])
     requires few { length sights.now ≤ MAX_SIGHTS }
     requires behind { (i : ℕ) → i < length sights.now → (sight_at sights.now i).behind < length up.old }
@@ -203,7 +207,7 @@ pub(crate) fn add_sights(sights: &[Sight], up: &mut [u64], down: &mut [u64])
     }
 }
 
-/// Whether two lists of equal length are equal.
+/// Whether `up` and `down`, of equal length, have equal entries at each index; true if both are empty.
 pub(crate) fn are_same(up: &[u64], down: &[u64]) -> bool
     requires { length up.now ≡ length down.now }
     ensures { (result ≡ true) ↔ ((r : ℕ) → r < length up.now → slice_index up.now r ≡ slice_index down.now r) }

@@ -34,7 +34,7 @@ pub(crate) struct SightLists {
 }
 
 impl SightLists {
-    /// Empty buffers; nothing is allocated.
+    /// No pairs and no lists of them; nothing is allocated.
     pub(crate) fn empty(alloc: Global) -> SightLists
         ensures { result.sights.items ≡ [] }
     {
@@ -46,8 +46,9 @@ impl SightLists {
         }
     }
 
-    /// Replaces the pairs by those of segments that see each other: each segment with those immediately before it on
-    /// its levels. `segments` must be in the order of their coordinates, and no level may be above `top`.
+    /// Replaces `sights` by the pairs of segments that see each other: each segment, in order, with those immediately
+    /// before it on its levels; `ends` stays. `segments` must be in the order of their coordinates, and no level may be
+    /// above `top`. `AllocError` if there is no memory for the buffers; what `sights` holds then does not matter.
     ///
     /// The weight of a pair is the number of wires that run from one to the other. A pair that is met on several
     /// adjacent levels is listed once.
@@ -77,8 +78,9 @@ impl SightLists {
         )
     }
 
-    /// Replaces `ends` by a list for each of `segments` segments: the ends of pairs there, added from the last pair to
-    /// the first.
+    /// Replaces `ends` by a list for each of `segments` segments: the ends there of the pairs in `sights`, added from
+    /// the last pair to the first, and so read from the first on. `AllocError` if there is no memory for `ends`, which
+    /// is then incomplete.
     pub(crate) fn list_ends(&mut self, segments: usize) -> Result<(), AllocError>
         requires few { vec_len self.old.sights ≤ MAX_SIGHTS }
         requires pairs { ArePairs segments self.old.sights.items }
@@ -96,7 +98,7 @@ impl SightLists {
         Ok(())
     }
 
-    /// The pair to which this end belongs.
+    /// The index in `sights` of the pair to which the member `end` of `ends` belongs.
     pub(crate) fn pair_of(&self, end: u32) -> usize
         requires some { 0 < end }
         requires end { end ≤ 2 * vec_len self.now.sights }
@@ -106,7 +108,8 @@ impl SightLists {
     }
 }
 
-/// Replaces `chains` by a list for each of `segments` segments: the wires that begin there.
+/// Replaces `chains` by a list for each of `segments` segments: the wires that begin there, each by its index plus 1.
+/// `AllocError` if there is no memory for `chains`, which is then incomplete.
 fn list_wires(chains: &mut Chains, segments: usize, wires: &[Wire]) -> Result<(), AllocError>
     requires few { length wires.now ≤ MAX_WIRES }
     requires from { (i : ℕ) → i < length wires.now → (wire_at wires.now i).from < segments }
@@ -120,8 +123,9 @@ fn list_wires(chains: &mut Chains, segments: usize, wires: &[Wire]) -> Result<()
     Ok(())
 }
 
-/// Appends to `sights` the pairs of each segment, in order, with the segments met last on its levels. `frontier`
-/// records what was met; `begun` lists the wires by the segments where they begin.
+/// Appends to `sights`, empty at first, the pairs of each segment, in order, with the segments met last on its levels.
+/// `frontier`, where nothing is met at first, records what was met; `begun` lists the wires by the segments where they
+/// begin. `AllocError` if there is no memory for `sights`; both are then incomplete.
 fn list_pairs(
     sights: &mut Vec<Sight>,
     frontier: &mut [LastSeen],
@@ -147,8 +151,9 @@ fn list_pairs(
     Ok(())
 }
 
-/// Appends to `sights` the pairs of a segment, whose index is `behind`, with the segments at the frontier on its
-/// levels, and puts it there in their place.
+/// Appends to `sights` the pairs of `segment`, whose index is `behind`, with the segments in `frontier` on its levels,
+/// and puts it there in their place; wires noted there stay. `AllocError` if there is no memory for `sights`: some
+/// pairs are then missing, and `frontier` has changed on some levels.
 fn list_before(
     sights: &mut Vec<Sight>,
     frontier: &mut [LastSeen],
@@ -179,7 +184,8 @@ fn list_before(
     list_pair(sights, last, behind, weight)
 }
 
-/// Appends a pair with this weight to `sights`, or nothing if `before`, the index of the first plus 1, is 0.
+/// Appends to `sights` the pair of the segments `before` minus 1 and `behind`, with this weight, or nothing if `before`
+/// is 0. `AllocError` if there is no memory for `sights`, which then stays as it is.
 fn list_pair(
     sights: &mut Vec<Sight>,
     before: u16,
@@ -200,7 +206,8 @@ fn list_pair(
     Ok(())
 }
 
-/// Notes at the frontier the ends of the wires that begin at this segment.
+/// Sets in `frontier`, on the level of each wire that begins at `segment`, the wire's end: its segment plus 1. The
+/// segments noted in `frontier` stay. `begun` lists the wires by the segments where they begin.
 fn note_ends(frontier: &mut [LastSeen], begun: &Chains, wires: &[Wire], segment: u16)
     requires list { segment < vec_len begun.now.firsts }
     requires wires { vec_len begun.now.nexts ≡ length wires.now }

@@ -72,8 +72,8 @@ pub(crate) struct Candidate {
 }
 
 impl Search<'_> {
-    /// Records the label that a residual arc offers to its end: a node with a deficit may become the nearest one found,
-    /// any other gets the label if its distance by it is below the bound.
+    /// Takes up the label that `step` offers to its end, less than the end's own: an end with a deficit may become the
+    /// nearest one found (`bound` and `found`); any other end gets the label if its distance by it is below `bound`.
     pub(crate) fn reach(&mut self, input: SearchInput<'_>, step: Candidate)
         requires candidate { HasCandidate input self.old step }
         ensures relaxed { IsRelaxed input.entry self.old self.new }
@@ -87,8 +87,8 @@ impl Search<'_> {
         }
     }
 
-    /// Gives the end of a residual arc, which has no deficit, the label that the arc offers; if its distance is then
-    /// the radius, it joins the ordered nodes.
+    /// Gives the end of `step`, which has no deficit, the label that `step` offers, and a place in the order if it has
+    /// none; if its distance is then the radius, it joins the ordered nodes.
     fn label_node(&mut self, input: SearchInput<'_>, step: Candidate)
         requires candidate { HasCandidate input self.old step }
         requires nonnegative { pos 0 ≤ℤ excess_of input step.end }
@@ -101,8 +101,8 @@ impl Search<'_> {
         }
     }
 
-    /// Makes the end of a residual arc, which has a deficit, the nearest node found if it is nearer, or as near with a
-    /// lesser score.
+    /// Makes the end of `step`, a node with a deficit at `distance`, the nearest one found (`bound` and `found`) if it
+    /// is nearer than the one found, or as near with a lesser score. Else nothing changes.
     fn candidate(&mut self, input: SearchInput<'_>, step: Candidate, distance: i32)
         ensures same { SameBesideBound self.old self.new }
         ensures bound { self.new.bound ≤ℤ self.old.bound }
@@ -117,7 +117,8 @@ impl Search<'_> {
         }
     }
 
-    /// The score of the nearest node found.
+    /// The score of the nearest node found: the end of residual arc `found`; 0 if there is no such residual arc or the
+    /// node has no score.
     fn found_score(&self, input: SearchInput<'_>) -> i32 {
         match input.arcs.get(self.found) {
             Some(arc) => score_of(input, arc.end as usize),
@@ -125,7 +126,8 @@ impl Search<'_> {
         }
     }
 
-    /// Gives a node its new label; a node that was not reached before also gets the last place in the order.
+    /// Writes the label of the end of `step` and the residual arc by which it was reached; a node that had no label
+    /// also gets the last place in the order, and `reached` grows by 1.
     fn set_label(&mut self, step: Candidate)
         requires end { HasEnd self.old step }
         requires room { far ≤ℤ labels self.old step.end → self.old.reached < length self.old.visits.now }
@@ -138,7 +140,8 @@ impl Search<'_> {
         }
     }
 
-    /// Gives a node that was not reached before its label and the last place in the order.
+    /// Writes the label of the end of `step`, which had none, and the residual arc by which it was reached; gives the
+    /// node the last place in the order, so that `reached` grows by 1.
     fn enlist(&mut self, step: Candidate)
         requires end { HasEnd self.old step }
         requires room { self.old.reached < length self.old.visits.now }
@@ -154,7 +157,7 @@ impl Search<'_> {
         self.relabel(step);
     }
 
-    /// Writes the label of a node, and the residual arc by which it was reached.
+    /// Writes the label of the end of `step`, and the residual arc by which it was reached; the order stays as it is.
     pub(crate) fn relabel(&mut self, step: Candidate)
         requires { HasEnd self.old step }
         ensures label { IsPut (labels self.old) (labels self.new) step.end step.label }
@@ -166,7 +169,8 @@ impl Search<'_> {
         visit.predecessor = step.number as u16;
     }
 
-    /// Adds a reached node to the ordered nodes: it swaps places with the first node that is not ordered.
+    /// Adds `node`, which was reached and is not ordered, to the ordered nodes: it swaps places with the first node
+    /// that is not ordered, and `ordered` grows by 1.
     pub(crate) fn advance(&mut self, node: usize)
         requires { CanAdvance self.old node }
         ensures swapped { IsSwapped (orders self.old) (places self.old) (orders self.new) (places self.new) node (places self.old node) self.old.ordered }
@@ -180,7 +184,8 @@ impl Search<'_> {
         self.ordered += 1;
     }
 
-    /// Puts a node at a place of the order.
+    /// Puts `node` at `place` of the order, and records the place as the node's. The node that stood there, and the
+    /// place that `node` had, are not put right.
     pub(crate) fn put(&mut self, place: usize, node: usize)
         requires { CanPut self.old place node }
         ensures order { IsPut (orders self.old) (orders self.new) place node }
@@ -193,7 +198,7 @@ impl Search<'_> {
     }
 }
 
-/// The score of a node; 0 if it has none.
+/// The score of a node; 0 if the list of scores has no entry for it.
 fn score_of(input: SearchInput<'_>, node: usize) -> i32 {
     input.score.get(node).copied().unwrap_or(0)
 }
@@ -208,8 +213,9 @@ pub(crate) fn distance(label: i16, potential: i32) -> i32
 }
 
 impl<'a> Search<'a> {
-    /// Searches from the root for the nearest node with a deficit, and returns the results; labels the nodes reached in
-    /// `visits`, where none has a label before, and adds the number of residual arcs looked at to `looks`.
+    /// Searches from the root for the nearest node with a deficit and returns the results, with `bound` at `FAR` if
+    /// there is none. Labels the nodes reached in `visits`, where none may have a label before, and adds the number of
+    /// residual arcs looked at to `looks`.
     ///
     /// Distances are by reduced costs. Then `bound` is the distance of that node, and `found` the last residual arc on
     /// the way there; if unsaturated residual arcs lead to no such node, `bound` is `FAR`. A node's label is the root's
@@ -236,7 +242,9 @@ impl<'a> Search<'a> {
         search
     }
 
-    /// A search that has reached the root alone, which gets its label and the first place in `visits`.
+    /// A search that has reached the root alone and scanned none, with radius 0 and `bound` at `FAR`. In `visits`,
+    /// where no node may have a label before, the root gets its potential as its label, and the first place in the
+    /// order.
     fn begin(input: SearchInput<'_>, visits: &'a mut [Visit]) -> Search<'a>
         requires unlabelled { IsUnlabelled input visits.old }
         ensures search { IsSearch input.entry result }
@@ -261,8 +269,9 @@ impl<'a> Search<'a> {
         search
     }
 
-    /// Whether a node nearer than the bound is left to scan; if none is at the radius, raises the radius to the nearest
-    /// one, and the nodes at that distance join the ordered nodes.
+    /// Returns whether a node nearer than the bound is left to scan. If so, and all ordered nodes are scanned, it first
+    /// raises the radius to the distance of the nearest node that waits; the nodes at that distance join the ordered
+    /// nodes.
     fn goes_on(&mut self, input: SearchInput<'_>) -> bool
         requires search { IsSearch input self.old }
         ensures ordered { IsReordered input.entry self.old self.new }
@@ -300,7 +309,7 @@ impl<'a> Search<'a> {
         least
     }
 
-    /// Sets the radius; the reached nodes at that distance join the ordered nodes.
+    /// Sets the radius to `radius`; the reached nodes at that distance join the ordered nodes.
     fn raise_radius(&mut self, input: SearchInput<'_>, radius: i32)
         requires search { IsSearch input self.old }
         requires radius { IsNextRadius input self.old radius }
@@ -313,7 +322,8 @@ impl<'a> Search<'a> {
         }
     }
 
-    /// Adds the node at place j of the order to the ordered nodes, if its distance is the radius.
+    /// Adds the node at place `j` of the order to the ordered nodes if its distance is the radius; else nothing
+    /// changes.
     fn take_up(&mut self, input: SearchInput<'_>, j: usize)
         requires waiting { IsWaiting input self.old j }
         ensures ordered { IsReordered input.entry self.old self.new }
@@ -328,7 +338,8 @@ impl<'a> Search<'a> {
         }
     }
 
-    /// Scans the next node of the order: relaxes each residual arc that starts there, and adds their number to `looks`.
+    /// Scans the next node of the order, which must be an ordered one: relaxes each residual arc that starts there,
+    /// adds their number to `looks`, and raises `scanned` by 1.
     fn scan(&mut self, input: SearchInput<'_>, looks: &mut u64)
         requires search { IsSearch input self.old }
         requires served { HasFeasibleLabels input self.old }
@@ -353,8 +364,8 @@ impl<'a> Search<'a> {
         *looks += here;
     }
 
-    /// Relaxes a residual arc of the node that is scanned: takes up the label that it offers to its end, if that is
-    /// less than the end's own.
+    /// Relaxes residual arc `number`, which is `arc` and starts at `node`, the node that is scanned: takes up the label
+    /// that it offers to its end, if that is less than the end's own. Else nothing changes.
     fn relax(&mut self, input: SearchInput<'_>, node: usize, number: usize, arc: &ResidualArc)
         requires scanning { IsScanning input self.old node }
         requires number { StartsAt (arcs_of input) node number }

@@ -28,7 +28,8 @@ pub struct Arc {
     pub cost: u32,
 }
 
-/// Adds `amount` units to the entry of node `from`, and subtracts them from that of node `to`. It allocates nothing.
+/// Adds `amount` to the entry of `units` for node `from`, and subtracts it from the entry for node `to`; nothing
+/// changes if both are one node. It allocates nothing.
 pub fn move_units(units: &mut [i32], from: u32, to: u32, amount: u32)
     requires from { from < length units.old }
     requires to { to < length units.old }
@@ -70,7 +71,7 @@ pub(crate) fn has_bad_end(supplies: &[i32], arcs: &[Arc]) -> bool
     arcs.iter().any(|arc| arc.from as usize >= nodes || arc.to as usize >= nodes)
 }
 
-/// Whether a supply is too large in absolute value.
+/// Whether a supply is above `MAX_SUPPLY` in absolute value.
 pub(crate) fn has_bad_supply(supplies: &[i32]) -> bool
     ensures some { result ≡ true → HasFault (net_of supplies.now []) NetFault.BadSupply }
     ensures none { result ≡ false → HasSuppliesInRange (net_of supplies.now []) }
@@ -113,7 +114,8 @@ impl Model for Network {
 impl Network {
     ghost use Rattle.min_cost_flow.specs.Fault.{IsFirstFault};
 
-    /// The network with these supplies, one for each node, and these arcs. A refusal drops both lists.
+    /// The network with these supplies, one for each node, and these arcs. If they make no network, the first that
+    /// applies of `TooLarge`, `BadEnd`, `BadSupply` and `BadCost`; both lists are then dropped.
     ///
     /// It allocates nothing, and its time is linear.
     ///
@@ -138,7 +140,7 @@ impl Network {
         Ok(Network { supplies, arcs })
     }
 
-    /// The network with these supplies and arcs, unchecked: they must be those of a network.
+    /// The network with these supplies, one for each node, and these arcs, unchecked: they must be those of a network.
     ///
     /// It looks at none of them, and allocates nothing.
     pub fn of_lists(supplies: Vec<i32>, arcs: Vec<Arc>) -> Network
@@ -164,7 +166,7 @@ impl Network {
         self.arcs.len()
     }
 
-    /// The arcs, by number.
+    /// All arcs, in the order of their numbers from 0, borrowed.
     pub fn arcs(&self) -> &[Arc]
         ensures arcs { result.now ≡ self.now.arcs }
         ensures kept { IsNetwork (net_of self.now.supplies result.now) }
@@ -172,7 +174,7 @@ impl Network {
         &self.arcs
     }
 
-    /// The supplies, by node.
+    /// The supplies of all nodes, in the order of their numbers from 0, borrowed; one below 0 is a demand.
     pub fn supplies(&self) -> &[i32]
         ensures supplies { result.now ≡ self.now.supplies }
         ensures kept { IsNetwork self.now }
@@ -180,7 +182,8 @@ impl Network {
         &self.supplies
     }
 
-    /// Raises the supply of node `from` by `amount`, and lowers that of node `to` by as much. It allocates nothing.
+    /// Raises the supply of node `from` by `amount`, and lowers that of node `to` by as much; nothing changes if both
+    /// are one node. It allocates nothing.
     pub fn shift(&mut self, from: u32, to: u32, amount: u32)
         requires from { from < node_count self.old }
         requires to { to < node_count self.old }
@@ -191,7 +194,8 @@ impl Network {
         move_units(&mut self.supplies, from, to, amount);
     }
 
-    /// Returns the supplies and the arcs. It allocates nothing.
+    /// Takes the network apart: returns the list of its supplies by node, and the list of its arcs by number. It
+    /// allocates nothing.
     pub fn into_lists(self) -> (Vec<i32>, Vec<Arc>)
         ensures supplies { result.0.items ≡ self.supplies }
         ensures arcs { result.1.items ≡ self.arcs }
@@ -199,7 +203,7 @@ impl Network {
         (self.supplies, self.arcs)
     }
 
-    /// A copy of the network.
+    /// A copy of the network, in lists of its own. `AllocError` if there is no memory for them.
     ///
     /// # Errors
     /// `AllocError` if there is no memory for its lists.

@@ -29,8 +29,8 @@ pub struct ResidualArc {
 }
 
 impl ResidualArc {
-    /// A residual arc to node `end`, with this cost of a unit and this next one. `capacity` is not stored: if it is 0,
-    /// the arc is saturated.
+    /// A residual arc to node `end`, where a unit costs `cost`, followed by `next` in the list of its start. `capacity`
+    /// is not stored: if it is 0, the arc is saturated, and `SATURATED` is added to its cost.
     pub(crate) fn new(end: u16, cost: i16, capacity: u32, next: u32) -> ResidualArc
         requires { cost ≤ℤ pos 1 }
         ensures end { result.end ≡ end }
@@ -67,7 +67,7 @@ pub struct Residual {
 }
 
 impl Residual {
-    /// The node where a residual arc starts.
+    /// The node where residual arc `number` starts.
     pub fn start(&self, number: usize) -> usize
         requires { reverse_of number < length self.now.arcs.items }
         ensures { result ≡ start_at self.now.arcs.items number }
@@ -75,7 +75,8 @@ impl Residual {
         self.arcs[reverse(number)].end as usize
     }
 
-    /// Lowers the capacity of a residual arc by `units`, at least one; it is saturated if no capacity is left.
+    /// Lowers the capacity of residual arc `number` by `units`, at least 1 and at most all of it; if none is left, the
+    /// arc is saturated, and `SATURATED` is added to its cost.
     pub fn take_capacity(&mut self, number: usize, units: u32)
         requires arc { HasNumber self.old number }
         requires cost { (z : ℤ) × (negsuc 0 ≤ℤ z) × (z ≤ℤ pos 1) × IsCosted self.old.arcs.items self.old.capacities.items number z }
@@ -90,7 +91,8 @@ impl Residual {
         }
     }
 
-    /// Raises the capacity of a residual arc by `units`, at least one. It may have been saturated.
+    /// Raises the capacity of residual arc `number` by `units`, at least 1; if it was saturated, `SATURATED` is taken
+    /// off its cost.
     pub fn add_capacity(&mut self, number: usize, units: u32)
         requires arc { HasNumber self.old number }
         requires cost { (z : ℤ) × (negsuc 0 ≤ℤ z) × (z ≤ℤ pos 1) × IsCosted self.old.arcs.items self.old.capacities.items number z }
@@ -111,7 +113,8 @@ impl Residual {
 pub(crate) const UNLIMITED: u32 = 1 << 30;
 
 impl Residual {
-    /// Makes this the residual network of `network` under the zero flow.
+    /// Overwrites this with the residual network of `network` under the zero flow, in lists that already have the
+    /// lengths that it needs: one entry for each node in `first`, two for each arc in the others.
     ///
     /// It allocates nothing, and its time is linear.
     pub fn build(&mut self, network: &Network)
@@ -130,8 +133,8 @@ impl Residual {
     }
 }
 
-/// Writes the two residual arcs of each arc and their capacities under the zero flow, and makes each the first in the
-/// list of the node where it starts.
+/// Writes the two residual arcs of each arc to `arcs` and their capacities under the zero flow to `capacities`, and
+/// makes each the first in the list of the node where it starts; in `first` each entry must be `NONE` before.
 fn list_all(network: &Network, first: &mut [u32], arcs: &mut [ResidualArc], capacities: &mut [u32])
     requires starts { length first.old ≡ node_count network.now }
     requires none { (v : ℕ) → v < length first.old → numbers first.old v ≡ NONE }
@@ -156,8 +159,8 @@ fn list_all(network: &Network, first: &mut [u32], arcs: &mut [ResidualArc], capa
     }
 }
 
-/// Makes residual arc `number` the first in the list of a node, and returns the number of the one that was first, or
-/// `NONE`.
+/// Makes residual arc `number` the first one of `node` in the list `first`, and returns the number that stood there, or
+/// `NONE`. To store this as the new arc's next one is left to the caller.
 fn push_front(first: &mut [u32], node: u32, number: usize) -> u32
     requires node { node < length first.old }
     requires number { number < MAX_RESIDUAL_ARCS }
@@ -170,7 +173,7 @@ fn push_front(first: &mut [u32], node: u32, number: usize) -> u32
     next
 }
 
-/// A capacity as a number of units: `UNLIMITED` for `Cap::Any`.
+/// A capacity as a number of units: that of `AtMost`, or `UNLIMITED` for `Any`.
 fn limit(cap: Cap) -> u32
     ensures { result ≡ units_of cap }
 {

@@ -27,7 +27,7 @@ pub struct Scratch {
 }
 
 impl Scratch {
-    /// An empty scratch. It allocates nothing.
+    /// A scratch with empty lists. It allocates nothing.
     pub fn empty(alloc: Global) -> Scratch {
         Scratch {
             solver: Solver::empty(alloc),
@@ -52,7 +52,8 @@ impl Model for Solved {
 }
 
 impl Solved {
-    /// The solution with these amounts by arc and these potentials by node.
+    /// The solution with these amounts by arc, these potentials by node, and these counts of searches and looks.
+    /// Nothing is checked.
     pub(crate) fn new(flow: Vec<u32>, potential: Vec<i32>, searches: u32, looks: u64) -> Solved
         ensures { result ≡ record { flow = flow.items; potential = potential.items; searches = searches; looks = looks } }
     {
@@ -64,7 +65,8 @@ impl Solved {
         }
     }
 
-    /// Returns the two lists of this solution to the scratch, to be reused. It allocates nothing.
+    /// Moves the two lists of this solution, amounts and potentials, to `scratch`, to be reused; the lists that were
+    /// there are dropped. It allocates nothing.
     pub fn give_back(self, scratch: &mut Scratch) {
         scratch.flow = self.flow;
         scratch.solver.nodes.potential = self.potential;
@@ -86,21 +88,21 @@ impl Solved {
         self.potential[node as usize]
     }
 
-    /// The potentials, by node.
+    /// The potentials of all nodes, in the order of their numbers from 0, borrowed.
     pub fn potentials(&self) -> &[i32]
         ensures { result.now ≡ self.now.potential }
     {
         &self.potential
     }
 
-    /// The number of searches for a path.
+    /// The number of searches for a path that found one; 0 in what `WarmStart::solved` returns.
     pub fn searches(&self) -> u32
         ensures { result ≡ self.now.searches }
     {
         self.searches
     }
 
-    /// The number of times that the searches examined a residual arc.
+    /// The number of times that the searches examined a residual arc; 0 in what `WarmStart::solved` returns.
     pub fn looks(&self) -> u64
         ensures { result ≡ self.now.looks }
     {
@@ -108,8 +110,9 @@ impl Solved {
     }
 }
 
-/// Solves the network anew in the caller's scratch: `None` if it has a flow, otherwise a mark for each node. If the
-/// supplies sum to 0, the marked nodes supply more than the arcs out of their set can carry.
+/// Solves the network anew in `scratch`: `None` if it has a flow, else a new list with a mark for each node. If the
+/// supplies sum to 0, the marked nodes supply more than the arcs out of their set can carry. `AllocError` if there is
+/// no memory for `scratch` or the marks; `scratch` can be used again.
 ///
 /// The marked nodes are those that the last search reached, from a node with an excess by unsaturated residual arcs. If
 /// the supplies do not sum to 0, nothing is said of them.
@@ -133,7 +136,8 @@ pub fn overfull_in(
     Ok(Some(reached(alloc, &solver.visits)?))
 }
 
-/// A new list with a mark for each node: true if the last search reached it.
+/// A new list with a mark for each node: true if the last search reached it, so that it has a label in `visits`.
+/// `AllocError` if there is no memory for the list.
 fn reached(alloc: Global, visits: &[Visit]) -> Result<Vec<bool>, AllocError>
     ensures size { IfOk result (λ marks. length marks.items ≡ length visits.now) }
     ensures each { IfOk result (λ marks. (v : ℕ) → v < length visits.now → is_in marks.items v ≡ was_reached visits.now v) }
@@ -145,27 +149,28 @@ fn reached(alloc: Global, visits: &[Visit]) -> Result<Vec<bool>, AllocError>
     Ok(marks)
 }
 
-/// A set that supplies more than the arcs out of it can carry shows that there is no flow.
+/// Theorem: a network has no flow if some set of its nodes supplies more than the arcs out of it can carry.
 pub fn overfull_shows_no_flow()
     ensures { (net : NetworkModel) (s : ℕ → Bool) → HasEnds net → IsOverfull net s → HasNoFlow net }
 {}
 
-/// A flow has least cost if under some potentials no unsaturated residual arc has a reduced cost below 0.
+/// Theorem: a flow has least cost if under some potentials no unsaturated residual arc has a reduced cost below 0.
 ///
 /// It then costs no more than any other flow.
 pub fn potentials_show_least_cost()
     ensures { (net : NetworkModel) (x : ℕ → ℕ) (p : ℕ → ℤ) → HasEnds net → Flow net x → HasPotentials net x p → IsLeastCost net x }
 {}
 
-/// If some excess is left and no residual path leads from an excess to a deficit, there is no flow.
+/// Theorem: if some node has an excess other than 0 and no residual path leads from an excess above 0 to a deficit, the
+/// network has no flow.
 ///
 /// The excesses are those that the amounts of all arcs leave at the nodes.
 pub fn no_path_shows_no_flow()
     ensures { (net : NetworkModel) (x : ℕ → ℕ) (e : ℕ → ℤ) (u : ℕ) → HasEnds net → HasExcess net x e → HasNoAugmentingPath net x e → u < node_count net → e u ≢ pos 0 → HasNoFlow net }
 {}
 
-/// If the supplies sum to 0 and paths of unlimited arcs lead from each node with an excess to each with a deficit,
-/// there is a flow.
+/// Theorem: if the supplies sum to 0 and paths of unlimited arcs lead from each node with an excess to each with a
+/// deficit, there is a flow.
 ///
 /// The excesses are those that amounts within the capacities leave.
 pub fn unlimited_arcs_give_a_flow()

@@ -48,7 +48,7 @@ pub struct Solver {
 }
 
 impl Solver {
-    /// A state with empty lists. It allocates nothing.
+    /// A solver with empty lists. It allocates nothing.
     pub(crate) fn empty(alloc: Global) -> Solver {
         Solver {
             residual: Residual {
@@ -68,8 +68,8 @@ impl Solver {
         }
     }
 
-    /// Gives each list the length that a network needs, and removes the labels of all nodes. If an allocation is
-    /// refused, some lists do not have it. What else they contain does not matter: a solve overwrites it.
+    /// Gives each list the length that `network` needs, and removes the labels of all nodes; what else the lists
+    /// contain does not matter. `AllocError` if there is no memory; some lists then lack that length, and none is lost.
     pub(crate) fn prepare(&mut self, network: &Network) -> Result<(), AllocError>
         ensures { OnOk result (IsSized network.now self.new) }
     {
@@ -93,8 +93,9 @@ impl Solver {
 }
 
 impl Solver {
-    /// Finds a flow of least cost, from the zero flow on, in lists that `prepare` has sized for the network; returns
-    /// whether there is a flow.
+    /// Finds a flow of least cost, from the zero flow on, in lists that `prepare` has sized for `network`; returns
+    /// whether there is a flow. If so, `residual` holds the flow and `nodes` its potentials; if not, what was sent
+    /// stays there, and `visits` keeps the labels of a search that found no path.
     pub(crate) fn solve(&mut self, network: &Network) -> bool
         requires { IsSized network.now self.old }
         ensures done { result ≡ true → IsRoundDone network.now (flow_in self.new) (potential_at self.new) self.new.searches self.new.looks }
@@ -111,8 +112,8 @@ impl Solver {
         !has_deficit(&self.nodes.excess)
     }
 
-    /// Resets this to the zero flow of a network: all potentials are 0, the excesses are the supplies, nodes are
-    /// scored, and no work is counted.
+    /// Resets this to the zero flow of a network, in lists that `prepare` has sized for it: all potentials are 0, the
+    /// excesses are the supplies, nodes are scored, and no work is counted. `visits` stays as it is.
     fn initialise(&mut self, network: &Network)
         requires { IsSized network.now self.old }
         ensures { IsBetweenSearches network.now self.new }
@@ -125,7 +126,9 @@ impl Solver {
         self.looks = 0;
     }
 
-    /// Sends the whole excess of a node to nodes with a deficit; returns whether all of it could be sent.
+    /// Sends the whole excess of node `root`, if it has one, to nodes with a deficit, and counts each path in
+    /// `searches`; returns whether all of it could be sent. If not, what was sent stays, and `visits` has the last
+    /// search's labels.
     fn send_all_from(&mut self, root: usize) -> bool
         requires between_searches { (net : NetworkModel) × IsBetweenSearches net self.old }
         requires root { root < length self.old.nodes.excess.items }
@@ -141,8 +144,9 @@ impl Solver {
         true
     }
 
-    /// Searches for a shortest path from `root`, which has an excess, to a node with a deficit, updates the potentials
-    /// and augments along the path; returns whether there is one.
+    /// Searches for a shortest path from `root`, which has an excess, to a node with a deficit; if there is one,
+    /// updates the potentials and augments along it. Returns whether there is one; if not, only `looks` and `visits`
+    /// change.
     pub(crate) fn augment_once(&mut self, root: usize) -> bool
         requires ready { (net : NetworkModel) × IsReady net self.old }
         requires root { root < length self.old.nodes.excess.items }
@@ -168,7 +172,7 @@ impl Solver {
     }
 
     /// Sends as many units as fit, at least one, along the path that the last search from `root` found; updates the
-    /// excesses of both ends and the capacities of the residual arcs.
+    /// excesses of both ends and the capacities of the residual arcs. `searches` and `looks` stay as they are.
     fn augment(&mut self, root: usize)
         requires { (net : NetworkModel) × CanAugment net self.old root }
         ensures sent { (net : NetworkModel) → CanAugment net self.old root → IsSentAlong net self.old self.new }
@@ -187,7 +191,8 @@ impl Solver {
         }
     }
 
-    /// How much can go along the path: as much as fits, at most the root's excess and the end's deficit.
+    /// How many units, at least one, can go along the path that the last search from `root` found: as many as fit, at
+    /// most the root's excess and the end's deficit.
     fn bottleneck(&self, root: usize) -> u32
         requires { (net : NetworkModel) × CanAugment net self.now root }
         ensures { IsBottleneck self.now root result }
@@ -220,12 +225,14 @@ pub enum SolveFault {
 impl From<AllocError> for SolveFault {
     ghost from_gives = { λ _ fault. fault ≡ Memory };
 
+    /// `SolveFault::Memory`, for each `AllocError`.
     fn from(_refused: AllocError) -> SolveFault {
         SolveFault::Memory
     }
 }
 
-/// A flow of least cost that meets all supplies, with potentials that prove it.
+/// A flow of least cost that meets all supplies, with potentials that prove it. `Infeasible` if there is no flow,
+/// `Memory` if there is no memory.
 ///
 /// All memory is allocated before it begins. Each search sends at least one unit, so there are no more searches than
 /// units are supplied, and looks at each residual arc at most once, so there are no more looks than twice the number of
@@ -246,7 +253,9 @@ pub fn solve(alloc: Global, network: &Network) -> Result<Solved, SolveFault>
     solve_in(alloc, &mut scratch, network)
 }
 
-/// A flow of least cost that meets all supplies, exactly as [`solve`]; reuses the caller's scratch.
+/// A flow of least cost that meets all supplies, exactly as [`solve`], in the buffers of `scratch`, of which it takes
+/// two lists with it. `Infeasible` if there is no flow, `Memory` if there is no memory; all lists then stay in
+/// `scratch`, which can be used again.
 ///
 /// The solution takes its two lists with it; [`Solved::give_back`] returns them. If there is no solution, or an
 /// allocation was refused, all lists stay in the scratch, which can be used again.
@@ -275,8 +284,9 @@ pub fn solve_in(
     Ok(Solved::new(flow, potential, solver.searches, solver.looks))
 }
 
-/// Finds a shortest path from `root`, which has an excess, to the nearest node with a deficit, and updates the
-/// potentials; returns the last residual arc of the path, or `None` if there is none. Adds its looks to `looks`.
+/// Finds a shortest path from `root`, which has an excess, to the nearest node with a deficit; returns the last
+/// residual arc of the path, or `None` if there is none. Updates the potentials in `nodes` if there is one, records in
+/// `visits` by which residual arc each node was reached, and adds its looks to `looks`.
 ///
 /// In `visits` each earlier node of the path has the residual arc by which it was reached, and no node has a label any
 /// more. If there is no path, the nodes that were reached keep their labels, and supply more than can leave them.
@@ -314,7 +324,8 @@ pub(crate) fn find_path(
     Some(search.found)
 }
 
-/// Update potentials: lowers those of the nodes that were scanned by as much as the nodes are nearer than the bound.
+/// Lowers `potential` for each node that `search` scanned by as much as the node is nearer than the bound: it becomes
+/// the node's label less the bound. The potentials of other nodes stay.
 fn update_potentials(potential: &mut [i32], search: &Search<'_>)
     requires { CanUpdate potential.old search.now }
     ensures moved { (j : ℕ) → j < search.now.scanned → at_nodes potential.new (orders search.now j) ≡ labels search.now (orders search.now j) -ℤ search.now.bound }
@@ -327,7 +338,7 @@ fn update_potentials(potential: &mut [i32], search: &Search<'_>)
     }
 }
 
-/// Sets the potential of a node to its label less the bound.
+/// Sets the entry of `potential` for `node` to `label` less `bound`.
 fn write_potential(potential: &mut [i32], node: usize, label: i16, bound: i32)
     requires node { node < length potential.old }
     requires small { node < MAX_NODES }
@@ -338,7 +349,8 @@ fn write_potential(potential: &mut [i32], node: usize, label: i16, bound: i32)
     potential[node] = i32::from(label) - bound;
 }
 
-/// Takes away the labels of the nodes that were reached.
+/// Takes away from `search` the labels of all nodes that were reached: each is `FAR` again. The order and the residual
+/// arcs by which nodes were reached stay.
 fn clear(search: &mut Search<'_>)
     requires { HasReachedOrder search.old }
     ensures cleared { IsCleared search.old search.new }
@@ -350,7 +362,7 @@ fn clear(search: &mut Search<'_>)
     }
 }
 
-/// Whether some node has a deficit.
+/// Whether some node has a deficit: an entry of `excess` below 0.
 pub(crate) fn has_deficit(excess: &[i32]) -> bool
     ensures some { result ≡ true → (v : ℕ) × (v < length excess.now) × (at_nodes excess.now v <ℤ pos 0) }
     ensures none { result ≡ false → (v : ℕ) → v < length excess.now → pos 0 ≤ℤ at_nodes excess.now v }
@@ -358,8 +370,8 @@ pub(crate) fn has_deficit(excess: &[i32]) -> bool
     excess.iter().any(|units| *units < 0)
 }
 
-/// Writes the score of each node: its supply, plus the supplies above 0 of the nodes from which arcs of cost 0 lead to
-/// it. Of nodes that are equally near, a search takes the one with the least score.
+/// Writes to `scores` the score of each node: its supply, plus the supplies above 0 of the nodes from which arcs of
+/// cost 0 lead to it. Of nodes that are equally near, a search takes the one with the least score.
 ///
 /// No clause rests on it, but it decides which of several flows of least cost is found.
 fn score_nodes(network: &Network, scores: &mut [i32])
@@ -420,7 +432,8 @@ fn most_between(excess: &[i32], root: usize, target: usize) -> u32
         .min(excess[target].unsigned_abs())
 }
 
-/// Sends `amount` units along a residual arc: lowers its capacity, and raises that of its reverse by as much.
+/// Sends `amount` units, at least 1, along residual arc `number` of `residual`: lowers its capacity, and raises that of
+/// its reverse by as much.
 fn push(residual: &mut Residual, number: usize, amount: u32)
     requires pair { IsPaired residual.old number }
     requires some { 0 < amount }

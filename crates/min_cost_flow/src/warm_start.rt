@@ -20,8 +20,10 @@ use std::marker::Model;
 pub(crate) const MAX_CARRIED: u32 = MAX_NODES as u32 * MAX_SUPPLY;
 
 impl Solver {
-    /// Lets node `from` supply this many units more, and node `to` as many less, and goes on from the current flow;
-    /// returns whether there still is a flow.
+    /// Raises the supply of node `from` in `network` by `amount`, lowers that of `to` as much, and goes on from the
+    /// current flow to one of least cost; returns whether there still is a flow. If not, `network` is changed all the
+    /// same, and the solver holds no flow.
+    ///
     /// If potentials have drifted too far apart, or an arc carries too much, it solves from nothing.
     pub(crate) fn resume(&mut self, network: &mut Network, from: u32, to: u32, amount: u32) -> bool
         requires all_sent { IsAllSent network.old self.old }
@@ -44,7 +46,8 @@ impl Solver {
     }
 
     /// Sends the whole excess of `root`, the only node that may have one, to nodes with a deficit; returns whether
-    /// neither an excess nor a deficit is left.
+    /// neither an excess nor a deficit is left. `looks` then counts the last search alone, and `searches` stays as it
+    /// is.
     fn resend(&mut self, root: usize) -> bool
         requires ready { (net : NetworkModel) × IsReady net self.old }
         requires root { root < length self.old.nodes.excess.items }
@@ -61,7 +64,8 @@ impl Solver {
     }
 }
 
-/// Whether each arc would carry at most [`MAX_CARRIED`] units with `amount` more.
+/// Whether each arc would carry at most [`MAX_CARRIED`] units with `amount` more than it carries by `capacities`, those
+/// of the residual arcs.
 fn carries_little(capacities: &[u32], amount: u32) -> bool
     requires { amount ≤ MAX_SUPPLY }
     ensures { result ≡ true → (i : ℕ) → 2 * i + 1 < length capacities.now → carried (capacity_at capacities.now) i + amount ≤ MAX_CARRIED }
@@ -75,8 +79,8 @@ fn carries_little(capacities: &[u32], amount: u32) -> bool
     true
 }
 
-/// Lowers all potentials by that of `node`, which becomes 0; returns whether all are then at most twice the number of
-/// nodes in absolute value.
+/// Lowers all entries of `potential` by that of `node`, which becomes 0; returns whether all are then at most twice the
+/// number of nodes in absolute value. They are lowered in either case.
 fn rebase(potential: &mut [i32], node: usize) -> bool
     requires node { node < length potential.old }
     requires small { length potential.old ≤ MAX_NODES }
@@ -89,7 +93,7 @@ fn rebase(potential: &mut [i32], node: usize) -> bool
     are_in_bounds(potential)
 }
 
-/// Lowers each potential by `base`.
+/// Lowers each entry of `potential` by `base`; if `base` is below 0, they rise.
 fn lower_all(potential: &mut [i32], base: i32)
     requires low { (v : ℕ) → v < length potential.old → ((pos 0 -ℤ pos (2 * MAX_NODES)) ≤ℤ at_nodes potential.old v) × (at_nodes potential.old v ≤ℤ pos (2 * MAX_NODES)) }
     requires base { ((pos 0 -ℤ pos (2 * MAX_NODES)) ≤ℤ base) × (base ≤ℤ pos (2 * MAX_NODES)) }
@@ -100,7 +104,7 @@ fn lower_all(potential: &mut [i32], base: i32)
     }
 }
 
-/// Whether all potentials are at most twice the number of nodes in absolute value.
+/// Whether all entries of `potential`, one for each node, are at most twice the number of nodes in absolute value.
 fn are_in_bounds(potential: &[i32]) -> bool
     requires small { length potential.now ≤ MAX_NODES }
     ensures { result ≡ true → (v : ℕ) → v < length potential.now → (pos 0 ≤ℤ (at_nodes potential.now v +ℤ pos (2 * length potential.now))) × (at_nodes potential.now v ≤ℤ pos (2 * length potential.now)) }
@@ -128,7 +132,8 @@ impl Model for WarmStart {
 }
 
 impl WarmStart {
-    /// A flow of least cost in a copy of a network, which later calls of `shift` update.
+    /// A flow of least cost in a copy of a network, which later calls of `shift` update. `Infeasible` if there is no
+    /// flow, `Memory` if there is no memory.
     ///
     /// # Errors
     /// `Infeasible` exactly if there is no flow, memory aside, and `Memory` if an allocation was refused.
@@ -145,8 +150,8 @@ impl WarmStart {
         Ok(WarmStart { network, solver })
     }
 
-    /// Raises the supply of node `from` by `amount`, lowers that of `to` as much, and updates the flow to least cost;
-    /// `None` if there is no flow any more.
+    /// Raises the supply of node `from` by `amount`, lowers that of `to` as much, and returns this with its flow
+    /// updated to least cost; `None` if there is no flow any more, and network and flow are then dropped.
     ///
     /// If there is none, the old one is gone too. It allocates nothing.
     pub fn shift(self, from: u32, to: u32, amount: u32) -> Option<WarmStart>
@@ -165,14 +170,15 @@ impl WarmStart {
         Some(WarmStart { network, solver })
     }
 
-    /// The network, with its current supplies.
+    /// Its copy of the network, with the current supplies, borrowed.
     pub fn network(&self) -> &Network
         ensures { result.now ≡ self.now }
     {
         &self.network
     }
 
-    /// A copy of the flow and its potentials, whose counts of searches and looks are 0.
+    /// A copy of the flow and its potentials, whose counts of searches and looks are 0. `AllocError` if there is no
+    /// memory for the two lists.
     ///
     /// # Errors
     /// `AllocError` if there is no memory for them.
@@ -187,7 +193,7 @@ impl WarmStart {
         Ok(Solved::new(flow, potential, 0, 0))
     }
 
-    /// The cost of the flow, and its potentials by node. It allocates nothing; linear in the arcs.
+    /// The cost of the flow, and its potentials by node, borrowed. It allocates nothing; linear in the arcs.
     pub fn least_cost(&self) -> (u64, &[i32])
         ensures shown { IsShown self.now result.0 result.1.now }
         ensures few { result.0 < 2 ^ 48 }
@@ -199,7 +205,8 @@ impl WarmStart {
     }
 }
 
-/// The cost of the flow: the total number of units that the arcs of cost 1 carry.
+/// The cost of the flow that the residual arcs with these capacities show: the total number of units that the arcs of
+/// cost 1 carry.
 fn flow_cost(network: &Network, capacities: &[u32]) -> u64
     requires { arc_count network.now + arc_count network.now ≤ length capacities.now }
     ensures cost { result ≡ cost_of network.now (carried (capacity_at capacities.now)) }

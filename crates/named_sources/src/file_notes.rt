@@ -10,7 +10,8 @@ use std::fmt::Write;
 use std::sync::atomic::{AtomicU8, AtomicU64, Ordering};
 use streams::{Mark, Sink, WriteFault, put_all};
 
-/// The number, 1 to 4, that encodes a mark of a file that may not be planar_code; 0 for any other mark.
+/// The number that encodes a mark of a file that may not be planar_code: 1 to 4 for `Header`, `Large`, `Oversize` and
+/// `Truncated`; 0 for any other mark.
 pub(crate) fn number_of(mark: Mark) -> u64 {
     match mark {
         Mark::Ended(Ending::Header) => 1,
@@ -21,7 +22,8 @@ pub(crate) fn number_of(mark: Mark) -> u64 {
     }
 }
 
-/// The ending that a number of `number_of` encodes; `None` for 0 and for numbers that encode no mark.
+/// The ending that a number of `number_of` encodes: `Header`, `Large`, `Oversize` and `Truncated` for 1 to 4; `None`
+/// for any other number.
 pub(crate) fn ending_of(number: u64) -> Option<Ending> {
     match number {
         1 => Some(Ending::Header),
@@ -56,8 +58,8 @@ const GRAPH6: &str = "graph6: use planarg -p";
 
 const SPARSE6: &str = "sparse6: use planarg -p";
 
-/// A hint at the format of a file that ended in this way and begins with these bytes; `None` if the format is not
-/// recognised.
+/// A hint, in words, at the format of a file that ended with `ending` and begins with the bytes `front`; `None` if the
+/// format is not recognised, which cannot be for the ending `Header`.
 pub(crate) fn hint_of(ending: Ending, front: &[u8]) -> Option<&'static str> {
     match ending {
         Ending::Header => Some(hint_without_header(front)),
@@ -65,7 +67,8 @@ pub(crate) fn hint_of(ending: Ending, front: &[u8]) -> Option<&'static str> {
     }
 }
 
-/// A hint at the format of a file that does not begin with the header.
+/// A hint, in words, at the format of a file that begins with the bytes `front`, and not with the header; if the format
+/// is not recognised, the hint says that the header is missing.
 fn hint_without_header(front: &[u8]) -> &'static str {
     for (begins, hint) in KINDS {
         if front.starts_with(begins) {
@@ -85,7 +88,8 @@ fn hint_without_header(front: &[u8]) -> &'static str {
     }
 }
 
-/// A hint at what follows the header in place of records in the one-byte form; `None` if that is not recognised.
+/// A hint, in words, at what the bytes `body` after the header are in place of records in the one-byte form: a line
+/// end, else the two-byte form if `ending` is `Large`, else text; `None` if they are none of these.
 fn hint_after_header(ending: Ending, body: &[u8]) -> Option<&'static str> {
     if begins_with_line_end(body) {
         Some("a line end follows the header: remove it")
@@ -98,7 +102,8 @@ fn hint_after_header(ending: Ending, body: &[u8]) -> Option<&'static str> {
     }
 }
 
-/// Whether bytes after the header begin with a line end, and not with a graph of 10 or 13 vertices.
+/// Whether the bytes `body` after the header begin with a line end (`\n`, or `\r` and `\n`) that cannot be the number
+/// of vertices, 10 or 13, with which a graph begins.
 fn begins_with_line_end(body: &[u8]) -> bool {
     match body {
         [b'\n', lists @ ..] => is_no_graph(10, lists),
@@ -107,8 +112,8 @@ fn begins_with_line_end(body: &[u8]) -> bool {
     }
 }
 
-/// Whether these bytes cannot begin the lists of a simple graph with this many vertices: an entry is too great, is the
-/// vertex itself, occurs twice, or the list of that neighbour is known and lacks the vertex.
+/// Whether `bytes` cannot begin the lists of a simple graph with `vertices` vertices: in a list that a 0 ends, an entry
+/// is too great, is the vertex itself, occurs twice, or is a neighbour whose own list is known and lacks the vertex.
 fn is_no_graph(vertices: u8, bytes: &[u8]) -> bool {
     let known = bytes.iter().filter(|byte| **byte == 0).count();
     for vertex in 1..=vertices {
@@ -127,8 +132,8 @@ fn is_no_graph(vertices: u8, bytes: &[u8]) -> bool {
     false
 }
 
-/// The entries of the list of `vertex`, counted from 1, in bytes in which a 0 ends each list; empty if they have no
-/// such list.
+/// The entries of list number `vertex`, counted from 1, in `bytes`, in which a 0 ends each list, but the last may lack
+/// it; empty if there is no such list. The number 0 means the first list too.
 fn list_of(bytes: &[u8], vertex: u8) -> &[u8] {
     let mut lists = bytes.split(|byte| *byte == 0);
     lists
@@ -136,7 +141,9 @@ fn list_of(bytes: &[u8], vertex: u8) -> &[u8] {
         .unwrap_or(&[])
 }
 
-/// Whether these bytes begin a line of graph6: the number of vertices, and as many bytes as their pairs need.
+/// Whether `front` begins with a line of graph6: bytes from 63 to 126, the first of them for the number of vertices,
+/// and as many more as their pairs need, or fewer if `front` has no line end; any number after a first byte 126. False
+/// if `front` is empty.
 fn is_graph6(front: &[u8]) -> bool {
     let Some(first) = front.first() else {
         return false;
@@ -153,7 +160,8 @@ fn is_graph6(front: &[u8]) -> bool {
     line.len() == bytes + 1 || (line.len() == front.len() && line.len() <= bytes)
 }
 
-/// The bytes before the first line end, without white space at their end; all bytes if there is no line end.
+/// The bytes of `front` before its first line end `\n`, without white space at their end; if there is no line end, all
+/// of `front`, with such white space.
 fn line_of(front: &[u8]) -> &[u8] {
     match front.iter().position(|byte| *byte == b'\n') {
         Some(end) => front[..end].trim_ascii_end(),
@@ -161,7 +169,7 @@ fn line_of(front: &[u8]) -> &[u8] {
     }
 }
 
-/// Whether these bytes look like text: more than three, each printable or white space in ASCII, or 128 or more.
+/// Whether `bytes` look like text: more than three, each printable or white space in ASCII, or 128 or more.
 fn is_text(bytes: &[u8]) -> bool {
     bytes.len() > 3
         && bytes.iter().all(|byte| byte.is_ascii_graphic()
@@ -186,7 +194,7 @@ pub struct FileNote {
 }
 
 impl FileNote {
-    /// An empty note.
+    /// A note in which nothing is noted yet. `AllocError` if there is no memory for the first bytes of the file.
     fn new(alloc: Global) -> Result<FileNote, AllocError> {
         let mut front = Vec::with_capacity(alloc, FRONT)?;
         for _ in 0..FRONT {
@@ -200,13 +208,13 @@ impl FileNote {
         })
     }
 
-    /// Notes that the file was not opened, or that a read of it failed.
+    /// Notes that the file was not opened, or that a read of it failed, for `reason`, which replaces an earlier one.
     pub(crate) fn fail(&self, reason: Reason) {
         self.failure.store(code_of(reason), Ordering::SeqCst);
     }
 
-    /// Notes the bytes of the file that follow its first `place` bytes; only the first `FRONT` bytes of a file are
-    /// kept.
+    /// Notes `bytes` as those that follow the first `place` bytes of the file, which were noted before; only the first
+    /// `FRONT` bytes of a file are kept, in memory that the note already has.
     pub(crate) fn begin(&self, place: usize, bytes: &[u8]) {
         let mut end = place;
         for byte in bytes.iter().take(FRONT) {
@@ -219,7 +227,8 @@ impl FileNote {
         self.len.store(end as u64, Ordering::SeqCst);
     }
 
-    /// Notes that the file ended with this mark.
+    /// Notes how the file ended, in place of what was noted of that so far: the ending of `mark` if `number_of` encodes
+    /// it, and otherwise nothing.
     fn end(&self, mark: Mark) {
         self.ending.store(number_of(mark), Ordering::SeqCst);
     }
@@ -236,15 +245,16 @@ impl FileNote {
         Ok(bytes)
     }
 
-    /// A hint at the format of the file, if it is not planar_code and the format is recognised; `None` otherwise, or if
-    /// memory ran out.
+    /// A hint, in words, at the format of the file, if by its end it may not be planar_code and the format is
+    /// recognised; `None` otherwise, or if memory ran out.
     fn hint(&self, alloc: Global) -> Option<&'static str> {
         let ending = ending_of(self.ending.load(Ordering::SeqCst))?;
         let front = self.front(alloc).ok()?;
         hint_of(ending, front.as_slice())
     }
 
-    /// Why the file failed, or what format it has, after `: `, in one line; empty if nothing is known of that.
+    /// Why the file failed, or else what format it has, in one line that begins with `: ` and has no line end; empty if
+    /// neither is known, if the text is not of one line, or if memory ran out for the format.
     fn why(&self, alloc: Global) -> ShortLine
         ensures { IsWhy result.bytes }
     {
@@ -260,7 +270,7 @@ impl FileNote {
     }
 }
 
-/// The number that encodes a reason, from 1.
+/// The number that encodes `reason`: 1 if it has no error code, else 2 more than the code without its sign.
 fn code_of(reason: Reason) -> u64 {
     match reason.code {
         Some(code) => u64::from(code.unsigned_abs()) + 2,
@@ -268,7 +278,7 @@ fn code_of(reason: Reason) -> u64 {
     }
 }
 
-/// The reason that a number encodes; `None` for 0.
+/// The reason that a number of `code_of` encodes; `None` for 0, and an unknown reason if the code is too great.
 fn reason_of(number: u64) -> Option<Reason> {
     match number.checked_sub(1)? {
         0 => Some(Reason::UNKNOWN),
@@ -285,7 +295,8 @@ pub struct FileNotes {
 }
 
 impl FileNotes {
-    /// An empty note for each of `files` files.
+    /// A note in which nothing is noted yet for each of the files 0 to `files` - 1. `AllocError` if there is no memory
+    /// for them.
     pub fn new(alloc: Global, files: usize) -> Result<FileNotes, AllocError> {
         let mut notes = Vec::with_capacity(alloc, files)?;
         for _ in 0..files {
@@ -294,20 +305,21 @@ impl FileNotes {
         Ok(FileNotes { notes })
     }
 
-    /// The note on the file with this number, from 0; `None` if there is no such file.
+    /// The note on the file with number `file`, from 0; `None` if there is no such file.
     pub fn note(&self, file: u32) -> Option<&FileNote> {
         self.notes.get(file as usize)
     }
 
-    /// Stores in the note of a file that the file ended with this mark.
+    /// Stores in the note of file `file`, from 0, that the file ended with `mark`, in place of an earlier mark; does
+    /// nothing if there is no such file.
     pub fn end(&self, file: u32, mark: Mark) {
         if let Some(note) = self.note(file) {
             note.end(mark);
         }
     }
 
-    /// Why the file with this number, from 0, failed, or what format it has, after `: `, in one line; empty if that is
-    /// not known.
+    /// Why the file with number `file`, from 0, failed, or else what format it has, in one line that begins with `: `
+    /// and has no line end; empty if neither is known, if there is no such file, or if memory ran out for the format.
     pub fn why(&self, alloc: Global, file: usize) -> ShortLine
         ensures { IsWhy result.bytes }
     {
@@ -317,7 +329,9 @@ impl FileNotes {
         }
     }
 
-    /// Writes to `err` a line for each file that failed, or that is not planar_code and has a recognised format.
+    /// Writes to `err` a line with its name, from `names`, for each file that failed, or that is not planar_code and
+    /// has a recognised format, in order. There is no error: once a write fails it writes no more, and if memory runs
+    /// out for the format of a file, its line is left out.
     ///
     /// The line of a file that was not opened or not read to its end says why, with the system's reason; that of one
     /// that is not planar_code says what it looks like. A failure of this write changes nothing.
@@ -332,7 +346,9 @@ impl FileNotes {
     }
 }
 
-/// Writes to `err` the line that says why a file failed or what format it has; writes nothing if neither is known.
+/// Writes to `err` the line that says why the file with this name failed or what format it has; writes nothing if
+/// neither is known, or if memory runs out for the format. `Write`, the only error, if `err` fails: it then has a part
+/// of the line.
 ///
 /// # Errors
 ///

@@ -23,7 +23,7 @@ impl Reason {
     /// An unknown reason.
     pub const UNKNOWN: Reason = Reason { code: None };
 
-    /// The reason that a system error carries.
+    /// The reason that a system error carries: its error code, or `UNKNOWN` if it has none.
     pub fn of(error: Error) -> Reason {
         Reason {
             code: error.raw_os_error(),
@@ -32,6 +32,8 @@ impl Reason {
 }
 
 impl Display for Reason {
+    /// Writes to `f` the system's message for the error code, without the number that std appends, or `unknown error`
+    /// if there is no code. `Error` if `f` refuses the text.
     fn fmt<W: fmt::Write>(&self, f: &mut Formatter<W>) -> fmt::Result {
         let Some(code) = self.code else {
             return f.write_str("unknown error");
@@ -48,6 +50,7 @@ impl Display for Reason {
 
 // It keeps no reason.
 impl<W: io::Write> KeepsReason for IoSink<W> {
+    /// Always `UNKNOWN`: this sink keeps no reason.
     fn reason(&self) -> Reason {
         Reason::UNKNOWN
     }
@@ -70,6 +73,7 @@ pub struct ReadTap<R> {
 }
 
 impl<R> KeepsReason for ReadTap<R> {
+    /// The reason of the last read that failed; `UNKNOWN` if none failed or the system gave no error code.
     fn reason(&self) -> Reason {
         self.reason
     }
@@ -78,7 +82,7 @@ impl<R> KeepsReason for ReadTap<R> {
 impl<R: Read> ReadTap<R> {
     ghost use Rattle.named_sources.specs.Readers.{reader_of};
 
-    /// This reader as a source of which nothing was read yet.
+    /// A source over `reader`, of which nothing was read yet; no reason is kept yet.
     pub(crate) fn new(reader: R) -> ReadTap<R>
         ensures { reader_of result ≡ reader }
     {
@@ -96,8 +100,11 @@ impl<R: Read + Drop> Tap for ReadTap<R> {
 
     ghost fails = { λ _. false };
 
-    // The contract of every tap; and the bytes given are removed from those that are left of the reader. No bytes are
-    // given only at its end, and if a read fails, none are lost.
+    /// Reads the next bytes of the reader into the beginning of `buf` and returns how many. If `buf` is not empty, 0 is
+    /// the end. `TapFault` if the read failed: its reason is kept, and `buf` may then hold any bytes.
+    ///
+    /// The contract of every tap; and the bytes given are removed from those that are left of the reader. No bytes are
+    /// given only at its end, and if a read fails, none are lost.
     fn read(&mut self, buf: &mut [u8]) -> Result<usize, TapFault>
         ensures bound { IfOk result (λ n. n ≤ length buf.new) }
         ensures given { IfOk result (λ n. Consumes (⟦<ReadTap<R> as Tap>⟧.to_come self.old)

@@ -21,25 +21,27 @@ use streams::{Mark, Sink, SinkFault, Tap, TapFault};
 /// The file name that means standard input.
 pub const INPUT: &str = "-";
 
-/// Whether a file name means standard input.
+/// Whether the file name `name` means standard input: it is then exactly `-`.
 pub fn is_input(name: &str) -> bool
     ensures { result ≡ is_input name.now }
 {
     name == INPUT
 }
 
-/// Whether a standard stream is open. It duplicates the stream's file descriptor and closes the copy.
+/// Whether a standard stream is open: it duplicates the stream's file descriptor and closes the copy. False also if the
+/// descriptor cannot be duplicated for another reason.
 fn is_open<F: AsFd>(stream: &F) -> bool {
     stream.as_fd().try_clone_to_owned().is_ok()
 }
 
-/// This standard stream, or `None` if it is closed now; to be called before any file is opened.
+/// Returns `stream`, or `None` if it is closed now or its file descriptor cannot be duplicated; to be called before any
+/// file is opened.
 pub fn if_open<F: AsFd + Copy>(stream: F) -> Option<F> {
     is_open(&stream).then_some(stream)
 }
 
 /// Opens the folder `/` in place of this standard stream if it is closed, and returns it; `None` if the stream is open
-/// or the folder could not be opened.
+/// or the folder could not be opened, for example for lack of memory.
 ///
 /// It has the stream's file descriptor, if the standard streams with lower ones are open or have a folder too; no file
 /// can then get it by chance, as long as the folder is held. Every read and write of a folder fails.
@@ -67,7 +69,8 @@ pub trait NamedFiles: Sync {
 
     ghost meaning: { Self → List ℕ → Meaning };
 
-    /// Opens the file with this name.
+    /// Opens the file with the name `name`, at its beginning. An error has the system's reason, and a fault: `Io` if
+    /// the file could not be opened, `Memory` if memory ran out.
     ///
     /// # Errors
     ///
@@ -95,7 +98,10 @@ where
 
     ghost meaning = { λ _ _. Silent };
 
-    // The contract of all named files, and that standard input is read exactly for its name.
+    /// Opens the file with the name `name`, or standard input if that is `-`. An error has the system's reason, and a
+    /// fault: `Memory` if memory ran out, else `Io`, also if standard input was closed when the program began.
+    ///
+    /// The contract of all named files, and that standard input is read exactly for its name.
     fn open(&self, _alloc: Global, name: &str) -> Result<ReadTap<Either<R::File, I>>, Refused>
         ensures reader { IfOk result (λ source. IsReaderOf (is_input name.now) self.now.input (reader_of source)) }
     {
@@ -133,7 +139,8 @@ pub struct NotedSource<'r, F> {
 }
 
 impl<'r, F: Tap> NotedSource<'r, F> {
-    /// An open file of which nothing was read yet, and its note, if it has one.
+    /// The open file `source`, of which nothing was read yet, as a source that writes to `note` what it reads, if there
+    /// is a note.
     pub(crate) fn new(source: F, note: Option<&'r FileNote>) -> NotedSource<'r, F>
         ensures to_come { noted_to_come F.to_come result ≡ F.to_come source }
         ensures fails { noted_fails F.fails result ≡ F.fails source }
@@ -145,8 +152,8 @@ impl<'r, F: Tap> NotedSource<'r, F> {
         }
     }
 
-    /// A source whose every read fails, for a file that could not be opened; writes the reason to `note`, if there is
-    /// one.
+    /// A source whose every read fails, for a file that could not be opened; writes `reason` to `note`, if there is a
+    /// note.
     fn unopened(reason: Reason, note: Option<&'r FileNote>) -> NotedSource<'r, F>
         ensures to_come { noted_to_come F.to_come result ≡ Some [] }
         ensures fails { noted_fails F.fails result ≡ true }
@@ -167,7 +174,9 @@ impl<F: Tap + KeepsReason> Tap for NotedSource<'_, F> {
 
     ghost fails = { noted_fails F.fails };
 
-    /// Reads the next bytes, and writes the file's first bytes or the reason of a failure to its note, if it has one.
+    /// Reads the next bytes into the beginning of `buf`, notes those among the file's first bytes, and returns how many
+    /// it read. If `buf` is not empty, 0 is the end. `TapFault` if the file was not opened, or if the read failed: its
+    /// reason is then noted, and `buf` may hold any bytes. Without a note it notes nothing.
     fn read(&mut self, buf: &mut [u8]) -> Result<usize, TapFault> {
         let note = self.note;
         let Some(source) = &mut self.source else {
@@ -191,7 +200,9 @@ impl<F: Tap + KeepsReason> Tap for NotedSource<'_, F> {
     }
 }
 
-/// Opens the file with this name; a file that could not be opened is a source that fails. The reason is noted.
+/// Opens the file with the name `name`. A file that could not be opened is no error, but a source whose every read
+/// fails, and the reason is written to `note`, if there is a note. `AllocError` if memory ran out while it was opened;
+/// nothing is noted then.
 ///
 /// # Errors
 ///
@@ -221,7 +232,8 @@ pub fn open_source<'r, N: NamedFiles>(
     }
 }
 
-/// Converts the kind of a system error into the fault of a file that was not opened.
+/// The fault of a file that was not opened, for a system error of this kind: `Memory` for `OutOfMemory`, and `Io` for
+/// any other. It only converts, and cannot fail.
 pub(crate) fn open_fault(kind: ErrorKind) -> OpenFault
     ensures memory { (result ≡ OpenFault.Memory) ↔ (kind ≡ ErrorKind.OutOfMemory) }
 {
@@ -246,7 +258,7 @@ pub struct FileOpener<'r, 'n, N> {
 }
 
 impl<'n, N> FileOpener<'_, 'n, N> {
-    /// The name of the file with this number; `None` past the end of the list.
+    /// The name of the file with number `file`, from 0; `None` past the end of the list.
     fn name(&self, file: u32) -> Option<&'n str>
         ensures { result ≡ slice_get self.now.names.now file }
     {
@@ -259,8 +271,9 @@ impl<'r, N: NamedFiles> Opener for FileOpener<'r, '_, N> {
 
     ghost meaning = { λ o. meanings_in (N.meaning o.files.now) o.names.now };
 
-    /// Opens the file with this number and counts the call in `opened`; writes the reason of a failure to the file's
-    /// note.
+    /// Opens the file with number `file`, from 0, adds 1 to `opened`, also if the opening fails, and writes the reason
+    /// of a failure to the file's note. `Io` if it could not be opened, or if there is no such number, which is not
+    /// counted; `Memory` if memory ran out.
     fn open(&self, alloc: Global, file: u32) -> Result<NotedSource<'r, N::Source>, OpenFault> {
         let Some(name) = self.name(file) else {
             return Err(OpenFault::Io);
@@ -278,6 +291,8 @@ impl<'r, N: NamedFiles> Opener for FileOpener<'r, '_, N> {
         }
     }
 
+    /// Stores in the note of file `file`, from 0, that the file ended with `mark`; does nothing if there is no such
+    /// file.
     fn ended(&self, file: u32, mark: Mark) {
         self.notes.end(file, mark);
     }
@@ -294,7 +309,8 @@ pub struct OutputSink<W> {
 }
 
 impl<W: Write> OutputSink<W> {
-    /// A sink over this writer, which has not failed yet. What the writer contains already counts as taken.
+    /// A sink over `writer`, which has not failed yet and keeps no reason yet. What the writer contains already counts
+    /// as taken.
     pub fn new(writer: W) -> OutputSink<W>
         ensures taken { ⟦<OutputSink<W> as Sink>⟧.taken result ≡ W.contents writer }
         ensures intact { ⟦<OutputSink<W> as Sink>⟧.failed result ≡ false }
@@ -312,7 +328,9 @@ impl<W: Write> Sink for OutputSink<W> {
 
     ghost failed = { λ s. s.failed };
 
-    /// Writes the first bytes of `piece` and returns how many; keeps the reason of a failed write.
+    /// Writes the first bytes of `piece` and returns how many: at least one of a nonempty piece. `SinkFault` if the
+    /// write fails, and then its reason is kept, or if it takes nothing of a nonempty piece: nothing is written, and
+    /// the sink has then failed.
     fn put(&mut self, piece: &[u8]) -> Result<usize, SinkFault> {
         match self.writer.write(piece) {
             Ok(count) if count > 0 || piece.is_empty() => Ok(count),
@@ -330,6 +348,8 @@ impl<W: Write> Sink for OutputSink<W> {
 }
 
 impl<W: Write> KeepsReason for OutputSink<W> {
+    /// The reason of the last write that failed; `UNKNOWN` if none failed or the system gave no error code. A write
+    /// that took nothing has no reason, and leaves the last one.
     fn reason(&self) -> Reason {
         self.reason
     }

@@ -30,7 +30,8 @@ pub(crate) struct Incumbent {
 }
 
 impl Incumbent {
-    /// Whether a face with this many bends is better: fewer bends, or as many and the face has a lesser number.
+    /// Whether `face`, with this many bends, is better than the best face so far: it needs fewer bends, or as many and
+    /// has a lesser number.
     fn loses_to(&self, bends: u64, face: u16) -> bool
         ensures yes { IsTrue result → bends ≤ self.now.bends }
         ensures first { IsTrue result → bends ≡ self.now.bends → face < self.now.face }
@@ -41,7 +42,9 @@ impl Incumbent {
     }
 }
 
-/// Makes the best face the outer face; returns a least shape, with prices that prove it.
+/// Makes the best face the outer face of `plane`: the one with the fewest bends, and of several the one with the least
+/// number. Returns a least shape with it and prices that prove it. `AllocError` if there is no memory; `plane` is then
+/// unchanged.
 ///
 /// The best face minimises bends, and has the least number among equals. Each face is tried, except those for which the
 /// potentials of an earlier one, or in a large plane the distances from it, prove that they are no better. Faces are
@@ -49,8 +52,8 @@ impl Incumbent {
 ///
 /// # Errors
 ///
-/// `AllocError` if there is no memory for a network, its flow, the bounds of faces, the shape or the prices. The plane is
-/// then unchanged.
+/// `AllocError` if there is no memory for a network, its flow, the bounds of faces, the shape or the prices. The plane
+/// is then unchanged.
 pub fn best_shape(alloc: Global, plane: &mut Plane) -> Result<(Shape, Prices), AllocError>
     ensures outer_moved { OnOk result (plane.new ≡ with_outer plane.old plane.new.outer) }
     ensures best { OnOk result (IsBest plane.new) }
@@ -69,8 +72,8 @@ pub fn best_shape(alloc: Global, plane: &mut Plane) -> Result<(Shape, Prices), A
     }
 }
 
-/// Makes the best face the outer face; returns a least shape, with prices that prove it. If memory runs out, some face
-/// that was tried may be left as the outer one.
+/// Makes the best face the outer face of `plane`; returns a least shape with it, and prices that prove it. `AllocError`
+/// if there is no memory; some face that was tried may then be left as the outer one.
 fn best_found(alloc: Global, plane: &mut Plane) -> Result<(Shape, Prices), AllocError>
     ensures outer_moved { plane.new ≡ with_outer plane.old plane.new.outer }
     ensures best { OnOk result (IsBest plane.new) }
@@ -95,7 +98,8 @@ struct Moving {
     warm_start: WarmStart,
 }
 
-/// The network of a plane with its current outer face, and a flow of least cost in it.
+/// The network of a plane with its current outer face, and a flow of least cost in it. `AllocError` if there is no
+/// memory for them.
 fn begin(alloc: Global, plane: &Plane) -> Result<Moving, AllocError>
     ensures { IfOk result (IsMoving plane.now) }
 {
@@ -107,8 +111,8 @@ fn begin(alloc: Global, plane: &Plane) -> Result<Moving, AllocError>
     }
 }
 
-/// Moves the outer face of a network and its flow of least cost from the plane's to `face`; the plane itself is
-/// unchanged. It allocates nothing.
+/// Returns `moving` with its outer face moved from that of `plane` to `face`, and its flow updated to least cost;
+/// `plane` itself is unchanged. It allocates nothing.
 ///
 /// The deficit of the old outer face is eight units less, and that of the new one eight more.
 fn outer_moved(moving: Moving, plane: &Plane, face: u16) -> Moving
@@ -131,8 +135,8 @@ fn outer_moved(moving: Moving, plane: &Plane, face: u16) -> Moving
     }
 }
 
-/// Finds the best outer face: returns it with its bends, and the flow for the face tried last, which is left as the
-/// outer one.
+/// Finds the best outer face: returns the flow for the face tried last, which is left as the outer one of `plane`, and
+/// the best face with its bends. `AllocError` if there is no memory; `moving` is then gone, and `plane` unchanged.
 fn best_incumbent(
     alloc: Global,
     plane: &mut Plane,
@@ -149,8 +153,9 @@ fn best_incumbent(
     try_faces(alloc, plane, moving, &mut bounds)
 }
 
-/// Finds the best outer face: returns it with its bends, and the flow for the face tried last, which is left as the
-/// outer one. It raises `bounds`, lower bounds on the bends with each face as the outer one.
+/// Finds the best outer face: returns the flow for the face tried last, left as the outer one of `plane`, and the best
+/// face with its bends. Raises `bounds`, lower bounds on the bends with each face as the outer one. `AllocError` if
+/// there is no memory; `moving` is then gone, `plane` unchanged, and `bounds` holds lower bounds still.
 fn try_faces(
     alloc: Global,
     plane: &mut Plane,
@@ -190,7 +195,8 @@ struct Walk {
 }
 
 impl Walk {
-    /// The walk of a tour that begins at the outer face and has seen no other.
+    /// The walk of a tour that begins at the outer face and has seen no other. `AllocError` if there is no memory for
+    /// its two lists.
     fn new(alloc: Global, plane: &Plane) -> Result<Walk, AllocError>
         ensures { IfOk result (HasRoom plane.now) }
     {
@@ -201,8 +207,9 @@ impl Walk {
     }
 }
 
-/// Tries faces in depth-first order over shared edges, so that each move is short, and returns the moved flow. It
-/// changes the outer face, the best face so far, the bounds and the walk.
+/// Tries faces in depth-first order over shared edges, so that each move is short, and returns the moved flow. The face
+/// tried last is left as the outer one of `plane`; `incumbent` becomes the best face so far, `bounds` rise, and `walk`
+/// marks the faces and edges passed.
 ///
 /// Which faces it comes to is not proved: no result rests on it.
 ///
@@ -238,8 +245,9 @@ fn tour(
     moving
 }
 
-/// Takes one step of the tour of all faces: returns the next dart, and the face across this one if it is new. Then the
-/// edge becomes a door: both of its darts lead on to what comes after their reverse.
+/// Takes one step of the tour: returns the next dart, and the face across `dart` if `walk` had not seen it, else
+/// `None`. `walk` then marks that face as seen and the edge as a door: both of its darts lead on to what comes after
+/// their reverse.
 fn next_of_tour(plane: &Plane, dart: u16, walk: &mut Walk) -> (u16, Option<u16>)
     requires dart { dart < darts plane.now }
     requires walk { HasRoom plane.now walk.old }
@@ -264,8 +272,9 @@ fn next_of_tour(plane: &Plane, dart: u16, walk: &mut Walk) -> (u16, Option<u16>)
     (plane.next(from), found)
 }
 
-/// Tries a face as the outer one, unless its bound proves that it is no better than the best so far; returns the flow
-/// for the outer face. If the face is tried, it stays the outer one, and the best so far and the bounds are updated.
+/// Tries `face` as the outer one and returns the flow for the outer face: `face` stays the outer one of `plane`,
+/// `incumbent` becomes `face` if that is better, and `bounds` rise. If the face's bound proves that it is no better
+/// than `incumbent`, it is not tried, and nothing changes.
 fn visit(
     plane: &mut Plane,
     moving: Moving,
@@ -297,8 +306,8 @@ fn visit(
     moving
 }
 
-/// The number of bends that the plane's outer face needs. The bounds of all faces rise to what the
-/// potentials prove. It allocates nothing.
+/// Returns the number of bends that the plane's outer face needs, the cost of the flow. Raises each entry of `bounds`
+/// to what the potentials prove for that face as the outer one, where that is more.
 fn bends_and_bounds(plane: &Plane, moving: &Moving, bounds: &mut [u64]) -> u64
     requires moving { IsMoving plane.now moving.now }
     requires room { plane.now.faces ≤ length bounds.old }
@@ -317,7 +326,8 @@ fn bends_and_bounds(plane: &Plane, moving: &Moving, bounds: &mut [u64]) -> u64
     bends
 }
 
-/// How many bends are needed at least with a face as the outer one, as the potentials prove.
+/// How many bends are needed at least with `face` as the outer one, as `potentials`, by node, prove; `bends` are those
+/// that the current outer face needs.
 fn bound(plane: &Plane, moving: &Moving, bends: u64, potentials: &[i32], face: u16) -> u64
     requires moving { IsMoving plane.now moving.now }
     requires shown { IsShown moving.now.warm_start bends potentials.now }
@@ -332,8 +342,8 @@ fn bound(plane: &Plane, moving: &Moving, bends: u64, potentials: &[i32], face: u
     moved_bound(bends, own, other)
 }
 
-/// `bends`, plus eight for each unit by which the other potential is above the own one, or minus eight
-/// for each unit by which it is below, but at least 0.
+/// `bends`, plus eight for each unit by which `other` is above `own`, or minus eight for each unit by which it is
+/// below, but at least 0.
 fn moved_bound(bends: u64, own: i32, other: i32) -> u64
     requires few { bends < 2 ^ 48 }
     ensures { (result ≡ 0) ⊎ (pos result ≡ pos bends +ℤ pos 8 *ℤ (other -ℤ own)) }
@@ -345,7 +355,7 @@ fn moved_bound(bends: u64, own: i32, other: i32) -> u64
     }
 }
 
-/// By how much one potential is above another.
+/// By how much the potential `high` is above the potential `low`, which is no greater.
 fn gap(low: i32, high: i32) -> u64
     requires { low ≤ℤ high }
     ensures value { pos result ≡ high -ℤ low }

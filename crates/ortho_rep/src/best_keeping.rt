@@ -16,8 +16,9 @@ use flow_network::{Given, has_mark};
 use min_cost_flow::SolveFault;
 use std::alloc::{AllocError, Global};
 
-/// Makes the best face that is not barred the outer one; returns a least shape that keeps what is given, with prices
-/// that prove it.
+/// Makes the best face that is not barred the outer one of `plane`; returns a least shape that keeps what is given, and
+/// prices that prove it. `Infeasible` if no such face has a shape that keeps what is given, `Memory` if there is no
+/// memory; `plane` is then unchanged.
 ///
 /// The best face minimises the bends of such shapes, and has the least number among equals. `barred` has a place for
 /// each face; places past its end count as false. Each face is tried by a flow of its own.
@@ -51,8 +52,9 @@ pub fn best_shape_keeping(
     }
 }
 
-/// Makes the best face that is not barred the outer one; returns a least shape that keeps what is given, with prices
-/// that prove it. After an error some face that was tried may be left as the outer one.
+/// Makes the best face that is not barred the outer one of `plane`; returns a least shape that keeps what is given, and
+/// its prices, in the buffers of `scratch`. `Infeasible` if there is none, `Memory` if there is no memory; then some
+/// face that was tried may be left as the outer one, and buffers of `scratch` may be lost.
 fn best_found(
     alloc: Global,
     scratch: &mut Scratch,
@@ -76,8 +78,9 @@ fn best_found(
     }
 }
 
-/// Tries each face that is not barred as the outer one, and returns the best; `None` if with none of them a shape keeps
-/// what is given. The face tried last is left as the outer one.
+/// Tries each face that is not barred as the outer one of `plane`, and returns the best with its bends; `None` if with
+/// none of them a shape keeps what is given. The face tried last is left as the outer one. It uses the buffers of
+/// `scratch`; `AllocError` if there is no memory, and some of them may then be lost.
 fn best_face(
     alloc: Global,
     scratch: &mut Scratch,
@@ -99,8 +102,9 @@ fn best_face(
     Ok(best)
 }
 
-/// Makes a face the outer one, and returns the fewest bends of a shape that keeps what is given; `None` if there is no
-/// such shape.
+/// Makes `face` the outer one of `plane`, and returns the fewest bends of a shape that keeps what is given; `None` if
+/// there is no such shape. It uses the buffers of `scratch`; `AllocError` if there is no memory. In each case `face`
+/// stays the outer one; if no bends are returned, buffers of `scratch` may be lost.
 fn bends_with(
     alloc: Global,
     scratch: &mut Scratch,
@@ -125,7 +129,8 @@ fn bends_with(
     }
 }
 
-/// The better of the best face so far and a face with this many bends; `None` if neither has a shape.
+/// `best` or `face`, whichever has fewer bends, and `best` if both have as many. `None` stands for no shape: as `best`
+/// or as `bends` it loses to any number of bends, and if both are `None`, so is the result.
 fn better(best: Option<Incumbent>, face: u16, bends: Option<u64>) -> Option<Incumbent>
     ensures { result ≡ better_of best face bends }
 {

@@ -33,7 +33,8 @@ impl Model for Prices {
 }
 
 impl Prices {
-    /// The prices with these lists: `vertices[v - 1]` is that of vertex v, `faces[f]` that of face f.
+    /// The prices with these lists: `vertices[v - 1]` is that of vertex v, `faces[f]` that of face f. Nothing is
+    /// checked.
     ///
     /// It allocates nothing.
     pub fn new(vertices: Vec<i32>, faces: Vec<i32>) -> Prices
@@ -42,7 +43,8 @@ impl Prices {
         Prices { vertices, faces }
     }
 
-    /// Returns the lists of these prices to the scratch, to be reused. It allocates nothing.
+    /// Moves the two lists of these prices to `scratch`, to be reused; the lists that were there are dropped. It
+    /// allocates nothing.
     pub fn give_back(self, scratch: &mut Scratch) {
         scratch.lists.vertex_prices = self.vertices;
         scratch.lists.face_prices = self.faces;
@@ -81,6 +83,7 @@ impl Prices {
 }
 
 /// Whether the prices prove that the shape, if `is_shape` accepts it, has the fewest bends (complementary slackness).
+/// False also if a list does not have the plane's length; `is_shape` itself is not called.
 ///
 /// All four lists must have the plane's lengths, and each dart's angle and turns must agree with the prices of its
 /// head, of its face and of the face across. It does not matter who made the shape and its prices. It allocates
@@ -93,7 +96,8 @@ pub fn certify(plane: &Plane, shape: &Shape, prices: &Prices) -> bool
 }
 
 /// Whether the prices prove that the shape, if `is_shape` accepts it, has the fewest bends of all that keep what is
-/// given.
+/// given. False also if it does not keep that, or a list does not have the plane's length; `is_shape` itself is not
+/// called.
 ///
 /// What is given must be as it is given, and the prices must agree with all other angles and turns of the shape. For an
 /// angle or turns that are given the prices there say nothing.
@@ -112,7 +116,7 @@ fn has_prices(plane: &Plane, prices: &Prices) -> bool
         && prices.face_count() == usize::from(plane.face_count())
 }
 
-/// Whether the angle and the turns of each dart are as given, or agree with the prices if they are not given.
+/// Whether the angle and the turns of each dart are as given, or agree with the prices where none are given.
 fn are_priced(plane: &Plane, given: &Given<'_>, shape: &Shape, prices: &Prices) -> bool
     requires darts { HasDarts plane.now shape.now }
     requires prices { HasPrices plane.now prices.now }
@@ -127,7 +131,7 @@ fn are_priced(plane: &Plane, given: &Given<'_>, shape: &Shape, prices: &Prices) 
     true
 }
 
-/// Whether the angle and the turns of a dart are as given, or agree with the prices if they are not given.
+/// Whether the angle of a dart is as given, or agrees with the prices if none is given, and so its turns.
 fn is_priced_at(plane: &Plane, given: &Given<'_>, shape: &Shape, prices: &Prices, dart: u16) -> bool
     requires within { dart < darts plane.now }
     requires darts { HasDarts plane.now shape.now }
@@ -142,7 +146,7 @@ fn is_priced_at(plane: &Plane, given: &Given<'_>, shape: &Shape, prices: &Prices
         && are_turns_kept(given.turns(plane, dart), shape.turns(dart), face, across)
 }
 
-/// Whether an angle is as it is given, or else agrees with the prices.
+/// Whether `angle` is the given one or, if `given` is `None`, agrees with the prices of its vertex and its face.
 fn is_angle_kept(given: Option<u8>, angle: u8, vertex: i32, face: i32) -> bool
     ensures { IsTrue result ↔ IsAngleKept given angle vertex face }
 {
@@ -152,7 +156,8 @@ fn is_angle_kept(given: Option<u8>, angle: u8, vertex: i32, face: i32) -> bool
     }
 }
 
-/// Whether turns are as they are given, or else agree with the prices.
+/// Whether `turns` are exactly those given, all to one side, or, if `given` is `None`, agree with the prices of their
+/// face and of the face across.
 fn are_turns_kept(given: Option<i32>, turns: &[Turn], face: i32, across: i32) -> bool
     ensures { IsTrue result ↔ AreTurnsKept given turns.now face across }
 {
@@ -162,7 +167,8 @@ fn are_turns_kept(given: Option<i32>, turns: &[Turn], face: i32, across: i32) ->
     }
 }
 
-/// Whether the turns are exactly `lefts` left turns, or `-lefts` right turns if `lefts` is negative.
+/// Whether the turns are exactly `lefts` left turns, or `-lefts` right turns if `lefts` is negative; for 0, whether
+/// there are no turns.
 fn are_one_way(turns: &[Turn], lefts: i32) -> bool
     ensures { IsTrue result ↔ (turns.now ≡ one_way lefts) }
 {
@@ -174,7 +180,8 @@ fn are_one_way(turns: &[Turn], lefts: i32) -> bool
     if lefts < 0 { made == 0 } else { made == count }
 }
 
-/// Whether an angle agrees with the prices of its vertex and its face.
+/// Whether an angle agrees with the prices of its vertex and its face: that of the face is at most that of the vertex
+/// for angles up to 1, equal to it for 2 and 3, and at least as high for 4 and more.
 fn angle_agrees(angle: u8, vertex: i32, face: i32) -> bool
     ensures { IsTrue result ↔ IsAnglePriced angle vertex face }
 {
@@ -185,7 +192,8 @@ fn angle_agrees(angle: u8, vertex: i32, face: i32) -> bool
     }
 }
 
-/// Whether turns agree with the prices on both sides of their dart.
+/// Whether turns along a dart agree with the prices of its face and of the face across: their reduced cost is 0 if
+/// there is a left turn, and at least 0 if there is none.
 fn crossing_agrees(turns: &[Turn], face: i32, across: i32) -> bool
     ensures { IsTrue result ↔ AreTurnsPriced turns.now face across }
 {

@@ -28,8 +28,9 @@ struct Distances {
     queue: Vec<u16>,
 }
 
-/// Raises the lower bounds on the bends with each face as the outer one to what distances from it prove; it stops after
-/// `MOST_USELESS` faces in a row that prove nothing new.
+/// Raises `bounds`, the lower bounds on the bends with each face as the outer one, to what distances from that face
+/// prove; stops after `MOST_USELESS` faces in a row that prove nothing new. `AllocError` if there is no memory for the
+/// distances; `bounds` is then unchanged.
 pub(crate) fn raise_bounds(
     alloc: Global,
     plane: &Plane,
@@ -62,7 +63,7 @@ pub(crate) fn raise_bounds(
 }
 
 impl Distances {
-    /// Lists for the distances in a plane, none of which is known yet.
+    /// New lists for the distances in a plane, none of which is known yet. `AllocError` if there is no memory for them.
     fn new(alloc: Global, plane: &Plane) -> Result<Distances, AllocError>
         ensures { IfOk result (HasRoomFor plane.now) }
     {
@@ -75,8 +76,8 @@ impl Distances {
         })
     }
 
-    /// How many bends are needed at least with the face of a dart as the outer one. It measures all distances from that
-    /// face, and so goes over the whole plane.
+    /// How many bends are needed at least with the face of a dart as the outer one. Overwrites all distances with those
+    /// from that face, and so goes over the whole plane.
     fn bound(&mut self, plane: &Plane, dart: u16) -> u64
         requires room { HasRoomFor plane.now self.old }
         requires dart { dart < darts plane.now }
@@ -89,8 +90,8 @@ impl Distances {
     }
 }
 
-/// The number of bends that distances of faces and vertices prove to be needed with the face of a dart as the outer
-/// one; 0 if `far` cannot be distances from it.
+/// The number of bends that distances of faces (`far`) and of vertices (`near`) prove to be needed with the face of a
+/// dart as the outer one; 0 if `far` cannot be distances from it.
 fn needed(plane: &Plane, dart: u16, far: &[u16], near: &[u16]) -> u64
     requires dart { dart < darts plane.now }
     requires far { plane.now.faces ≤ length far.now }
@@ -111,8 +112,8 @@ fn needed(plane: &Plane, dart: u16, far: &[u16], near: &[u16]) -> u64
     excess(plane, far, near)
 }
 
-/// Writes to `far` the distance of each face from that of dart `start`, by a breadth-first search (Moore 1959) that
-/// overwrites `queue`.
+/// Writes to `far` the distance of each face from that of dart `start`, `UNKNOWN` if there is no way, by a
+/// breadth-first search (Moore 1959) that overwrites `queue`.
 fn measure_faces(plane: &Plane, start: u16, far: &mut [u16], queue: &mut [u16])
     requires start { start < darts plane.now }
     requires far { plane.now.faces ≤ length far.old }
@@ -133,8 +134,9 @@ fn measure_faces(plane: &Plane, start: u16, far: &mut [u16], queue: &mut [u16])
     }
 }
 
-/// Gives a distance to each face across an edge of a dart's face that was not reached before, and queues it; returns
-/// how many faces are reached then.
+/// Writes to `far` the distance of each face across an edge of the face of dart `first` that was not reached before,
+/// and appends a dart of it to the first `reached` entries of `queue`, if that has a place left; returns the number of
+/// faces reached then.
 fn leave(plane: &Plane, first: u16, far: &mut [u16], queue: &mut [u16], reached: usize) -> usize
     requires first { first < darts plane.now }
     requires far { plane.now.faces ≤ length far.old }
@@ -156,7 +158,8 @@ fn leave(plane: &Plane, first: u16, far: &mut [u16], queue: &mut [u16], reached:
     reached
 }
 
-/// Writes to `near` for each vertex the distance of the nearest of its faces, and 0 at place 0.
+/// Writes to `near` for each vertex, numbered from 1, the distance of the nearest of its faces, `UNKNOWN` if it has
+/// none, and 0 at place 0.
 fn measure_vertices(plane: &Plane, far: &[u16], near: &mut [u16])
     requires far { plane.now.faces ≤ length far.now }
     requires near { vertices plane.now < length near.old }
@@ -173,7 +176,7 @@ fn measure_vertices(plane: &Plane, far: &[u16], near: &mut [u16])
     }
 }
 
-/// Whether the distances of the two faces of each edge differ by at most 1.
+/// Whether the distances in `far` of the two faces of each edge differ by at most 1.
 fn are_smooth(plane: &Plane, far: &[u16]) -> bool
     requires { plane.now.faces ≤ length far.now }
     ensures { IsTrue result → AreSmooth plane.now far.now }
@@ -189,7 +192,8 @@ fn are_smooth(plane: &Plane, far: &[u16]) -> bool
     true
 }
 
-/// Four times all distances of faces and vertices, less those of the face and the head of each dart, but at least 0.
+/// Four times the sum of all distances of faces (`far`) and vertices (`near`), less the sum over all darts of those of
+/// its face and its head, but at least 0.
 fn excess(plane: &Plane, far: &[u16], near: &[u16]) -> u64
     requires far { plane.now.faces ≤ length far.now }
     requires near { vertices plane.now < length near.now }
@@ -215,7 +219,7 @@ fn sum_of(list: &[u16], count: usize) -> u64
     sum
 }
 
-/// The sum of the distances of the face and the head of each dart.
+/// The sum over all darts of the distance of its face (in `far`) and that of its head (in `near`).
 fn at_darts(plane: &Plane, far: &[u16], near: &[u16]) -> u64
     requires far { plane.now.faces ≤ length far.now }
     requires near { vertices plane.now < length near.now }

@@ -50,6 +50,7 @@ impl Model for Points {
 
 impl Points {
     /// The points with these lists: `vertices[v - 1]` is the point of vertex v, `corners[e]` are the corners of edge e.
+    /// Nothing is checked.
     ///
     /// It allocates nothing.
     pub fn new(vertices: Vec<Point>, corners: Vec<Vec<Point>>) -> Points
@@ -60,7 +61,9 @@ impl Points {
         }
     }
 
-    /// The points with these lists, where one flat list holds the corners of all edges.
+    /// The points with these lists: `vertices[v - 1]` is the point of vertex v, and edge e has the corners from place
+    /// `starts[e]` to before place `starts[e + 1]` of `corners`. `AllocError` if there is no memory for them, or more
+    /// than 4,294,967,295 corners; `vertices` is then gone.
     ///
     /// The point of vertex v is `vertices[v - 1]`; the corners of edge e are those of `corners` from place `starts[e]`
     /// to place `starts[e + 1]`. All points are then in the first list, which allocates only if it has no room for the
@@ -83,7 +86,8 @@ impl Points {
         })
     }
 
-    /// Returns the list in which these points are stored, whose buffer can be reused. It allocates nothing.
+    /// Returns the list in which these points are stored, with its contents, so that its buffer can be reused. It
+    /// allocates nothing.
     ///
     /// If the points are in two lists, it returns that of the vertices.
     pub fn into_list(self) -> Vec<Point> {
@@ -113,7 +117,7 @@ impl Points {
         }
     }
 
-    /// The points of all vertices, in order.
+    /// The points of all vertices, in the order of their numbers from 1, borrowed.
     pub fn vertices(&self) -> &[Point]
         ensures { result.now ≡ self.now.vertices }
     {
@@ -132,7 +136,7 @@ impl Points {
         self.vertices()[usize::from(vertex) - 1]
     }
 
-    /// The corners of an edge, along its lesser dart.
+    /// The corner points of an edge, numbered from 0, along its lesser dart, borrowed; an empty list if it has none.
     pub fn corners(&self, edge: u16) -> &[Point]
         requires { edge < length self.now.corners }
         ensures { result.now ≡ corners_at self.now edge }
@@ -166,8 +170,9 @@ impl Model for FlatPoints {
 }
 
 impl FlatPoints {
-    /// Makes one list of the points by appending to `vertices`; edge e has the corners from place `starts[e]` to place
-    /// `starts[e + 1]`. `AllocError` also if there are more than 4,294,967,295 corners.
+    /// Makes one list of the points by appending to `vertices`; edge e has the corners from place `starts[e]` to before
+    /// place `starts[e + 1]`. `AllocError` if there is no memory for it, or more than 4,294,967,295 corners; `vertices`
+    /// is then gone.
     pub(crate) fn new(
         vertices: Vec<Point>,
         corners: &[Point],
@@ -192,26 +197,26 @@ impl FlatPoints {
         })
     }
 
-    /// Returns the one list, whose buffer can be reused.
+    /// Returns the one list, with its contents, so that its buffer can be reused.
     pub(crate) fn into_list(self) -> Vec<Point> {
         self.points
     }
 
-    /// The points of all vertices, in order.
+    /// The points of all vertices, in the order of their numbers from 1, borrowed.
     pub(crate) fn vertices(&self) -> &[Point]
         ensures { result.now ≡ self.now.vertices }
     {
         &self.points[..self.vertices]
     }
 
-    /// How many edges there are.
+    /// The number of edges that have a span of corners.
     pub(crate) fn edge_count(&self) -> usize
         ensures { result ≡ length self.now.corners }
     {
         self.edges
     }
 
-    /// The corners of an edge.
+    /// The corner points of an edge, numbered from 0, along its lesser dart, borrowed; an empty list if it has none.
     pub(crate) fn corners(&self, edge: u16) -> &[Point]
         requires { edge < length self.now.corners }
         ensures { result.now ≡ corners_at self.now edge }
@@ -222,7 +227,8 @@ impl FlatPoints {
     }
 }
 
-/// Appends to a list the span of each edge's corners.
+/// Appends to `points` the span of each edge's corners, as a point. `AllocError` if `points` has to grow and there is
+/// no memory; the spans that were appended before stay.
 fn push_spans(points: &mut Vec<Point>, starts: &[usize]) -> Result<(), AllocError>
     requires some { 0 < length starts.now }
     requires small { All (λ place. place < 2 ^ 32) starts.now }

@@ -1,5 +1,5 @@
-//! Orthogonal representations with the fewest bends (least shapes), by a flow of least cost (Tamassia 1987), also among those
-//! that keep what is given.
+//! Orthogonal representations with the fewest bends (least shapes), by a flow of least cost (Tamassia 1987), also among
+//! those that keep what is given.
 
 ghost use Rattle.std.specs.Prelude.{◌≡◌, ◌+◌, ◌<◌, ◌≤◌, ◌++◌, nat_abs, None, OnOk, IfOk, IfErr, length, map, replicate, slice_index, slice_index_or, vec_len, ◌^◌};
 ghost use Rattle.faces.specs.Planes.{darts, vertices, reverse_dart};
@@ -24,7 +24,8 @@ use min_cost_flow::{SolveFault, Solved, solve_in};
 use std::alloc::{AllocError, Global};
 use std::mem;
 
-/// An orthogonal representation of the plane with the fewest bends, and prices that prove it.
+/// An orthogonal representation of the plane with the fewest bends, and prices that prove it. `AllocError` if there is
+/// no memory for the network, its flow, the shape or the prices.
 ///
 /// It is a flow of least cost in the plane's network, and the prices are its potentials (Tamassia 1987): a corner arc
 /// carries a dart's angle less one, a crossing arc its left turns.
@@ -41,7 +42,9 @@ pub fn least_shape(alloc: Global, plane: &Plane) -> Result<(Shape, Prices), Allo
     least_shape_in(alloc, &mut scratch, plane)
 }
 
-/// An orthogonal representation with the fewest bends, and its prices, exactly as [`least_shape`]; reuses the scratch.
+/// An orthogonal representation with the fewest bends, and its prices, exactly as [`least_shape`], in the buffers of
+/// `scratch`, of which both take lists with them. `AllocError` if there is no memory; buffers of `scratch` may then be
+/// lost, and it can be used again.
 ///
 /// The shape and the prices take their lists with them; [`Shape::give_back`] and [`Prices::give_back`] return them.
 ///
@@ -64,12 +67,13 @@ pub fn least_shape_in(
     }
 }
 
-/// An orthogonal representation of fewest bends among those that keep what is given, and prices that prove it; reuses
-/// the scratch.
+/// An orthogonal representation of fewest bends among those that keep what is given, and prices that prove it, in the
+/// buffers of `scratch`. `Infeasible` if none keeps it, `Memory` if there is no memory; buffers of `scratch` may then
+/// be lost, and it can be used again.
 ///
-/// It is [`least_shape`] with each given angle and the given turns of each edge as they are, whatever a unit there would
-/// gain. It reuses the scratch, as [`least_shape_in`]; after a refusal some of that may be lost, and the next call allocates
-/// it anew.
+/// It is [`least_shape`] with each given angle and the given turns of each edge as they are, whatever a unit there
+/// would gain. It reuses the scratch, as [`least_shape_in`]; after an error some of that may be lost, and the next call
+/// allocates it anew.
 ///
 /// # Errors
 ///
@@ -98,8 +102,9 @@ pub fn least_shape_keeping_in(
     Ok(made)
 }
 
-/// The representation that a flow of least cost and what is given determine, and its prices; both take their buffers
-/// from `lists`.
+/// The representation that a flow of least cost and what is given determine, and its prices, in the three buffers of
+/// `lists`, which they take with them. `AllocError` if a buffer is too small and there is no memory; those taken before
+/// are then gone.
 pub(crate) fn shape_in(
     alloc: Global,
     lists: &mut ShapeLists,
@@ -129,7 +134,7 @@ pub(crate) fn shape_in(
     Ok((shape, prices))
 }
 
-/// What the crossing arc of a dart carries.
+/// The number of units that the crossing arc of a dart carries.
 fn crossing_flow(net: &FaceNet, solved: &Solved, dart: u16) -> u32
     requires { net.now.darts + dart < length solved.now.flow }
     ensures { result ≡ amounts solved.now.flow (net.now.darts + dart) }
@@ -137,7 +142,8 @@ fn crossing_flow(net: &FaceNet, solved: &Solved, dart: u16) -> u32
     solved.flow(net.crossing_arc(dart))
 }
 
-/// The angle and the turns of each dart, by a flow of least cost and what is given, in the buffer of `lent`.
+/// The angle and the turns of each dart, by a flow of least cost and what is given, in the buffer of `lent`, whose
+/// contents are lost. `AllocError` if that is too small and there is no memory; it is then gone.
 fn darts_in(
     lent: Vec<DartShape>,
     plane: &Plane,
@@ -158,7 +164,8 @@ fn darts_in(
     darts_with(lent, plane, given, net, solved)
 }
 
-/// The angle and the turns of each dart, as `darts_in`; inlined, so that no list is read where nothing is given.
+/// The angle and the turns of each dart, as `darts_in`, in the buffer of `lent`; `AllocError` if that is too small and
+/// there is no memory, and it is then gone. Inlined, so that no list is read where nothing is given.
 #[inline(always)]
 fn darts_with(
     lent: Vec<DartShape>,
@@ -184,7 +191,7 @@ fn darts_with(
     Ok(found)
 }
 
-/// The angle of a dart: what is given, or else one right angle and what its corner arc carries.
+/// The angle of a dart in right angles: what is given, or else one right angle and what its corner arc carries.
 fn dart_angle(plane: &Plane, given: &Given<'_>, net: &FaceNet, solved: &Solved, dart: u16) -> u8
     requires net { IsKeepingNetOf plane.now given.now net.now }
     requires solves { Solves net.now.network solved.now }
@@ -197,7 +204,8 @@ fn dart_angle(plane: &Plane, given: &Given<'_>, net: &FaceNet, solved: &Solved, 
     }
 }
 
-/// Which way a dart turns, and how often: what is given, or else what crosses its edge.
+/// Which way a dart turns, and how often: what is given, or else what crosses its edge. If it does not turn, the number
+/// is 0, and the side means nothing.
 fn dart_turns(
     plane: &Plane,
     given: &Given<'_>,
@@ -218,8 +226,8 @@ fn dart_turns(
     }
 }
 
-/// Which way a dart turns whose turns are not given, and how often. No least flow crosses an edge both ways, so all are left
-/// turns or all are right turns.
+/// Which way a dart turns whose turns are not given, and how often; `Right` and 0 if it does not turn. No least flow
+/// crosses an edge both ways, so all are left turns or all are right turns.
 fn flow_turns(
     plane: &Plane,
     given: &Given<'_>,
@@ -245,7 +253,7 @@ fn flow_turns(
     (Turn::Right, rights as u16)
 }
 
-/// Which way given turns go, and how many they are.
+/// Which way given turns go, and how many they are: `Right` for a negative number, else `Left`, also for 0.
 fn given_turns(turns: i32) -> (Turn, u16)
     requires { nat_abs turns ≤ MAX_GIVEN_TURNS }
     ensures turns { replicate result.1 result.0 ≡ one_way turns }
@@ -258,7 +266,8 @@ fn given_turns(turns: i32) -> (Turn, u16)
     }
 }
 
-/// A copy of `numbers` in the buffer of `lent`.
+/// A copy of `numbers` in the buffer of `lent`, whose contents are lost. `AllocError` if that is too small and there is
+/// no memory; it is then gone.
 fn copy_into(lent: Vec<i32>, numbers: &[i32]) -> Result<Vec<i32>, AllocError>
     ensures { IfOk result (λ copy. copy.items ≡ numbers.now) }
 {

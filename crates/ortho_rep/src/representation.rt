@@ -17,7 +17,8 @@ const MORE_SUMS: usize = 257;
 
 const MOST_SUMS: usize = MAX_FACES;
 
-/// Whether the shape is an orthogonal representation of the plane with its outer face.
+/// Whether the shape is an orthogonal representation of the plane with its outer face. False also if it does not have
+/// exactly one angle and one string for each dart.
 ///
 /// It must also have an angle and a string for each dart and for nothing else. It allocates nothing; linear in the
 /// turns, darts, vertices and faces.
@@ -38,7 +39,7 @@ pub(crate) fn has_darts(plane: &Plane, shape: &Shape) -> bool
     shape.angle_count() == darts && shape.string_count() == darts
 }
 
-/// Whether all angles are 1 to 4.
+/// Whether the angle of each dart is 1 to 4 right angles.
 fn has_angles(plane: &Plane, shape: &Shape) -> bool
     requires { HasDarts plane.now shape.now }
     ensures { IsTrue result ↔ ((d : ℕ) → d < darts plane.now
@@ -53,7 +54,7 @@ fn has_angles(plane: &Plane, shape: &Shape) -> bool
     true
 }
 
-/// Whether each dart's reverse has its string read backwards, with left and right exchanged.
+/// Whether the string of each dart's reverse is the dart's own, read backwards with left and right exchanged.
 fn has_mirrored_strings(plane: &Plane, shape: &Shape) -> bool
     requires { HasDarts plane.now shape.now }
     ensures { IsTrue result ↔ ((d : ℕ) → d < darts plane.now
@@ -68,8 +69,8 @@ fn has_mirrored_strings(plane: &Plane, shape: &Shape) -> bool
     true
 }
 
-/// Whether the angles round each vertex sum to 4, and the darts of each inner face turn once to the left, those of the
-/// outer face to the right.
+/// Whether the angles round each vertex sum to 4, and the darts of each inner face, with its angles, make one whole
+/// turn to the left, those of the outer face one to the right.
 fn has_whole_sums(plane: &Plane, shape: &Shape) -> bool
     requires { HasDarts plane.now shape.now }
     ensures { IsTrue result ↔ (((v : ℕ) → 1 ≤ v → v ≤ vertices plane.now
@@ -88,7 +89,7 @@ fn has_whole_sums(plane: &Plane, shape: &Shape) -> bool
     }
 }
 
-/// Whether the angles round each vertex sum to 4. N, the size of its array of sums, exceeds the number of vertices.
+/// Whether the angles round each vertex sum to 4. N, the size of its array of sums, must exceed the number of vertices.
 #[inline(never)]
 fn angles_sum_to_four<const N: usize>(plane: &Plane, shape: &Shape) -> bool
     requires darts { HasDarts plane.now shape.now }
@@ -108,7 +109,8 @@ fn angles_sum_to_four<const N: usize>(plane: &Plane, shape: &Shape) -> bool
     true
 }
 
-/// Adds to `sums[v]` the angles of the darts that arrive at vertex v, for each vertex. All sums must be 0 before.
+/// Adds to `sums[v]` the angles of the darts that arrive at vertex v, in right angles, for each vertex, numbered from
+/// 1. All sums must be 0 before; that at place 0 stays 0.
 pub fn add_angles(plane: &Plane, shape: &Shape, sums: &mut [u32])
     requires darts { HasDarts plane.now shape.now }
     requires room { vertices plane.now < length sums.old }
@@ -122,8 +124,8 @@ pub fn add_angles(plane: &Plane, shape: &Shape, sums: &mut [u32])
     }
 }
 
-/// Whether the darts of each inner face turn once to the left, and those of the outer face once to the right. N, the
-/// size of its two arrays of sums, is at least the number of faces.
+/// Whether the darts of each inner face, with its angles, make one whole turn to the left, and those of the outer face
+/// one to the right. N, the size of its two arrays of sums, must be at least the number of faces.
 #[inline(never)]
 fn turns_faces<const N: usize>(plane: &Plane, shape: &Shape) -> bool
     requires darts { HasDarts plane.now shape.now }
@@ -146,7 +148,7 @@ fn turns_faces<const N: usize>(plane: &Plane, shape: &Shape) -> bool
     true
 }
 
-/// Whether `left_sum` is four more than `right_sum`, or four less for the outer face: one turn round a face.
+/// Whether `left_sum` is four more than `right_sum`, or four less for the outer face: one whole turn round a face.
 fn turns_once(left_sum: u64, right_sum: u64, is_outer: bool) -> bool
     ensures { IsTrue result ↔ ((pos left_sum -ℤ pos right_sum) ≡ (if is_outer then negsuc 3 else pos 4)) }
 {
@@ -157,8 +159,8 @@ fn turns_once(left_sum: u64, right_sum: u64, is_outer: bool) -> bool
     }
 }
 
-/// Fills two sums for each face, whose difference, left less right, is the number of quarter turns to the left of its
-/// darts, angles included. All sums must be 0 before.
+/// Adds to `left_sums` and `right_sums` for each face two numbers whose difference, left less right, is the number of
+/// quarter turns to the left of its darts, angles included. All sums must be 0 before.
 pub fn add_turns(plane: &Plane, shape: &Shape, left_sums: &mut [u64], right_sums: &mut [u64])
     requires darts { HasDarts plane.now shape.now }
     requires left_sum_room { plane.now.faces ≤ length left_sums.old }

@@ -27,7 +27,7 @@ pub struct Scratch {
 }
 
 impl Scratch {
-    /// An empty scratch. It allocates nothing.
+    /// A scratch with empty lists. It allocates nothing.
     pub fn empty(alloc: Global) -> Scratch {
         Scratch {
             net: flow_network::Scratch::empty(alloc),
@@ -46,7 +46,7 @@ pub(crate) struct ShapeLists {
 }
 
 impl ShapeLists {
-    /// Empty lists.
+    /// Three empty lists. It allocates nothing.
     pub(crate) fn empty(alloc: Global) -> ShapeLists {
         ShapeLists {
             darts: Vec::new(alloc),
@@ -90,7 +90,7 @@ impl Model for Shape {
 }
 
 impl Shape {
-    /// Whether there are at most 4,800 strings of at most 1,000,000 turns, as `new` requires.
+    /// Whether there are at most 4,800 strings, each of at most 1,000,000 turns, as `new` requires.
     pub fn have_few_turns(strings: &[Vec<Turn>]) -> bool
         ensures { IsTrue result ↔ ((length strings.now ≤ MAX_DARTS)
             × All (λ string. vec_len string ≤ MAX_TURNS) strings.now) }
@@ -98,7 +98,8 @@ impl Shape {
         strings.len() <= MAX_DARTS && strings.iter().all(|string| string.len() <= MAX_TURNS)
     }
 
-    /// The shape with these angles and strings, each indexed by dart. It allocates nothing.
+    /// The shape with these angles, in right angles, and these strings, each indexed by dart; it need not represent a
+    /// plane. It allocates nothing.
     pub fn new(angles: Vec<u8>, strings: Vec<Vec<Turn>>) -> Shape
         requires few { vec_len strings ≤ MAX_DARTS }
         requires short { All (λ string. vec_len string ≤ MAX_TURNS) strings.items }
@@ -109,7 +110,8 @@ impl Shape {
         }
     }
 
-    /// The shape in which dart i has the angle and the turns of `darts[i]`, all to one side. It allocates nothing.
+    /// The shape in which dart i has the angle and the turns of `darts[i]`, all to one side. It takes the list as it
+    /// is, and allocates nothing.
     pub fn of_darts(darts: Vec<DartShape>) -> Shape
         requires few { vec_len darts ≤ MAX_DARTS }
         requires short { All (λ dart. dart.count ≤ MAX_REPEATS) darts.items }
@@ -120,7 +122,8 @@ impl Shape {
         }
     }
 
-    /// Returns the list of this shape to the scratch, to be reused. It allocates nothing.
+    /// Moves the list of this shape to `scratch`, to be reused; the list that was there is dropped. A shape by `new`
+    /// has no such list: it is dropped, and `scratch` stays as it is. It allocates nothing.
     ///
     /// Lists that are not of darts, as [`least_shape_in`](crate::least_shape_in) makes it, are dropped.
     pub fn give_back(self, scratch: &mut Scratch) {
@@ -165,7 +168,7 @@ impl Shape {
         }
     }
 
-    /// The turns of a dart, at most 1,000,000, in walking order.
+    /// The turns of a dart, at most 1,000,000, in walking order, borrowed; an empty list if it does not turn.
     #[inline]
     pub fn turns(&self, dart: u16) -> &[Turn]
         requires { dart < length self.now.strings }

@@ -22,7 +22,7 @@ static LEFTS: [Turn; MAX_REPEATS] = [Turn::Left; MAX_REPEATS];
 
 static RIGHTS: [Turn; MAX_REPEATS] = [Turn::Right; MAX_REPEATS];
 
-/// `count` turns of one kind.
+/// A list of `count` turns, each of them `turn`, borrowed from a constant list.
 pub(crate) fn repeat(turn: Turn, count: u16) -> &'static [Turn]
     requires { count ≤ MAX_REPEATS }
     ensures { result.now ≡ replicate count turn }
@@ -41,7 +41,7 @@ pub fn count_lefts(turns: &[Turn]) -> usize
     turns.iter().filter(|turn| **turn == Turn::Left).count()
 }
 
-/// Whether the second string is the first, read backwards with left and right exchanged.
+/// Whether `reverse` is `turns`, read backwards with left and right exchanged.
 pub(crate) fn mirrors(turns: &[Turn], reverse: &[Turn]) -> bool
     ensures { IsTrue result ↔ (reverse.now ≡ mirrored turns.now) }
 {

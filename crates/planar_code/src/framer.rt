@@ -48,7 +48,8 @@ impl Model for Framer {
 }
 
 impl Framer {
-    /// A framer at the beginning of a stream, with a buffer for the longest record: 65,026 bytes.
+    /// A framer at the beginning of a stream, with a buffer for the longest record: 65,026 bytes. `AllocError` if there
+    /// is no memory for the buffer.
     ///
     /// # Errors
     ///
@@ -64,8 +65,9 @@ impl Framer {
         })
     }
 
-    /// Reads one byte of the header, or to the end of one record or of `text`; returns the number of bytes read, and
-    /// the record if one ended.
+    /// Reads one byte of the header, or to the end of one record or of `text`, which is not empty; returns the number
+    /// of bytes read, and the record if one ended, else `None`. `Header`, `Large`, `Oversize` or `Many` at a byte that
+    /// may not come, `Memory` without memory for a record, the earlier fault if it has failed; it stores no fault.
     fn step(&mut self, alloc: Global, text: &[u8]) -> Result<(usize, Option<Record>), FeedFault>
         requires some { 0 < length text.now }
         requires running { HasNotFailed self.old }
@@ -100,7 +102,9 @@ impl Framer {
         }
     }
 
-    /// Reads the next piece of the stream and appends each record that it completes to `out`, in order.
+    /// Reads `piece`, the next bytes of the stream, and appends each record that it completes to `out`, in order.
+    /// `Header`, `Large`, `Oversize` or `Many` at a byte that may not come, `Memory` if there is no memory for a record
+    /// or its place: `out` keeps the records before it, and each later call adds nothing and returns the same fault.
     ///
     /// The stream may be divided anywhere, also within the header or a record. The time is linear in the bytes: a
     /// record that lies whole in a piece is copied once, and one that is divided is copied twice. It runs out of memory
@@ -179,10 +183,8 @@ impl Framer {
         Ok(())
     }
 
-    /// How the stream ends if no more bytes come.
-    ///
-    /// After a fault it is the ending of that fault; before the end of the header it is `Header`, within a record
-    /// `Truncated`, and otherwise `Complete`. It allocates nothing.
+    /// How the stream ends if no more bytes come: `Header` before the end of the header, `Truncated` within a record,
+    /// and otherwise `Complete`; after a fault, the ending with the name of that fault.
     pub fn finish(self) -> Ending
         ensures split { (stream : List ℕ) (records : List (List ℕ))
             → StandsAt stream records self

@@ -10,22 +10,22 @@ ghost use Rattle.planar_code.specs.Parse.{IsParseFault};
 
 use crate::HEADER;
 
-/// The header is the text `>>planar_code<<`, byte for byte.
+/// Theorem: the header is the text `>>planar_code<<`, byte for byte.
 pub fn header_text()
     ensures { HEADER ≡ codes ">>planar_code<<" }
 {}
 
-/// A record's lists are those that its bytes encode.
+/// Theorem: a record's lists are those that its bytes encode.
 pub fn record_lists()
     ensures { (bytes : List ℕ) (r : IsRecord bytes) → lists_of bytes ≡ r.lists }
 {}
 
-/// No record is a proper prefix of another.
+/// Theorem: no record is a proper prefix of another.
 pub fn no_prefix()
     ensures { (bytes more : List ℕ) → IsRecord bytes → IsRecord (bytes ++ more) → more ≡ [] }
 {}
 
-/// At most one parse fault fits given bytes; bytes that are one record have none but `Memory`.
+/// Theorem: at most one parse fault fits given bytes; bytes that are one record have none but `Memory`.
 pub fn one_fault()
     ensures { (bytes : List ℕ) (fault other : ParseFault)
         → IsParseFault bytes fault
@@ -33,7 +33,7 @@ pub fn one_fault()
         → fault ≡ other }
 {}
 
-/// A stream splits into records and an ending in at most one way.
+/// Theorem: a stream splits into records and an ending in at most one way.
 pub fn one_split()
     ensures { (stream : List ℕ) (records others : List (List ℕ)) (end other : Ending)
         → IsSplit stream records end
@@ -41,21 +41,21 @@ pub fn one_split()
         → (records ≡ others) × (end ≡ other) }
 {}
 
-/// Every stream of bytes splits into records and an ending.
+/// Theorem: every stream of bytes splits into records and an ending.
 pub fn some_split()
     ensures { (stream : List ℕ)
         → All (λ byte. byte < 256) stream
         → (records : List (List ℕ)) × (end : Ending) × IsSplit stream records end }
 {}
 
-/// No stream has more than 1,000,000 records.
+/// Theorem: no stream has more than 1,000,000 records.
 pub fn few_records()
     ensures { (stream : List ℕ) (records : List (List ℕ)) (end : Ending)
         → IsSplit stream records end
         → length records ≤ MAX_RECORDS }
 {}
 
-/// The records so far are a prefix of the records of the stream, however it goes on.
+/// Theorem: the records so far are a prefix of the records of the stream, however it goes on.
 pub fn records_begin()
     ensures { (state : FramerState) (stream : List ℕ) (records : List (List ℕ))
         → StandsAt stream records state
@@ -64,7 +64,7 @@ pub fn records_begin()
         → (later : List (List ℕ)) × (all ≡ records ++ later) }
 {}
 
-/// The stream of a framer that has not failed can go on with more bytes.
+/// Theorem: the stream of a framer that has not failed can go on with more bytes.
 pub fn running_may_go_on()
     ensures { (state : FramerState) (stream : List ℕ) (records : List (List ℕ))
         → HasNotFailed state
@@ -72,7 +72,7 @@ pub fn running_may_go_on()
         → MayGoOn stream }
 {}
 
-/// A stream that ends `Oversize` contains 255 nonzero bytes in a row.
+/// Theorem: a stream that ends `Oversize` contains 255 nonzero bytes in a row.
 pub fn oversize_is_long()
     ensures { (stream : List ℕ) (records : List (List ℕ))
         → All (λ byte. byte < 256) stream

@@ -56,6 +56,7 @@ impl From<FeedFault> for Ending {
 
     ghost from_gives = { λ f e. e ≡ ending_of f };
 
+    /// Returns the ending that has the name of the fault.
     fn from(fault: FeedFault) -> Ending {
         match fault {
             FeedFault::Header => Ending::Header,
@@ -75,8 +76,8 @@ pub enum Scan {
     Open { remaining: u8, entries: u8 },
 }
 
-/// Reads `text` from index `from` on as the rest of a record; returns where the record ends, or that it is partial.
-/// `Oversize` means that a list has a 255th entry.
+/// Reads `text` from index `from` on as the rest of a record; returns `Whole` with the index in `text` after the
+/// record's last byte, or `Open` with the new counts if `text` ends before. `Oversize` if a list has a 255th entry.
 ///
 /// `remaining` lists are not yet ended, including the partial one, which has `entries` entries so far.
 pub fn scan_lists(
@@ -136,7 +137,8 @@ impl Model for PartialRecord {
 }
 
 impl PartialRecord {
-    /// An empty partial record, with a buffer for the longest record.
+    /// An empty partial record, with a buffer for the longest record: 65,026 bytes. `AllocError` if there is no memory
+    /// for the buffer.
     ///
     /// # Errors
     ///
@@ -158,8 +160,9 @@ impl PartialRecord {
         self.bytes.is_empty()
     }
 
-    /// Reads `text` as the next bytes of the record, but keeps none; returns where in `text` the record ends, or that
-    /// it is partial. `Large` means that the record begins with 0, `Oversize` that a list has a 255th entry.
+    /// Reads `text`, which is not empty, as the next bytes of the record, but keeps none; returns `Whole` with the
+    /// index in `text` after the record's last byte, or `Open` with the new counts if the record is still partial.
+    /// `Large` if the record begins with 0, `Oversize` if a list has a 255th entry.
     fn scan(&self, text: &[u8]) -> Result<Scan, FeedFault>
         requires { 0 < length text.now }
         ensures { Scans self.now text.now result }
@@ -175,7 +178,7 @@ impl PartialRecord {
     }
 
     /// Appends `text`, after which `remaining` lists are not yet ended and the partial one has `entries` entries. It
-    /// allocates nothing.
+    /// uses the buffer that `new` made for the longest record.
     fn keep(&mut self, text: &[u8], remaining: u8, entries: u8)
         requires { IsStarted (self.old ++ text.now) remaining entries }
         ensures { self.new ≡ self.old ++ text.now }
@@ -185,8 +188,9 @@ impl PartialRecord {
         self.entries = entries;
     }
 
-    /// Appends `text` up to the record's end; if it ends in `text`, empties this partial record, and returns the whole
-    /// one and the number of bytes taken. If it does not, returns `None`.
+    /// Appends `text` up to the record's end; returns the whole record and the number of bytes taken, and becomes
+    /// empty, or returns `None` if `text` does not end it. `Large` if it begins with 0, `Oversize` at a list's 255th
+    /// entry: it stays as it is. `Memory` if there is no memory for the whole record: it becomes empty.
     ///
     /// A record that lies whole in `text` is copied once. It runs out of memory only if `text` ends the record.
     pub fn read(&mut self, alloc: Global, text: &[u8]) -> Result<Option<(Record, usize)>, FeedFault>

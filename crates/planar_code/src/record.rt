@@ -24,7 +24,8 @@ pub enum End {
     Oversize,
 }
 
-/// Where the list at the beginning of the bytes ends, after its 0, or that it is cut off or too long.
+/// Where the list at the beginning of `bytes` ends: `After` with the number of its bytes and its 0, `Oversize` if it
+/// has a 255th entry, or `Truncated` if the bytes end before its 0.
 fn list_end(bytes: &[u8]) -> End
     ensures { (before : List ℕ) (remaining : ℕ) → IsStarted before remaining 0 → EndsList before remaining bytes.now result }
 {
@@ -39,8 +40,9 @@ fn list_end(bytes: &[u8]) -> End
     End::Truncated
 }
 
-/// Where the record at the beginning of the bytes ends, or that it is cut off or a list is too long. There must be a
-/// first byte, other than 0.
+/// Where the record at the beginning of `bytes` ends: `After` with the number of its bytes, `Oversize` if a list has a
+/// 255th entry, or `Truncated` if the bytes end before the record. There must be a first byte, other than 0; bytes
+/// after the record do not matter.
 pub fn record_end(bytes: &[u8]) -> End
     requires some { 0 < length bytes.now }
     requires nonzero { slice_index bytes.now 0 ≢ 0 }
@@ -77,7 +79,10 @@ impl Model for Record {
 }
 
 impl Record {
-    /// A copy of bytes that are one record. A long one has a buffer of just their length.
+    /// A copy of `bytes`, which must be one record. `AllocError` if there are more than 48 bytes and no memory for
+    /// them.
+    ///
+    /// A long one has a buffer of just their length.
     pub(crate) fn from_slice(alloc: Global, bytes: &[u8]) -> Result<Record, AllocError>
         requires { IsRecord bytes.now }
         ensures { IfOk result (λ r. r ≡ bytes.now) }
@@ -130,7 +135,9 @@ pub enum ParseFault {
 }
 
 impl Record {
-    /// Parses `bytes` as exactly one record.
+    /// Parses `bytes` as exactly one record, and returns a copy of them. `Order` if the first byte is 0, `Oversize` if
+    /// a list has a 255th entry, `Unfinished` if they end within a record or there are none, `Long` if more bytes
+    /// follow the record, and `Memory` if they are a record of more than 48 bytes and there is no memory for it.
     ///
     /// The time is linear in their number, and only the record allocates.
     ///

@@ -6,7 +6,8 @@ use std::io;
 use std::io::IsTerminal;
 use std::process::ExitCode;
 
-/// Runs the command that the arguments ask for, and returns the exit status.
+/// Runs the command that the arguments of the process ask for, and returns its exit status. If memory runs out, the
+/// text on standard output or standard error says so, and the status is not 0.
 fn main(rt: HostRuntime) -> ExitCode {
     let files = SystemFiles {
         rt: &rt,

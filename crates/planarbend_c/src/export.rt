@@ -18,8 +18,9 @@ use crate::lists::{
 use crate::request::{Layout, Outcome, Request, asks_nothing, choice_of, drawing_of};
 use std::alloc::Global;
 
-/// Lays out the record of a request, under its conditions if it has any, writes what it finds to `counts`, `lists` or
-/// `cut`, and returns the code of the outcome.
+/// Lays out the record of `request`, under its conditions if it has any, and returns the code of the outcome: 0 if it
+/// is laid out and written, 10 if memory runs out, or another one up to 18. Writes `counts` if the record is laid out,
+/// `lists` too if each has room, and `cut` only if no shape keeps the conditions; what is not written stays.
 ///
 /// The shape has the fewest bends of all that keep the conditions. `planarbend.h` says what each number of an outer
 /// face and of a drawing means. The counts are written if the record is laid out, and the lists too if each has room.
@@ -44,8 +45,9 @@ pub extern "C" fn planarbend_c_layout(
     answer(alloc, request, counts, lists, cut).code()
 }
 
-/// Lays out the record as requested, under its conditions if it has any, and writes what it finds to `counts`, `lists`
-/// or `cut`; returns the outcome.
+/// Lays out the record of `request` and returns the outcome: `Laid` if `counts` and `lists` are written; `Room` if
+/// `counts` alone is written, since a list is too short; `NoShape` if `cut` alone is written; otherwise the reason,
+/// such as `Memory` if memory runs out, and nothing is written.
 fn answer(
     alloc: Global,
     request: &Request<'_>,
@@ -81,8 +83,9 @@ fn answer(
     }
 }
 
-/// Writes the counts of a layout, and the lists if each has room; returns `Laid`, or `Room` if one has not. Returns
-/// `Memory` and writes nothing if there are too many corners to count.
+/// Writes the counts of `layout` to `counts`, and its lists to `lists` if each has room; returns `Laid`, or `Room` if
+/// one has not, and `lists` then stays unchanged. Returns `Memory` and writes nothing if the number of corners takes
+/// more than 32 bits.
 fn tell(layout: &Layout, counts: &mut Counts, lists: &mut Lists<'_>) -> Outcome
     requires { IsDrawnIfAsked layout.now.laid.plane layout.now.laid.shape layout.now.drawing }
     ensures told { IsTold (finding_of layout.now) counts.new (contents lists.new) result }
@@ -102,7 +105,8 @@ fn tell(layout: &Layout, counts: &mut Counts, lists: &mut Lists<'_>) -> Outcome
     Outcome::Laid
 }
 
-/// Writes the lists of a layout with these counts, except those that are left out.
+/// Writes the lists of `layout`, whose counts are `counts`, to `lists`, each of which must have room or is left out
+/// (length 0). Entries after those written stay, and without a drawing the lists of points and corners, too.
 fn write(layout: &Layout, counts: Counts, lists: &mut Lists<'_>)
     requires drawn { IsDrawnIfAsked layout.now.laid.plane layout.now.laid.shape layout.now.drawing }
     requires counted { AreCounts (finding_of layout.now) counts }

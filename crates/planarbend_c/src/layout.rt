@@ -23,8 +23,9 @@ use embedding::ReadFault;
 use ortho_rep::Points;
 use std::alloc::{AllocError, Global};
 
-/// Parses a source and lays out its record, with a drawing of this kind or none; the error is the outcome if that
-/// fails.
+/// Parses `source` as one record and returns its layout with the outer face of `choice`, with a drawing of the kind
+/// `kind`, or without one if that is `None`. The error is the outcome: `NotARecord`, `Large`, `Refused` with the first
+/// rule that the record breaks, or `Memory` if memory runs out.
 pub(crate) fn lay_out(
     alloc: Global,
     source: &Source<'_>,
@@ -41,7 +42,8 @@ pub(crate) fn lay_out(
     laid_record(alloc, &mut scratch, &rec, choice, kind)
 }
 
-/// The layout of a record, with this drawing or none.
+/// Returns the layout of a record, with a drawing of the kind `kind`, or without one if that is `None`; works in
+/// `scratch`. `Refused` with the first rule that the record breaks; `Memory` if it breaks none, but memory runs out.
 fn laid_record(
     alloc: Global,
     scratch: &mut RecordScratch,
@@ -58,7 +60,9 @@ fn laid_record(
     Ok(Layout { laid, drawing })
 }
 
-/// The plane of the record with prices and a least shape for this drawing, or for a quick one.
+/// Returns the plane of the record with the chosen outer face, prices and a least shape for a drawing of the kind
+/// `kind`, or for a quick one if that is `None`; works in `scratch`. `Refused` with the first rule that the record
+/// breaks; `Memory` if it breaks none, but memory runs out.
 fn shaped(
     alloc: Global,
     scratch: &mut RecordScratch,
@@ -77,7 +81,8 @@ fn shaped(
     }
 }
 
-/// The drawing of a shaped plane, of the kind that its shape is for, or none if none was asked for.
+/// Returns points that draw the shaped plane, in a drawing of the kind that its shape is for, or `None` if `kind` is
+/// `None`; works in `scratch`. `Memory` if memory runs out.
 fn drawn(
     alloc: Global,
     scratch: &mut RecordScratch,
@@ -113,7 +118,9 @@ pub struct CutLists<'a> {
     pub outer: u32,
 }
 
-/// Writes the marks of the vertices and faces of a cut, and its outer face, to `out`.
+/// Writes the marks of the vertices and faces of the cut of `why`, and its outer face, to `out`. Each list of `out` is
+/// filled with 1 for what is in the cut and 0 in all other places, and keeps its length; marks after its end are left
+/// out.
 pub(crate) fn put_cut(out: &mut CutLists<'_>, why: &Unkept)
     ensures held { HoldsCut why.now (cut_contents out.new) }
     ensures long { AreAsLong (cut_contents out.old) (cut_contents out.new) }
@@ -123,7 +130,8 @@ pub(crate) fn put_cut(out: &mut CutLists<'_>, why: &Unkept)
     out.outer = u32::from(why.outer);
 }
 
-/// Fills `out` with 1 for each mark that is set, and 0 everywhere else; marks after its end are left out.
+/// Fills `out` with 1 for each mark that is set, and 0 everywhere else, also after the last of `marks`; marks after the
+/// end of `out` are left out.
 fn put_marks(out: &mut [u8], marks: &[bool])
     ensures held { HoldsMarks out.new marks.now }
     ensures long { length out.new ≡ length out.old }
@@ -133,10 +141,9 @@ fn put_marks(out: &mut [u8], marks: &[bool])
     }
 }
 
-/// Parses a source and lays out its record so that the conditions are kept, with a drawing of this kind or none; the
-/// error is the outcome if that fails.
-///
-/// If no shape keeps the angles and turns, the cut is written.
+/// Parses `source` as one record and returns its layout under the conditions, with a drawing of the kind `kind`, or
+/// without one if that is `None`. The error is that of `parse` or of `laid_keeping`, such as `Memory` if memory runs
+/// out; if it is `NoShape`, its cut is written to `cut`, which otherwise stays unchanged.
 pub(crate) fn lay_out_keeping(
     alloc: Global,
     source: &Source<'_>,
@@ -159,8 +166,9 @@ pub(crate) fn lay_out_keeping(
     }
 }
 
-/// Lays out a parsed record so that the conditions are kept, with a drawing of this kind or none. The error is the
-/// outcome if that fails; if it is `NoShape`, the cut is written to `cut`.
+/// Returns the layout of a parsed record under the conditions, with a drawing of the kind `kind`, or without one if
+/// that is `None`. `Refused` for a broken rule, the outcome of `unkept` if no shape is found, `Wide` if points would
+/// lie outside the grid, or `Memory`; `NoShape` alone changes `cut`, to its cut.
 fn laid_keeping(
     alloc: Global,
     rec: &Parsed,
@@ -197,8 +205,8 @@ fn laid_keeping(
     }
 }
 
-/// The outcome for the reason why no shape that keeps the conditions was found. If none keeps the angles and turns, the
-/// cut that proves it is written to `cut`.
+/// The outcome for `fault`: `Argument` for `NoAngle` and `TooManyTurns`, and for the others that of the same name. For
+/// `NoShape`, the cut that proves it is written to `cut`, which otherwise stays unchanged.
 fn unkept(fault: KeepFault, cut: &mut CutLists<'_>) -> Outcome
     ensures told { (conditions : Conditions) (choice : Choice) (g : List (List ℕ))
         → IsUnkept conditions choice g fault → IsKeepingFault conditions choice g (cut_contents cut.new) result }

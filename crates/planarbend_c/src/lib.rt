@@ -1,5 +1,5 @@
-//! The call that C makes. It answers one record of planar_code and writes what it finds into lists that the caller owns. It
-//! keeps nothing from call to call, starts no thread, and frees all memory that it takes before it returns.
+//! The call that C makes. It answers one record of planar_code and writes what it finds into lists that the caller
+//! owns. It keeps nothing from call to call, starts no thread, and frees all memory that it takes before it returns.
 #![tactic(auto)]
 
 mod export;

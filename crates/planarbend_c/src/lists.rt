@@ -25,7 +25,8 @@ pub struct Counts {
     pub corners: u32,
 }
 
-/// The counts of a layout, if the number of corners has 32 bits.
+/// The counts of a layout, with 0 corners if it has no drawing; `None` if the number of corners takes more than 32
+/// bits.
 pub(crate) fn counts_of(layout: &Layout) -> Option<Counts>
     requires { IsDrawnIfAsked layout.now.laid.plane layout.now.laid.shape layout.now.drawing }
     ensures { IfSome result (AreCounts (finding_of layout.now)) }
@@ -90,8 +91,8 @@ pub struct Lists<'a> {
 }
 
 impl Lists<'_> {
-    /// Whether each list has room for what is counted, or is left out; those of points and corners matter only if
-    /// `drawn`.
+    /// Whether each list has room for what `counts` counts, or is left out (length 0); those of points, corner starts
+    /// and corners matter only if `drawn` is true.
     pub(crate) fn have_room(&self, counts: &Counts, drawn: bool) -> bool
         ensures { IsTrue result ↔ HaveRoom drawn counts.now (contents self.now) }
     {
@@ -103,7 +104,8 @@ impl Lists<'_> {
             && (!drawn || self.have_point_room(counts))
     }
 
-    /// Whether each list of points and corners has room for what is counted, or is left out.
+    /// Whether each list of points, corner starts and corners has room for what `counts` counts, or is left out (length
+    /// 0).
     fn have_point_room(&self, counts: &Counts) -> bool
         ensures { IsTrue result ↔ HavePointRoom counts.now (contents self.now) }
     {
@@ -113,14 +115,15 @@ impl Lists<'_> {
     }
 }
 
-/// Whether a list of this length has room for `count` items, or is left out.
+/// Whether a list of length `length` has room for `count` items, or is left out (length 0).
 fn has_room(length: usize, count: usize) -> bool
     ensures { IsTrue result ↔ (0 < length → count ≤ length) }
 {
     length == 0 || count <= length
 }
 
-/// Writes points to `out`, in order from its beginning; nothing if `out` is empty.
+/// Writes `points` to `out`, in order from its beginning; nothing if `out` is empty. Otherwise `out` must have room for
+/// all; entries after them stay unchanged.
 pub(crate) fn put_points(out: &mut [GridPoint], points: &[Point])
     requires grid { All IsInGrid points.now }
     requires room { HasRoom out.old (length points.now) }
@@ -135,7 +138,7 @@ pub(crate) fn put_points(out: &mut [GridPoint], points: &[Point])
     }
 }
 
-/// The point, in 16 bits each way.
+/// The same point with coordinates of 16 bits; it must be in the grid.
 fn grid_point(point: Point) -> GridPoint
     requires { IsInGrid point }
     ensures { result ≡ grid_point point }
@@ -146,7 +149,7 @@ fn grid_point(point: Point) -> GridPoint
     }
 }
 
-/// The number of corners of all `edges` edges; `None` if it takes more than 32 bits.
+/// The number of corners of all `edges` edges together; `None` if it takes more than 32 bits.
 pub(crate) fn corner_count(edges: u16, points: &Points) -> Option<u32>
     requires { edges ≡ length points.now.corners }
     ensures { IfSome result (λ count. count ≡ length (all_corners points.now.corners)) }
@@ -158,8 +161,8 @@ pub(crate) fn corner_count(edges: u16, points: &Points) -> Option<u32>
     u32::try_from(count).ok()
 }
 
-/// Writes to `out`, for each edge, how many corners the edges before it have, and at last how many all have; nothing if
-/// `out` is empty.
+/// Writes `edges` + 1 entries to `out`: for each edge, how many corners the edges before it have, and at last how many
+/// all have; nothing if `out` is empty. Otherwise `out` must have room for all; entries after them stay unchanged.
 pub(crate) fn put_corner_starts(out: &mut [u32], edges: u16, points: &Points)
     requires edges { edges ≡ length points.now.corners }
     requires few { length (all_corners points.now.corners) < 2 ^ 32 }
@@ -178,7 +181,8 @@ pub(crate) fn put_corner_starts(out: &mut [u32], edges: u16, points: &Points)
     }
 }
 
-/// Writes the corners of all edges to `out`, one edge after another; nothing if `out` is empty.
+/// Writes the corners of all edges to `out`, one edge after another; nothing if `out` is empty. Otherwise `out` must
+/// have room for all; entries after them stay unchanged.
 pub(crate) fn put_corners(out: &mut [GridPoint], edges: u16, points: &Points)
     requires edges { edges ≡ length points.now.corners }
     requires grid { All (All IsInGrid) points.now.corners }
@@ -197,7 +201,8 @@ pub(crate) fn put_corners(out: &mut [GridPoint], edges: u16, points: &Points)
     }
 }
 
-/// Writes the corners of one edge to `out`, from the index `start` on.
+/// Writes the corners of one edge to `out`, from the index `start` on; `out` must have room for them, and its other
+/// entries stay unchanged.
 fn put_corners_at(out: &mut [GridPoint], start: usize, corners: &[Point])
     requires grid { All IsInGrid corners.now }
     requires room { start + length corners.now ≤ length out.old }
@@ -209,7 +214,8 @@ fn put_corners_at(out: &mut [GridPoint], start: usize, corners: &[Point])
     }
 }
 
-/// Writes the angle of each dart to `out`, in the order of darts; nothing if `out` is empty.
+/// Writes the angle of each dart, in right angles, to `out`, in the order of darts; nothing if `out` is empty.
+/// Otherwise `out` must have room for all; entries after them stay unchanged.
 pub(crate) fn put_angles(out: &mut [u8], plane: &Plane, shape: &Shape)
     requires darts { HasDarts plane.now shape.now }
     requires room { HasRoom out.old (length shape.now.angles) }
@@ -225,6 +231,7 @@ pub(crate) fn put_angles(out: &mut [u8], plane: &Plane, shape: &Shape)
 }
 
 /// Writes to `out` how many left and right turns each dart has, in the order of darts; nothing if `out` is empty.
+/// Otherwise `out` must have room for all; entries after them stay unchanged.
 pub(crate) fn put_turns(out: &mut [DartTurns], plane: &Plane, shape: &Shape)
     requires darts { HasDarts plane.now shape.now }
     requires room { HasRoom out.old (length shape.now.strings) }
@@ -239,7 +246,7 @@ pub(crate) fn put_turns(out: &mut [DartTurns], plane: &Plane, shape: &Shape)
     }
 }
 
-/// How many turns go to each side.
+/// The number of left turns and that of right turns in `turns`.
 fn turns_counted(turns: &[Turn]) -> DartTurns
     requires { length turns.now ≤ MAX_TURNS }
     ensures { result ≡ turns_counted turns.now }
@@ -251,7 +258,8 @@ fn turns_counted(turns: &[Turn]) -> DartTurns
     }
 }
 
-/// Writes the price of each vertex to `out`, in order; nothing if `out` is empty.
+/// Writes the price of each vertex to `out`, that of vertex v at place v - 1; nothing if `out` is empty. Otherwise
+/// `out` must have room for all; entries after them stay unchanged.
 pub(crate) fn put_vertex_prices(out: &mut [i32], plane: &Plane, prices: &Prices)
     requires prices { HasPrices plane.now prices.now }
     requires room { HasRoom out.old (length prices.now.vertices) }
@@ -266,7 +274,8 @@ pub(crate) fn put_vertex_prices(out: &mut [i32], plane: &Plane, prices: &Prices)
     }
 }
 
-/// Writes the price of each face to `out`, in order; nothing if `out` is empty.
+/// Writes the price of each face to `out`, in the order of faces; nothing if `out` is empty. Otherwise `out` must have
+/// room for all; entries after them stay unchanged.
 pub(crate) fn put_face_prices(out: &mut [i32], plane: &Plane, prices: &Prices)
     requires prices { HasPrices plane.now prices.now }
     requires room { HasRoom out.old (length prices.now.faces) }

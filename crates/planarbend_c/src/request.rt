@@ -43,7 +43,7 @@ pub struct Request<'a> {
     pub conditions: Conditions<'a>,
 }
 
-/// Whether there are no conditions.
+/// Whether `conditions` has no conditions: its three lists are empty.
 pub(crate) fn asks_nothing(conditions: &Conditions<'_>) -> bool
     ensures { IsTrue result ↔ AsksNothing conditions.now }
 {
@@ -74,7 +74,7 @@ pub(crate) fn drawing_of(drawing: u32) -> Option<Option<DrawingKind>>
     }
 }
 
-/// The kind of drawing that a shape is for: the one that is asked for, or a quick one if none is.
+/// The kind of drawing that a shape is found for: `kind`, or a quick one if that is `None`.
 pub(crate) fn shape_kind(kind: Option<DrawingKind>) -> DrawingKind
     ensures { result ≡ shape_kind kind }
 {
@@ -111,8 +111,8 @@ pub(crate) enum Outcome {
 }
 
 impl Outcome {
-    /// The number of the outcome for C: 0 if the record is laid out, 1 to 8 the first rule that it breaks, 9 to 18 the
-    /// others.
+    /// The number of the outcome for C: 0 for `Laid`, 1 to 8 for `Refused`, the number of the first rule that the
+    /// record breaks, and 9 to 18 for the others.
     pub(crate) fn code(self) -> u32
         ensures { result ≡ code_of self }
     {
@@ -133,7 +133,7 @@ impl Outcome {
     }
 }
 
-/// The number of a rule, from 1.
+/// The number of a rule, 1 to 8, in the order in which a record must keep them.
 fn number_of(rule: Rule) -> u32
     ensures { result ≡ rule_number rule }
 {
@@ -166,8 +166,8 @@ pub(crate) enum Parsed {
 }
 
 impl Parsed {
-    /// The plane of the record, as [`RecordScratch::embed`]. The error is the first rule that the record breaks, or
-    /// `Memory`.
+    /// Returns the plane of the record, as [`RecordScratch::embed`] does; works in `scratch`. `Rule` with the first
+    /// rule that the record breaks; `Memory` if it breaks none, but memory runs out.
     fn embed(&self, alloc: Global, scratch: &mut RecordScratch) -> Result<Plane, ReadFault>
         ensures { IsEmbedded (parsed_lists self.now) result }
     {
@@ -177,8 +177,9 @@ impl Parsed {
         }
     }
 
-    /// The plane of the record with the chosen outer face, a least shape and its prices, as [`RecordScratch::shape`].
-    /// The error is the first rule that the record breaks, or `Memory`.
+    /// Returns the plane of the record with the chosen outer face, a least shape for this kind of drawing and its
+    /// prices, as [`RecordScratch::shape`] does; works in `scratch`. `Rule` with the first rule that the record breaks;
+    /// `Memory` if it breaks none, but memory runs out.
     pub(crate) fn shape(
         &self,
         alloc: Global,
@@ -193,8 +194,9 @@ impl Parsed {
         scratch.shape(alloc, plane, choice, drawing_kind)
     }
 
-    /// The plane of the record with a least shape that keeps the conditions, as [`RecordScratch::shape_keeping`]. The
-    /// outer error is that of `embed`; the inner one says why no such shape was found.
+    /// Returns the plane of the record with a least shape that keeps the conditions, as
+    /// [`RecordScratch::shape_keeping`] does, whose error is the inner one (also `Memory`); works in `scratch`. The
+    /// outer error is `Rule` with the first rule that the record breaks, or `Memory` if memory runs out.
     pub(crate) fn shape_keeping(
         &self,
         alloc: Global,
@@ -213,8 +215,9 @@ impl Parsed {
     }
 }
 
-/// Parses a source as exactly one record, with entries of 8 or 16 bits; `NotARecord`, `Large` or `Memory` if that
-/// fails.
+/// Returns a copy of `source` as a record, with entries of 8 or 16 bits; `NotARecord` if `source` is not exactly one
+/// record, `Large` if its entries of 16 bits begin with a number of vertices above the maximum, `Memory` if memory runs
+/// out.
 pub(crate) fn parse(alloc: Global, source: &Source<'_>) -> Result<Parsed, Outcome>
     ensures lists { IfOk result (λ rec. parsed_lists rec ≡ input_lists (input_of source.now)) }
     ensures is_record { IfOk result (λ _. IsOneRecord (input_of source.now)) }
@@ -227,7 +230,7 @@ pub(crate) fn parse(alloc: Global, source: &Source<'_>) -> Result<Parsed, Outcom
     }
 }
 
-/// Parses bytes as exactly one record, which owns a copy of them; `NotARecord` if they are none, `Memory` if memory
+/// Returns a record that owns a copy of `bytes`; `NotARecord` if they are not exactly one record, `Memory` if memory
 /// runs out.
 fn parsed_bytes(alloc: Global, bytes: &[u8]) -> Result<Parsed, Outcome>
     ensures lists { IfOk result (λ rec. parsed_lists rec ≡ input_lists (Bytes bytes.now)) }
@@ -241,8 +244,9 @@ fn parsed_bytes(alloc: Global, bytes: &[u8]) -> Result<Parsed, Outcome>
     }
 }
 
-/// Parses entries of 16 bits as exactly one record, which owns a copy of them; `Large` if it has too many vertices,
-/// `NotARecord` if they are none, or `Memory`. More entries than a record can have are not copied.
+/// Returns a record that owns a copy of these entries of 16 bits; `Large` if their number of vertices is above the
+/// maximum, `NotARecord` if they are not exactly one record, `Memory` if memory runs out. More entries than a record
+/// can have are not copied.
 fn parsed_entries(alloc: Global, entries: &[u16]) -> Result<Parsed, Outcome>
     ensures lists { IfOk result (λ rec. parsed_lists rec ≡ input_lists (Entries entries.now)) }
     ensures is_record { IfOk result (λ _. IsOneRecord (Entries entries.now)) }

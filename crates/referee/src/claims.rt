@@ -75,7 +75,7 @@ pub fn false_claim(plane: &Plane, shape: &Shape, claims: &Claims) -> Option<Fals
     None
 }
 
-/// Whether the angles that are claimed, if any, are those of the shape.
+/// Whether the angles that are claimed are those of the shape; true if `claim` is `None`.
 fn angles_hold(shape: &Shape, claim: &Option<Vec<u8>>) -> bool
     requires { length shape.now.angles ≤ MAX_DARTS }
     ensures { IsTrue result ↔ HasAngles shape.now claim.now }
@@ -86,7 +86,7 @@ fn angles_hold(shape: &Shape, claim: &Option<Vec<u8>>) -> bool
     }
 }
 
-/// Whether `angles` are the shape's angles of all darts, in order.
+/// Whether `angles` are the shape's angles of all darts, in order; false if there are more or fewer.
 fn are_angles(shape: &Shape, angles: &[u8]) -> bool
     requires { length shape.now.angles ≤ MAX_DARTS }
     ensures { IsTrue result ↔ (angles.now ≡ shape.now.angles) }
@@ -102,7 +102,7 @@ fn are_angles(shape: &Shape, angles: &[u8]) -> bool
     true
 }
 
-/// Whether the turns that are claimed, if any, are those of the shape.
+/// Whether the turns that are claimed are those of the shape; true if `claim` is `None`.
 fn turns_hold(shape: &Shape, claim: &Option<Vec<Vec<Turn>>>) -> bool
     ensures { IsTrue result ↔ HasTurns shape.now claim.now }
 {
@@ -112,7 +112,7 @@ fn turns_hold(shape: &Shape, claim: &Option<Vec<Vec<Turn>>>) -> bool
     }
 }
 
-/// Whether `strings` are the shape's turns of all darts, in order.
+/// Whether `strings` are the shape's turns of all darts, in order; false if there are more or fewer.
 fn are_turns(shape: &Shape, strings: &[Vec<Turn>]) -> bool
     ensures { IsTrue result ↔ (lists_in strings.now ≡ shape.now.strings) }
 {
@@ -127,7 +127,7 @@ fn are_turns(shape: &Shape, strings: &[Vec<Turn>]) -> bool
     true
 }
 
-/// Whether two strings are equal, turn by turn.
+/// Whether two strings have the same length and are equal, turn by turn.
 fn same_turns(first: &[Turn], second: &[Turn]) -> bool
     ensures { IsTrue result ↔ (first.now ≡ second.now) }
 {
@@ -142,7 +142,7 @@ fn same_turns(first: &[Turn], second: &[Turn]) -> bool
     true
 }
 
-/// Whether the prices that are claimed, if any, prove that the shape has the fewest bends.
+/// Whether the prices that are claimed prove that the shape has the fewest bends; true if `claim` is `None`.
 fn prices_hold(plane: &Plane, shape: &Shape, claim: &Option<Prices>) -> bool
     requires { IsShape plane.now shape.now }
     ensures exact { IsTrue result ↔ IfSome claim.now (IsProof plane.now shape.now) }
@@ -154,7 +154,7 @@ fn prices_hold(plane: &Plane, shape: &Shape, claim: &Option<Prices>) -> bool
     }
 }
 
-/// Whether the number of bends that is claimed, if any, is that of the shape.
+/// Whether the number of bends that is claimed is that of the shape; true if `claim` is `None`.
 fn bends_hold(shape: &Shape, claim: Option<u32>) -> bool
     ensures { IsTrue result ↔ HasBends shape.now claim }
 {
@@ -164,7 +164,7 @@ fn bends_hold(shape: &Shape, claim: Option<u32>) -> bool
     }
 }
 
-/// Whether the outer face that is claimed, if any, is that of the plane.
+/// Whether the outer face that is claimed is that of the plane; true if `claim` is `None`.
 fn outer_holds(plane: &Plane, claim: Option<u16>) -> bool
     ensures { IsTrue result ↔ IfSome claim (λ outer. outer ≡ plane.now.outer) }
 {

@@ -16,8 +16,8 @@ use drawing_check::{Route, is_axis, route_of};
 use faces::Plane;
 use ortho_rep::{MAX_COORDINATE, MAX_TURNS, Point, Points, Shape, add_angles, add_turns};
 
-/// Checks that there is a point for each vertex, and for each edge a list of at most 1,000,000 corners; returns the
-/// first fault.
+/// Checks that there is a point for each vertex, and for each edge a list of at most 1,000,000 corners. The error is
+/// the first of `Vertices`, `Edges` and `Long`, which names the least edge with more.
 pub(crate) fn check_counts(plane: &Plane, points: &Points) -> Result<(), Fault>
     ensures whole { OnOk result (HasBoundedPoints plane.now points.now) }
     ensures refused { OnErr result (¬ HasBoundedPoints plane.now points.now) }
@@ -38,8 +38,8 @@ pub(crate) fn check_counts(plane: &Plane, points: &Points) -> Result<(), Fault>
     Ok(())
 }
 
-/// Checks that all points lie in the grid, those of vertices first, then the corners, edge by edge; returns the first
-/// fault.
+/// Checks that all points lie in the grid, those of vertices first, then the corners, edge by edge. The error names the
+/// first that does not: `VertexOutOfGrid` or `CornerOutOfGrid`.
 pub(crate) fn check_grid(plane: &Plane, points: &Points) -> Result<(), Fault>
     requires { HasBoundedPoints plane.now points.now }
     ensures inside { OnOk result (AreInGrid points.now) }
@@ -50,7 +50,8 @@ pub(crate) fn check_grid(plane: &Plane, points: &Points) -> Result<(), Fault>
     check_corners(plane, points)
 }
 
-/// The first vertex out of the grid, as an error.
+/// Checks that the points of all vertices lie in the grid. The error `VertexOutOfGrid` names the least vertex that does
+/// not, counted from 1.
 fn check_vertices(plane: &Plane, points: &Points) -> Result<(), Fault>
     requires { HasBoundedPoints plane.now points.now }
     ensures inside { OnOk result (All IsInGrid points.now.vertices) }
@@ -66,7 +67,7 @@ fn check_vertices(plane: &Plane, points: &Points) -> Result<(), Fault>
     Ok(())
 }
 
-/// The first corner out of the grid, edge by edge, as an error.
+/// Checks that all corners lie in the grid, edge by edge. The error `CornerOutOfGrid` names the first that does not.
 fn check_corners(plane: &Plane, points: &Points) -> Result<(), Fault>
     requires { HasBoundedPoints plane.now points.now }
     ensures inside { OnOk result (All (All IsInGrid) points.now.corners) }
@@ -79,7 +80,8 @@ fn check_corners(plane: &Plane, points: &Points) -> Result<(), Fault>
     Ok(())
 }
 
-/// The first corner of an edge out of the grid, as an error.
+/// Checks that the corners of the edge with this number lie in the grid. The error `CornerOutOfGrid` names the edge and
+/// the first corner that does not, counted from 0.
 fn check_edge(corners: &[Point], edge: u16) -> Result<(), Fault>
     ensures inside { OnOk result (All IsInGrid corners.now) }
     ensures refused { OnErr result (¬ All IsInGrid corners.now) }
@@ -100,7 +102,8 @@ fn is_in_grid(point: Point) -> bool
     point.x <= MAX_COORDINATE && point.y <= MAX_COORDINATE
 }
 
-/// Checks that each part of each path is parallel to an axis; the fault names the first part that is not, edge by edge.
+/// Checks that each part of each path is parallel to an axis, edge by edge. The error `NotAxis` names the edge and the
+/// first part that is not, both counted from 0.
 pub(crate) fn check_axes(plane: &Plane, points: &Points) -> Result<(), Fault>
     requires { HasBoundedPoints plane.now points.now }
     ensures on_axes { OnOk result (AreOnAxes (paths plane.now points.now)) }
@@ -120,7 +123,8 @@ pub(crate) fn check_axes(plane: &Plane, points: &Points) -> Result<(), Fault>
     Ok(())
 }
 
-/// Checks that each part of the path of this edge is parallel to an axis; the fault names the first part that is not.
+/// Checks that each part of the path of this edge is parallel to an axis. The error `NotAxis` names the edge and the
+/// first part that is not, counted from 0.
 fn check_route(route: &Route<'_>, edge: u16) -> Result<(), Fault>
     ensures on_axes { OnOk result (IsOnAxes (path_of route.now)) }
     ensures refused { OnErr result (¬ IsOnAxes (path_of route.now)) }
@@ -134,8 +138,9 @@ fn check_route(route: &Route<'_>, edge: u16) -> Result<(), Fault>
     Ok(())
 }
 
-/// Checks that the angles round each vertex sum to four quarters; the fault names the first vertex where they do not.
-/// Adds them up in `sums`, which must be all 0.
+/// Checks that the angles round each vertex sum to four quarters. The error `Embedding` names the least vertex where
+/// they do not. The angles are added up in `sums`, all 0 at first, with one item more than vertices: item v is for
+/// vertex v.
 pub(crate) fn check_embedding(plane: &Plane, shape: &Shape, sums: &mut [u32]) -> Result<(), Fault>
     requires darts { HasDarts plane.now shape.now }
     requires clear { sums.old ≡ replicate (vertices plane.now + 1) 0 }
@@ -152,8 +157,8 @@ pub(crate) fn check_embedding(plane: &Plane, shape: &Shape, sums: &mut [u32]) ->
     Ok(())
 }
 
-/// The first face whose darts turn once to the right; the fault `Outer` if there is none. Adds turns up in the two
-/// lists, which must be all 0.
+/// The least face whose darts turn once to the right, by four more quarter turns than to the left; the error `Outer` if
+/// there is none. The turns of each face are added up in `left_sums` and `right_sums`, which must be all 0.
 pub(crate) fn find_outer(
     plane: &Plane,
     shape: &Shape,

@@ -61,6 +61,7 @@ pub enum Fault {
 impl From<AllocError> for Fault {
     ghost from_gives = { λ _ fault. fault ≡ Memory };
 
+    /// Converts an `AllocError` to the fault `Memory`. It never fails, and allocates nothing.
     fn from(_refused: AllocError) -> Fault {
         Fault::Memory
     }
@@ -99,7 +100,7 @@ pub(crate) struct Sums {
 }
 
 impl Sums {
-    /// No sums; nothing is allocated.
+    /// Empty lists of sums. It allocates nothing.
     fn empty(alloc: Global) -> Sums {
         Sums {
             vertices: Vec::new(alloc),
@@ -108,7 +109,8 @@ impl Sums {
         }
     }
 
-    /// Makes each sum 0, one for each vertex and face of a plane.
+    /// Makes each sum 0, with lists as long as `plane` needs: one item for each face, and one more than vertices.
+    /// `AllocError` if there is no memory; some lists may then be too short.
     pub(crate) fn begin(&mut self, plane: &Plane) -> Result<(), AllocError>
         ensures vertices { OnOk result (self.new.vertices.items ≡ replicate (vertices plane.now + 1) 0) }
         ensures lefts { OnOk result (self.new.lefts.items ≡ replicate plane.now.faces 0) }
@@ -126,7 +128,8 @@ impl Sums {
 }
 
 /// The minimum number of bends of an orthogonal representation of this plane with its outer face. It computes such a
-/// representation, and reuses the scratch.
+/// representation, and overwrites the buffers of `scratch`. `AllocError` if there is no memory; some of the buffers may
+/// then be gone.
 ///
 /// # Errors
 ///
@@ -149,15 +152,16 @@ pub struct Judged {
     pub drawing: Drawing,
 }
 
-/// Checks that points draw a plane's embedding; returns drawing and shape, and makes the outer face of the drawing that
-/// of the plane. The plane's outer face may also have changed if a fault is returned.
+/// Consumes `points` and returns their drawing and shape if they draw the embedding of `plane`, whose outer face
+/// becomes that of the drawing. If not, the first fault, or `Memory` if memory runs out; the outer face of `plane` may
+/// have changed then, too. The buffers of `scratch` are overwritten.
 ///
 /// The points determine the outer face of the drawing, which becomes that of the plane, and the representation.
 ///
 /// # Errors
 ///
-/// The first condition that fails, at the first place where it fails; then they draw no representation of the embedding.
-/// `Memory` says nothing of the points.
+/// The first condition that fails, at the first place where it fails; then the points draw no representation of the
+/// embedding. `Memory` says nothing of the points.
 pub fn judge_in(
     alloc: Global,
     scratch: &mut Scratch,
@@ -195,7 +199,8 @@ pub fn judge_in(
     }
 }
 
-/// `Memory` if memory ran out, and otherwise `Meet`: no other condition can fail if the shape is that of the points.
+/// The fault `Memory` if `fault` says that memory ran out, and otherwise `Meet`: no other condition can fail if the
+/// shape is that of the points. It allocates nothing.
 fn meeting(fault: CheckFault) -> Fault
     ensures real { result ≢ Fault.Memory → fault ≢ CheckFault.Memory }
     ensures kind { result ≢ Fault.Memory → result ≡ Fault.Meet }

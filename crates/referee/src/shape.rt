@@ -23,7 +23,8 @@ use geometry::Direction;
 use ortho_rep::{Points, Shape, Turn};
 use std::alloc::{AllocError, Global};
 
-/// Writes the direction in which each dart leaves its tail over a list.
+/// Writes the direction in which each dart leaves its tail over the items of `directions`, at the place of the dart's
+/// number. There must be at least as many items as darts; those after them stay.
 pub(crate) fn list_directions(plane: &Plane, points: &Points, directions: &mut [Direction])
     requires whole { HasBoundedPoints plane.now points.now }
     requires room { darts plane.now ≤ length directions.old }
@@ -45,7 +46,8 @@ pub(crate) fn list_directions(plane: &Plane, points: &Points, directions: &mut [
     }
 }
 
-/// The turns of all darts, a new list for each; the fault `NoTurn` at the first corner where a path does not turn.
+/// The turns of all darts, in order, a new list for each. The fault `NoTurn` names the first corner, edge by edge,
+/// where a path does not turn; `Memory` if memory runs out.
 pub(crate) fn list_turns(
     alloc: Global,
     plane: &Plane,
@@ -76,7 +78,7 @@ pub(crate) fn list_turns(
 }
 
 /// The turns of a dart as a new list: read from its path or, if `strings` has those of its reverse, mirrored from them.
-/// The fault `NoTurn` names the first corner where the path does not turn.
+/// The fault `NoTurn` names the first corner where the path does not turn; `Memory` if memory runs out.
 fn string_of(
     alloc: Global,
     plane: &Plane,
@@ -109,7 +111,8 @@ fn string_of(
     Ok(string)
 }
 
-/// The turns at the corners of the path of this edge; the fault `NoTurn` at the first corner where it does not turn.
+/// The turns at the corners of the path of this edge, in walking order, as a new list. The fault `NoTurn` names the
+/// edge and the first corner where the path does not turn; `Memory` if memory runs out.
 fn turns_along(alloc: Global, route: &Route<'_>, edge: u16) -> Result<Vec<Turn>, Fault>
     requires { length route.now.corners.now ≤ MAX_TURNS }
     ensures turning { IfOk result (λ turns. IsTurning (path_of route.now) turns.items) }
@@ -130,7 +133,7 @@ fn turns_along(alloc: Global, route: &Route<'_>, edge: u16) -> Result<Vec<Turn>,
     Ok(turns)
 }
 
-/// The quarter turn from one direction to another, if it is one.
+/// The quarter turn from the direction `heading` to the direction `onward`; `None` if they are the same or opposite.
 fn turn_between(heading: Direction, onward: Direction) -> Option<Turn>
     ensures some { IfSome result (λ turn. onward ≡ turned turn heading) }
     ensures none { IfNone result ((turn : Turn) → onward ≢ turned turn heading) }
@@ -145,7 +148,7 @@ fn turn_between(heading: Direction, onward: Direction) -> Option<Turn>
     None
 }
 
-/// These turns, read backwards with left and right exchanged.
+/// A new list of these turns, read backwards with left and right exchanged. `AllocError` if there is no memory.
 fn mirror(alloc: Global, turns: &[Turn]) -> Result<Vec<Turn>, AllocError>
     ensures mirrored { IfOk result (λ back. back.items ≡ mirrored turns.now) }
     ensures count { IfOk result (λ back. vec_len back ≡ length turns.now) }
@@ -157,7 +160,7 @@ fn mirror(alloc: Global, turns: &[Turn]) -> Result<Vec<Turn>, AllocError>
     Ok(back)
 }
 
-/// The turn to the other side.
+/// The turn to the other side: right for left, and left for right.
 fn opposite(turn: Turn) -> Turn
     ensures { result ≡ opposite turn }
 {
@@ -167,7 +170,7 @@ fn opposite(turn: Turn) -> Turn
     }
 }
 
-/// Adds an item to a list.
+/// Appends `item` to `list`. `AllocError` if there is no memory; `list` is then unchanged, and `item` is dropped.
 pub(crate) fn add<T: Drop>(list: &mut Vec<T>, item: T) -> Result<(), AllocError>
     ensures { OnOk result (list.new.items ≡ list.old.items ++ item ∷ []) }
 {
@@ -175,8 +178,9 @@ pub(crate) fn add<T: Drop>(list: &mut Vec<T>, item: T) -> Result<(), AllocError>
     Ok(())
 }
 
-/// The shape of these points; the fault `NoTurn` if a path does not turn at a corner. Overwrites `directions` with the
-/// direction in which each dart leaves its tail.
+/// The shape of these points, in new lists. The fault `NoTurn` names the first corner, edge by edge, where a path does
+/// not turn; `Memory` if memory runs out. Overwrites `directions` with the direction in which each dart leaves its
+/// tail; after a fault its items mean nothing.
 pub(crate) fn shape_of(
     alloc: Global,
     directions: &mut Vec<Direction>,
@@ -199,7 +203,8 @@ pub(crate) fn shape_of(
     Ok(Shape::new(angles, strings))
 }
 
-/// The angles of all darts, if they leave their tails in these directions.
+/// A new list of the angles at the heads of all darts, in order, in right angles from 1 to 4, if the darts leave their
+/// tails in these directions. `AllocError` if there is no memory.
 fn list_angles(
     alloc: Global,
     plane: &Plane,
@@ -221,7 +226,7 @@ fn list_angles(
     Ok(angles)
 }
 
-/// How many quarters to the left of one direction another is, 4 if they are the same.
+/// How many quarter turns to the left of `from` the direction `to` is: 1 to 3, or 4 if they are the same.
 fn angle_between(from: Direction, to: Direction) -> u8
     ensures value { to ≡ left_quarters result from }
     ensures some { 1 ≤ result }

@@ -30,7 +30,7 @@ pub enum Cause {
 impl Cause {
     ghost use Rattle.reports.specs.CauseWords.{word_of};
 
-    /// The word for the cause in reports.
+    /// The word for the cause in reports and JSON lines: `wide`, `outofgrid`, `notaxis`, `wrongturn` or `meet`.
     pub fn word(self) -> &'static str
         ensures { result.now ≡ word_of self }
     {
@@ -81,10 +81,12 @@ pub struct Entry {
 impl Numbered for Entry {
     ghost about = { λ e. record { file = e.file; ordinal = e.ordinal; bytes = e.rec; choice = e.choice } };
 
+    /// The index of the record's file, from 0.
     fn file(&self) -> u32 {
         self.file
     }
 
+    /// The index of the record in its file, from 0.
     fn ordinal(&self) -> u32 {
         self.ordinal
     }

@@ -43,7 +43,7 @@ impl Model for Book {
 }
 
 impl Book {
-    /// The book with these entries and this mark.
+    /// The book with these entries, one for each record in the order of the file, and this mark.
     pub fn new(entries: Vec<Entry>, mark: Mark) -> Book
         ensures { result ≡ record { entries = entries.items; mark = mark } }
     {
@@ -86,7 +86,7 @@ impl Model for Batch {
 }
 
 impl Batch {
-    /// The batch with these books.
+    /// The batch with these books, one for each file, in order; there may be at most `MAX_FILES` of them.
     pub fn new(books: Vec<Book>) -> Batch
         requires { vec_len books ≤ MAX_FILES }
         ensures { result ≡ books.items }
@@ -102,7 +102,7 @@ impl Batch {
         self.books.len() as u32
     }
 
-    /// The book of the file with this index.
+    /// The book of the file with the index `file`, from 0, which must be below the number of files.
     pub fn book(&self, file: u32) -> &Book
         requires { file < length self.now }
         ensures { (other : BookModel) → result.now ≡ slice_index_or self.now file other }
@@ -111,8 +111,8 @@ impl Batch {
     }
 }
 
-/// The batch with a book for each draft, in order. It consumes the drafts, each of which must hold all entries and the
-/// mark of its file.
+/// The batch with a book for each of `drafts`, in order. It consumes the drafts, each of which must hold all entries
+/// and the mark of its file. `AllocError` if there is no memory for the list of books; the drafts are then dropped.
 ///
 /// # Errors
 ///
@@ -131,7 +131,7 @@ pub fn books_of(alloc: Global, drafts: Vec<Draft<Entry>>) -> Result<Batch, Alloc
     Ok(Batch::new(books))
 }
 
-/// The book of a draft with a mark.
+/// The book with the entries and the mark of a draft, which it consumes. The draft must have a mark.
 fn book_of(draft: Draft<Entry>) -> Book
     requires { IsSome draft.mark }
     ensures { (mark : Mark) → draft.mark ≡ Some mark → result ≡ record { entries = draft.entries.items; mark = mark } }
@@ -147,7 +147,7 @@ pub fn status_of(mark: Mark) -> u8
     if is_complete(mark) { 0 } else { 3 }
 }
 
-/// Whether a file ended complete.
+/// Whether a file with this mark ended complete.
 fn is_complete(mark: Mark) -> bool
     ensures { IsTrue result ↔ (mark ≡ Mark.Ended Ending.Complete) }
 {

@@ -30,7 +30,8 @@ const LAID_ROOM: usize = 256;
 /// The initial capacity for each dart, in bytes: an angle, turns, prices and points.
 const DART_ROOM: usize = 16;
 
-/// The JSON line of an entry, with a newline (byte 0A) at its end; `file` and `graph` are the numbers to print.
+/// The JSON line of an entry, with a newline (byte 0A) at its end; `file` and `graph` are the numbers to print,
+/// whatever the indices in the entry. `AllocError` if there is no memory for the line.
 ///
 /// It takes a few allocations.
 ///
@@ -48,7 +49,8 @@ pub fn entry_line(
     answer_line(alloc, file, graph, &entry.answer)
 }
 
-/// The JSON line of an answer to some record, with a newline at its end; `file` and `graph` are the numbers to print.
+/// The JSON line of an answer to some record, with a newline (byte 0A) at its end; `file` and `graph` are the numbers
+/// to print. `AllocError` if there is no memory for the line.
 ///
 /// It takes a few allocations.
 ///
@@ -86,7 +88,7 @@ pub fn answer_line(
     }
 }
 
-/// The points of a drawing, or the cause why there is none.
+/// The points of a drawing, or as the error the cause why there is none.
 fn points_of(drawing: &Result<Drawing, Cause>) -> Result<&Points, Cause>
     ensures { points_in result ≡ drawing.now }
 {
@@ -96,9 +98,10 @@ fn points_of(drawing: &Result<Drawing, Cause>) -> Result<&Points, Cause>
     }
 }
 
-/// The JSON line of a graph that has no answer because memory ran out, with a newline (byte 0A) at its end.
+/// The JSON line of a graph that has no answer because memory ran out, with a newline (byte 0A) at its end; `file` and
+/// `graph` are the numbers to print. `AllocError` if there is no memory for this line.
 ///
-/// `file` and `graph` are the numbers to print. It takes a few allocations.
+/// It takes a few allocations.
 ///
 /// # Errors
 ///
@@ -113,7 +116,8 @@ pub fn lacking_line(alloc: Global, file: u32, graph: u64) -> Result<Vec<u8>, All
     Ok(out)
 }
 
-/// The JSON line of a graph whose record breaks this rule.
+/// The JSON line of a graph whose record breaks `rule`, with a newline (byte 0A) at its end; `file` and `graph` are the
+/// numbers to print. `AllocError` if there is no memory for the line.
 fn refused_line(alloc: Global, file: u32, graph: u64, rule: Rule) -> Result<Vec<u8>, AllocError>
     ensures { IfOk result (λ line. line.items ≡ line_of (answer_data file graph (Refused rule))) }
 {
@@ -137,9 +141,10 @@ pub struct LaidGraph<'a> {
     pub drawing: Result<&'a Points, Cause>,
 }
 
-/// The JSON line of a graph that breaks no rule, with a newline (byte 0A) at its end.
+/// The JSON line of a graph that breaks no rule, with a newline (byte 0A) at its end; `file` and `graph` are the
+/// numbers to print. `AllocError` if there is no memory for the line.
 ///
-/// `file` and `graph` are the numbers to print. It takes a few allocations.
+/// It takes a few allocations.
 ///
 /// # Errors
 ///
@@ -167,9 +172,10 @@ pub fn laid_line(
     Ok(out)
 }
 
-/// The JSON line of the end of a file, with a newline (byte 0A): the word of its mark and its number of graphs.
+/// The JSON line of the end of a file, with a newline (byte 0A) at its end: the word of its mark and its number of
+/// graphs; `file` is the number to print. `AllocError` if there is no memory for the line.
 ///
-/// `file` is the number to print. It takes a few allocations.
+/// It takes a few allocations.
 ///
 /// # Errors
 ///
@@ -186,7 +192,8 @@ pub fn end_line(alloc: Global, file: u32, mark: Mark, graphs: u64) -> Result<Vec
     Ok(out)
 }
 
-/// Writes a batch as JSON lines: for each file a line for each entry and one for its mark.
+/// Writes a batch to `sink` as JSON lines: for each file a line for each entry and one for its mark. `Write` exactly if
+/// `sink` has then failed, `Memory` if there is no memory for a line; `sink` has then taken a prefix of the text.
 ///
 /// Each line is the text of a JSON object without spaces. Files and entries are numbered from 1. The lines are
 /// buffered, so that short ones need few writes.
@@ -208,8 +215,9 @@ pub fn write_json<S: Sink>(alloc: Global, batch: &Batch, sink: &mut S) -> Result
     lines.flush(sink)
 }
 
-/// Adds the JSON lines of a book to the buffer `lines`, which is written to the sink each time it is nearly full;
-/// `file` is the number to print.
+/// Appends the JSON lines of a book to `lines`, written to `sink` each time it is nearly full; `file` is the number to
+/// print. `Write` exactly if `sink` has then failed, `Memory` if there is no memory for a line; `sink` has then taken a
+/// prefix of the text in `lines` and the new one.
 fn write_book<S: Sink>(
     alloc: Global,
     lines: &mut TextBuffer,
@@ -226,8 +234,9 @@ fn write_book<S: Sink>(
     write_end(alloc, lines, sink, file, book.mark(), entries.len() as u64)
 }
 
-/// Adds the JSON line of each entry to the buffer `lines`, which is written to the sink each time it is nearly full;
-/// entries are numbered from 1.
+/// Appends the JSON line of each entry to `lines`, written to `sink` each time it is nearly full; entries are numbered
+/// from 1. `Write` exactly if `sink` has then failed, `Memory` if there is no memory for a line; `sink` has then taken
+/// a prefix of the text in `lines` and the new one.
 fn write_entries<S: Sink>(
     alloc: Global,
     lines: &mut TextBuffer,
@@ -245,7 +254,9 @@ fn write_entries<S: Sink>(
     Ok(())
 }
 
-/// Adds the JSON line of one entry to the buffer `lines`, which is written to the sink each time it is nearly full.
+/// Appends the JSON line of one entry to `lines`, written to `sink` each time it is nearly full; `file` and `graph` are
+/// the numbers to print. `Write` exactly if `sink` has then failed, `Memory` if there is no memory for a line; `sink`
+/// has then taken a prefix of the text in `lines` and the new one.
 fn write_entry<S: Sink>(
     alloc: Global,
     lines: &mut TextBuffer,
@@ -264,8 +275,9 @@ fn write_entry<S: Sink>(
     }
 }
 
-/// Adds the JSON line of a file's end, with its mark and its number of graphs, to the buffer `lines`, which is written
-/// to the sink each time it is nearly full.
+/// Appends the JSON line of a file's end, with its mark and `count` of graphs, to `lines`, written to `sink` each time
+/// it is nearly full. `Write` exactly if `sink` has then failed, `Memory` if there is no memory for a line; `sink` has
+/// then taken a prefix of the text in `lines` and the new one.
 fn write_end<S: Sink>(
     alloc: Global,
     lines: &mut TextBuffer,

@@ -18,7 +18,8 @@ use faces::Plane;
 use ortho_rep::{Point, Points, Prices, Shape};
 use std::alloc::AllocError;
 
-/// Appends a JSON array of the angles of the shape, in the order of darts.
+/// Appends a JSON array of the angles of the shape, in the order of darts, to `out`. `AllocError` if memory runs out;
+/// `out` may then end in a part of the text.
 pub(crate) fn put_angles(out: &mut Vec<u8>, plane: &Plane, shape: &Shape) -> Result<(), AllocError>
     requires { HasDarts plane.now shape.now }
     ensures { OnOk result (out.new.items ≡ out.old.items ++ compact_text (array_of natural shape.now.angles)) }
@@ -30,7 +31,8 @@ pub(crate) fn put_angles(out: &mut Vec<u8>, plane: &Plane, shape: &Shape) -> Res
     bytes(out, b"]")
 }
 
-/// Appends a JSON array of the turns: for each dart a string of letters `L` and `R`.
+/// Appends a JSON array of the turns to `out`: for each dart, in order, a string of letters `L` and `R`. `AllocError`
+/// if memory runs out; `out` may then end in a part of the text.
 pub(crate) fn put_turns(out: &mut Vec<u8>, shape: &Shape) -> Result<(), AllocError>
     ensures { OnOk result (out.new.items ≡ out.old.items ++ compact_text (array_of turns_data shape.now.strings)) }
 {
@@ -41,7 +43,8 @@ pub(crate) fn put_turns(out: &mut Vec<u8>, shape: &Shape) -> Result<(), AllocErr
     bytes(out, b"]")
 }
 
-/// Appends a JSON array of the prices of the vertices, in order.
+/// Appends a JSON array of the prices of the vertices, in order, to `out`. `AllocError` if memory runs out; `out` may
+/// then end in a part of the text.
 pub(crate) fn put_vertex_prices(
     out: &mut Vec<u8>,
     plane: &Plane,
@@ -57,7 +60,8 @@ pub(crate) fn put_vertex_prices(
     bytes(out, b"]")
 }
 
-/// Appends a JSON array of the prices of the faces, in order. If memory runs out, a part may have been appended.
+/// Appends a JSON array of the prices of the faces, in order, to `out`. `AllocError` if memory runs out; `out` may then
+/// end in a part of the text.
 pub(crate) fn put_face_prices(
     out: &mut Vec<u8>,
     plane: &Plane,
@@ -73,8 +77,9 @@ pub(crate) fn put_face_prices(
     bytes(out, b"]")
 }
 
-/// Appends a JSON array with an array of corners for each of the first `edges` edges, in order; an edge without a list
-/// of corners gets an empty one.
+/// Appends to `out` a JSON array with an array of corners for each of the first `edges` edges, in order; an edge
+/// without a list of corners gets an empty one. `AllocError` if memory runs out; `out` may then end in a part of the
+/// text.
 pub(crate) fn put_corners(out: &mut Vec<u8>, points: &Points, edges: u16) -> Result<(), AllocError>
     ensures { OnOk result (out.new.items
         ≡ out.old.items ++ compact_text (array_of (corners_data points.now) (range_with_len 0 edges))) }
@@ -86,8 +91,8 @@ pub(crate) fn put_corners(out: &mut Vec<u8>, points: &Points, edges: u16) -> Res
     bytes(out, b"]")
 }
 
-/// Appends the corners of one edge as a JSON array, after a comma if `later`; it is empty if `points` has no list for
-/// the edge.
+/// Appends the corners of one edge to `out` as a JSON array, after a comma if `later`; the array is empty if `points`
+/// has no list for the edge. `AllocError` if memory runs out; `out` may then end in a part of the text.
 fn put_edge(out: &mut Vec<u8>, later: bool, points: &Points, edge: u16) -> Result<(), AllocError>
     ensures { OnOk result (out.new.items ≡ out.old.items ++ (comma_if later ++ compact_text (corners_data points.now edge))) }
 {
@@ -99,7 +104,7 @@ fn put_edge(out: &mut Vec<u8>, later: bool, points: &Points, edge: u16) -> Resul
     put_points(out, corners)
 }
 
-/// The corners of an edge; empty if `points` has no list for the edge.
+/// The corners of an edge, in the order of `points`; empty if `points` has no list for the edge.
 fn corners_of(points: &Points, edge: u16) -> &[Point]
     ensures { result.now ≡ corners_at points.now edge }
 {
@@ -110,7 +115,8 @@ fn corners_of(points: &Points, edge: u16) -> &[Point]
     }
 }
 
-/// Appends a JSON array of these points, in order.
+/// Appends a JSON array of these points, in order, to `out`. `AllocError` if memory runs out; `out` may then end in a
+/// part of the text.
 pub(crate) fn put_points(out: &mut Vec<u8>, points: &[Point]) -> Result<(), AllocError>
     ensures { OnOk result (out.new.items ≡ out.old.items ++ compact_text (array_of point_data points.now)) }
 {
@@ -123,7 +129,8 @@ pub(crate) fn put_points(out: &mut Vec<u8>, points: &[Point]) -> Result<(), Allo
     bytes(out, b"]")
 }
 
-/// Appends `{` and the members `angles`, `bends`, `drawn` and `f` of a graph's JSON object.
+/// Appends `{` and the members `angles`, `bends`, `drawn` and `f` (the number of faces) of a graph's JSON object to
+/// `out`. `AllocError` if memory runs out; `out` may then end in a part of the text.
 pub(crate) fn put_shape(
     out: &mut Vec<u8>,
     plane: &Plane,
@@ -144,7 +151,8 @@ pub(crate) fn put_shape(
     natural_at(out, b",\"f\":", u64::from(plane.face_count()))
 }
 
-/// Appends `key` as given, with its punctuation, and then a number in decimal.
+/// Appends `key` as given, with its punctuation, and then a number in decimal to `out`. `AllocError` if memory runs
+/// out; `out` may then end in a part of the text.
 pub(crate) fn natural_at(out: &mut Vec<u8>, key: &[u8], number: u64) -> Result<(), AllocError>
     ensures { OnOk result (out.new.items ≡ out.old.items ++ (key.now ++ decimal number)) }
 {
@@ -152,7 +160,8 @@ pub(crate) fn natural_at(out: &mut Vec<u8>, key: &[u8], number: u64) -> Result<(
     natural(out, false, number)
 }
 
-/// Appends a comma and the member `drawn`: `yes`, or the word of the cause why there is no drawing.
+/// Appends a comma and the member `drawn` to `out`: `yes`, or the word of the cause why there is no drawing.
+/// `AllocError` if memory runs out; `out` may then end in a part of the text.
 fn put_drawn(out: &mut Vec<u8>, drawing: Result<&Points, Cause>) -> Result<(), AllocError>
     ensures { OnOk result (out.new.items ≡ out.old.items ++ 44 ∷ member_text (codes "drawn") (drawn_data (points_in drawing.entry))) }
 {
@@ -166,7 +175,8 @@ fn put_drawn(out: &mut Vec<u8>, drawing: Result<&Points, Cause>) -> Result<(), A
     }
 }
 
-/// Appends a comma and the members `file` and `graph`, with these numbers.
+/// Appends a comma and the members `file` and `graph`, with these numbers, to `out`. `AllocError` if memory runs out;
+/// `out` may then end in a part of the text.
 pub(crate) fn put_place(out: &mut Vec<u8>, file: u32, graph: u64) -> Result<(), AllocError>
     ensures { OnOk result (out.new.items ≡ out.old.items
         ++ 44 ∷ (member_text (codes "file") (natural file) ++ 44 ∷ member_text (codes "graph") (natural graph))) }
@@ -175,7 +185,8 @@ pub(crate) fn put_place(out: &mut Vec<u8>, file: u32, graph: u64) -> Result<(), 
     natural_at(out, b",\"graph\":", graph)
 }
 
-/// Appends a comma and the members `m` and `n`, with the numbers of edges and of vertices.
+/// Appends a comma and the members `m` and `n`, with the numbers of edges and of vertices, to `out`. `AllocError` if
+/// memory runs out; `out` may then end in a part of the text.
 pub(crate) fn put_sizes(out: &mut Vec<u8>, plane: &Plane) -> Result<(), AllocError>
     ensures { OnOk result (out.new.items ≡ out.old.items
         ++ 44 ∷ (member_text (codes "m") (natural (darts plane.now / 2)) ++ 44 ∷ member_text (codes "n") (natural (vertices plane.now)))) }
@@ -184,8 +195,8 @@ pub(crate) fn put_sizes(out: &mut Vec<u8>, plane: &Plane) -> Result<(), AllocErr
     natural_at(out, b",\"n\":", u64::from(plane.graph().vertices()))
 }
 
-/// Appends a comma and the member `points`: the corners of the first `edges` edges and the points of the vertices, or
-/// null if there is no drawing.
+/// Appends a comma and the member `points` to `out`: the corners of the first `edges` edges and the points of the
+/// vertices, or null if there is no drawing. `AllocError` if memory runs out; `out` may then end in a part of the text.
 pub(crate) fn put_drawing(
     out: &mut Vec<u8>,
     edges: u16,
@@ -199,7 +210,8 @@ pub(crate) fn put_drawing(
     }
 }
 
-/// Appends a comma and the member `points`: the corners of the first `edges` edges and the points of the vertices.
+/// Appends a comma and the member `points` to `out`: the corners of the first `edges` edges and the points of the
+/// vertices. `AllocError` if memory runs out; `out` may then end in a part of the text.
 fn put_drawn_points(out: &mut Vec<u8>, edges: u16, points: &Points) -> Result<(), AllocError>
     ensures { OnOk result (out.new.items ≡ out.old.items ++ 44 ∷ member_text (codes "points") (points_data edges (Drawn points.now))) }
 {
@@ -210,7 +222,8 @@ fn put_drawn_points(out: &mut Vec<u8>, edges: u16, points: &Points) -> Result<()
     bytes(out, b"}")
 }
 
-/// Appends a comma and the member `prices`, with the prices of the faces and of the vertices.
+/// Appends a comma and the member `prices`, with the prices of the faces and of the vertices, to `out`. `AllocError` if
+/// memory runs out; `out` may then end in a part of the text.
 pub(crate) fn put_prices(
     out: &mut Vec<u8>,
     plane: &Plane,
@@ -226,7 +239,8 @@ pub(crate) fn put_prices(
     bytes(out, b"}")
 }
 
-/// Appends a comma, the members `status` (`ok`) and `turns`, and the `}` that ends a graph's JSON object.
+/// Appends a comma, the members `status` (`ok`) and `turns`, and the `}` that ends a graph's JSON object to `out`.
+/// `AllocError` if memory runs out; `out` may then end in a part of the text.
 pub(crate) fn put_end(out: &mut Vec<u8>, shape: &Shape) -> Result<(), AllocError>
     ensures { OnOk result (out.new.items ≡ out.old.items
         ++ 44 ∷ (member_text (codes "status") (string (codes "ok"))

@@ -7,14 +7,15 @@ use itoa::Buffer;
 use ortho_rep::{Point, Turn};
 use std::alloc::AllocError;
 
-/// Appends these bytes.
+/// Appends `bytes` to `out`. `AllocError` if there is no memory; `out` is then unchanged.
 pub(crate) fn bytes(out: &mut Vec<u8>, bytes: &[u8]) -> Result<(), AllocError>
     ensures { OnOk result (out.new.items ≡ out.old.items ++ bytes.now) }
 {
     out.extend_from_slice(bytes)
 }
 
-/// Appends a comma if `later`, that is, if an element was written before.
+/// Appends a comma to `out` if `later`, that is, if an element was written before; otherwise nothing. `AllocError` if
+/// there is no memory; `out` is then unchanged.
 pub(crate) fn comma(out: &mut Vec<u8>, later: bool) -> Result<(), AllocError>
     ensures { OnOk result (out.new.items ≡ out.old.items ++ comma_if later) }
 {
@@ -24,7 +25,8 @@ pub(crate) fn comma(out: &mut Vec<u8>, later: bool) -> Result<(), AllocError>
     Ok(())
 }
 
-/// Appends a nonnegative number, after a comma if `later`.
+/// Appends a nonnegative number to `out` in decimal, after a comma if `later`. `AllocError` if memory runs out; `out`
+/// may then end in a part of the text.
 #[inline]
 pub(crate) fn natural(out: &mut Vec<u8>, later: bool, number: u64) -> Result<(), AllocError>
     ensures { OnOk result (out.new.items ≡ out.old.items ++ (comma_if later ++ decimal number)) }
@@ -35,7 +37,8 @@ pub(crate) fn natural(out: &mut Vec<u8>, later: bool, number: u64) -> Result<(),
     digits(out, later, number)
 }
 
-/// Appends a nonnegative number of any length, after a comma if `later`.
+/// Appends a nonnegative number of any length to `out` in decimal, after a comma if `later`. `AllocError` if memory
+/// runs out; `out` may then end in a part of the text.
 fn digits(out: &mut Vec<u8>, later: bool, number: u64) -> Result<(), AllocError>
     ensures { OnOk result (out.new.items ≡ out.old.items ++ (comma_if later ++ decimal number)) }
 {
@@ -44,7 +47,8 @@ fn digits(out: &mut Vec<u8>, later: bool, number: u64) -> Result<(), AllocError>
     out.extend_from_slice(buffer.format(number).as_bytes())
 }
 
-/// Appends a nonnegative number of one digit, after a comma if `later`.
+/// Appends a nonnegative number, which must have one digit, to `out`, after a comma if `later`. `AllocError` if there
+/// is no memory; `out` is then unchanged.
 #[inline]
 #[tactic(auto, using(std::proofs::lemmas::Fmt::decimal_digit))]
 fn digit(out: &mut Vec<u8>, later: bool, number: u8) -> Result<(), AllocError>
@@ -59,7 +63,8 @@ fn digit(out: &mut Vec<u8>, later: bool, number: u8) -> Result<(), AllocError>
     }
 }
 
-/// Appends an integer, after a comma if `later`.
+/// Appends an integer to `out` in decimal, after a comma if `later`. `AllocError` if memory runs out; `out` may then
+/// end in a part of the text.
 pub(crate) fn integer(out: &mut Vec<u8>, later: bool, number: i32) -> Result<(), AllocError>
     ensures { OnOk result (out.new.items ≡ out.old.items ++ (comma_if later ++ compact_text (integer number))) }
 {
@@ -69,7 +74,8 @@ pub(crate) fn integer(out: &mut Vec<u8>, later: bool, number: i32) -> Result<(),
     minus(out, later, number.unsigned_abs())
 }
 
-/// Appends a minus sign and `size`, after a comma if `later`.
+/// Appends a minus sign and `size` in decimal to `out`, after a comma if `later`. `AllocError` if memory runs out;
+/// `out` may then end in a part of the text.
 fn minus(out: &mut Vec<u8>, later: bool, size: u32) -> Result<(), AllocError>
     ensures { OnOk result (out.new.items ≡ out.old.items ++ (comma_if later ++ 45 ∷ decimal size)) }
 {
@@ -81,7 +87,8 @@ fn minus(out: &mut Vec<u8>, later: bool, size: u32) -> Result<(), AllocError>
     natural(out, false, u64::from(size))
 }
 
-/// Appends a negative number of one digit, after a comma.
+/// Appends a comma, a minus sign and `size`, which must have one digit, to `out`. `AllocError` if there is no memory;
+/// `out` is then unchanged.
 #[tactic(auto, using(std::proofs::lemmas::Fmt::decimal_digit))]
 fn minus_digit(out: &mut Vec<u8>, size: u8) -> Result<(), AllocError>
     requires { size < 10 }
@@ -90,7 +97,8 @@ fn minus_digit(out: &mut Vec<u8>, size: u8) -> Result<(), AllocError>
     out.extend_from_slice(&[b',', b'-', b'0' + size])
 }
 
-/// Appends a point as `[x,y]`, after a comma if `later`.
+/// Appends a point as `[x,y]` to `out`, after a comma if `later`. `AllocError` if memory runs out; `out` may then end
+/// in a part of the text.
 pub(crate) fn point(out: &mut Vec<u8>, later: bool, point: Point) -> Result<(), AllocError>
     ensures { OnOk result (out.new.items ≡ out.old.items ++ (comma_if later ++ compact_text (point_data point))) }
 {
@@ -104,7 +112,8 @@ pub(crate) fn point(out: &mut Vec<u8>, later: bool, point: Point) -> Result<(), 
     bytes(out, b"]")
 }
 
-/// Appends a point whose coordinates have one digit each, after a comma.
+/// Appends a comma and a point as `[x,y]` to `out`; `x` and `y` must have one digit each. `AllocError` if there is no
+/// memory; `out` is then unchanged.
 #[tactic(auto, using(std::proofs::lemmas::Fmt::decimal_digit))]
 fn small_point(out: &mut Vec<u8>, x: u8, y: u8) -> Result<(), AllocError>
     requires x { x < 10 }
@@ -114,7 +123,8 @@ fn small_point(out: &mut Vec<u8>, x: u8, y: u8) -> Result<(), AllocError>
     out.extend_from_slice(&[b',', b'[', b'0' + x, b',', b'0' + y, b']'])
 }
 
-/// Appends the turns of a dart as a string of letters `L` and `R`, after a comma if `later`.
+/// Appends the turns of a dart to `out` as a string of letters `L` and `R` in quotation marks, after a comma if
+/// `later`. `AllocError` if memory runs out; `out` may then end in a part of the text.
 pub(crate) fn turns(out: &mut Vec<u8>, later: bool, turns: &[Turn]) -> Result<(), AllocError>
     ensures { OnOk result (out.new.items ≡ out.old.items ++ (comma_if later ++ compact_text (turns_data turns.now))) }
 {
@@ -127,7 +137,8 @@ pub(crate) fn turns(out: &mut Vec<u8>, later: bool, turns: &[Turn]) -> Result<()
     bytes(out, b"\"")
 }
 
-/// Appends a letter for each turn.
+/// Appends a letter to `out` for each turn, in order, without quotation marks. `AllocError` if memory runs out; `out`
+/// may then end in a part of the text.
 fn letters(out: &mut Vec<u8>, turns: &[Turn]) -> Result<(), AllocError>
     ensures { OnOk result (out.new.items ≡ out.old.items ++ map letter_of turns.now) }
 {

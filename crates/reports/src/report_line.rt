@@ -47,7 +47,7 @@ impl ReportLine {
         }
     }
 
-    /// The bytes of the line.
+    /// The bytes of the line, at most `LONGEST`.
     pub fn as_slice(&self) -> &[u8]
         ensures value { result.now ≡ self.now }
         ensures short { length self.now ≤ LONGEST }
@@ -55,7 +55,7 @@ impl ReportLine {
         &self.bytes[..self.len]
     }
 
-    /// Appends `text`, for which there must be room.
+    /// Appends `text` to the line, which must not become longer than `LONGEST` bytes.
     pub(crate) fn push(&mut self, text: &[u8])
         requires { length self.old + length text.now ≤ LONGEST }
         ensures { self.new ≡ self.old ++ text.now }
@@ -65,7 +65,7 @@ impl ReportLine {
         self.len = end;
     }
 
-    /// Appends a number in decimal; there must be room for 40 bytes, whatever the number.
+    /// Appends a number in decimal; 40 bytes must be free in the line, whatever the number.
     pub(crate) fn push_number(&mut self, number: u64)
         requires { length self.old + 40 ≤ LONGEST }
         ensures text { self.new ≡ self.old ++ decimal number }
@@ -86,7 +86,7 @@ const SIZES: usize = 200;
 const DRAWN: usize = 40;
 
 impl ReportLine {
-    /// The first line of a file in a report, with the number of the file.
+    /// The first line of a file in a report, with its newline: `file` and the number of the file.
     pub fn of_file(number: u64) -> ReportLine
         ensures { result ≡ file_line number }
     {
@@ -97,7 +97,7 @@ impl ReportLine {
         line
     }
 
-    /// The line of the graph with this number and this answer.
+    /// The line of a graph in a report, with its newline: `graph`, this number, and the text of this answer.
     pub fn of_graph(number: u64, answer: &Answer) -> ReportLine
         ensures { result ≡ graph_line number answer.now }
     {
@@ -109,7 +109,8 @@ impl ReportLine {
         line
     }
 
-    /// The line of the graph with this number, plane and shape, saying that it is drawn.
+    /// The line of a graph that is drawn, with its newline: `graph`, this number, `ok`, the sizes of the plane, the
+    /// bends of the shape, and that it is drawn.
     pub fn of_drawn(number: u64, plane: &Plane, shape: &Shape) -> ReportLine
         ensures { (prices : PricesModel) (points : PointsModel) → result ≡ graph_line number (Laid plane.now shape.now prices (Drawn points)) }
     {
@@ -122,7 +123,7 @@ impl ReportLine {
         line
     }
 
-    /// The last line of a file in a report: its mark, and the number of entries.
+    /// The last line of a file in a report, with its newline: `end`, the word of its mark, and the number of entries.
     pub fn of_end(mark: Mark, count: u64) -> ReportLine
         ensures { result ≡ end_line mark count }
     {
@@ -135,8 +136,8 @@ impl ReportLine {
         line
     }
 
-    /// Appends the text of an answer: the sizes of the plane and whether it is drawn, the rule that is broken, or
-    /// `memory`.
+    /// Appends the text of an answer to the line: `ok`, the sizes and whether there is a drawing; `refused` and the
+    /// word of the broken rule; or `memory` if that is the answer. `ANSWER` bytes must be free.
     fn push_answer(&mut self, answer: &Answer)
         requires { length self.old + ANSWER ≤ LONGEST }
         ensures text { self.new ≡ self.old ++ answer_text answer.now }
@@ -161,7 +162,8 @@ impl ReportLine {
         }
     }
 
-    /// Appends the numbers of vertices, edges, faces and bends.
+    /// Appends the numbers of vertices, edges, faces and bends to the line, after ` n=`, ` m=`, ` f=` and ` bends=`.
+    /// `SIZES` bytes must be free.
     fn push_sizes(&mut self, plane: &Plane, shape: &Shape)
         requires { length self.old + SIZES ≤ LONGEST }
         ensures text { self.new ≡ self.old ++ sizes_text plane.now shape.now }
@@ -177,7 +179,8 @@ impl ReportLine {
         self.push_number(u64::from(shape.bends()));
     }
 
-    /// Appends ` drawn=yes` if there is a drawing, and otherwise ` drawn=no cause=WORD`, with the word of the cause.
+    /// Appends ` drawn=yes` to the line if there is a drawing, and otherwise ` drawn=no cause=WORD`, with the word of
+    /// the cause. `DRAWN` bytes must be free.
     fn push_drawn(&mut self, drawing: &Result<Drawing, Cause>)
         requires { length self.old + DRAWN ≤ LONGEST }
         ensures text { self.new ≡ self.old ++ drawn_text drawing.now }
@@ -189,7 +192,7 @@ impl ReportLine {
         }
     }
 
-    /// Appends ` drawn=no cause=WORD`, with the word of this cause.
+    /// Appends ` drawn=no cause=WORD` to the line, with the word of this cause. `DRAWN` bytes must be free.
     pub fn push_cause(&mut self, cause: Cause)
         requires { length self.old + DRAWN ≤ LONGEST }
         ensures text { self.new ≡ self.old ++ cause_text cause }
@@ -200,7 +203,8 @@ impl ReportLine {
     }
 }
 
-/// Writes the report of a batch: for each file a line with its number, a line for each entry and a line for its mark.
+/// Writes the report of a batch to `sink`: for each file a line with its number, a line for each entry and a line for
+/// its mark. `Write`, the only error, exactly if `sink` has then failed; it has then taken a prefix of the report.
 ///
 /// It allocates nothing: lines are collected in a fixed buffer.
 ///
@@ -218,8 +222,9 @@ pub fn write_report<S: Sink>(batch: &Batch, sink: &mut S) -> Result<(), WriteFau
     lines.flush(sink)
 }
 
-/// Adds the report lines of a book to the buffer `lines`, which is written to the sink each time it is nearly full;
-/// `number` is the number of the file.
+/// Appends the report lines of a book to `lines`, written to `sink` each time it is nearly full; `number` is the number
+/// of the file. `Write`, the only error, exactly if `sink` has then failed; it has then taken a prefix of the text in
+/// `lines` and the new one.
 fn write_book<S: Sink>(
     lines: &mut TextBuffer,
     sink: &mut S,
@@ -237,8 +242,9 @@ fn write_book<S: Sink>(
     write_line(lines, sink, &end)
 }
 
-/// Adds the report line of each entry to the buffer `lines`, which is written to the sink each time it is nearly full;
-/// entries are numbered from 1.
+/// Appends the report line of each entry to `lines`, written to `sink` each time it is nearly full; entries are
+/// numbered from 1. `Write`, the only error, exactly if `sink` has then failed; it has then taken a prefix of the text
+/// in `lines` and the new one.
 fn write_entries<S: Sink>(
     lines: &mut TextBuffer,
     sink: &mut S,
@@ -258,7 +264,8 @@ fn write_entries<S: Sink>(
     Ok(())
 }
 
-/// Adds a line to the buffer `lines`, which is written to the sink first if it is nearly full.
+/// Appends a line to `lines`, which is first written to `sink` if it is nearly full. `Write`, the only error, exactly
+/// if `sink` has then failed; it has then taken a prefix of the text in `lines` and the new one.
 fn write_line<S: Sink>(
     lines: &mut TextBuffer,
     sink: &mut S,

@@ -37,7 +37,7 @@ impl<T> Closed<T> {
     ghost use Rattle.std.specs.Prelude.{◌≡◌};
     ghost use Rattle.ruled_lanes.specs.HandedBack.{handed_back};
 
-    /// Returns the item of the refused call.
+    /// Consumes the error and returns the item of the refused give; of a refused take, the empty value `()`.
     pub fn into_inner(self) -> T
         ensures { result ≡ handed_back self }
     {
@@ -46,6 +46,7 @@ impl<T> Closed<T> {
 }
 
 impl<T> fmt::Debug for Closed<T> {
+    /// Writes `Closed(..)` to `f`, without the item. `Error` if `f` refuses the text.
     fn fmt<W: fmt::Write>(&self, f: &mut fmt::Formatter<W>) -> fmt::Result {
         write!(f, "Closed(..)")
     }
@@ -57,6 +58,7 @@ impl<T> fmt::Debug for Closed<T> {
 pub struct Memory;
 
 impl From<AllocError> for Memory {
+    /// The error `Memory` for a failed allocation. It only converts, and cannot fail.
     fn from(_refused: AllocError) -> Memory {
         Memory
     }
@@ -78,8 +80,8 @@ const NAP: u64 = 30;
 /// The total length of the naps after all attempts, in microseconds.
 pub(crate) const ALL_NAPS: u64 = (NAP << (TRIES - SPINS)) - NAP;
 
-/// Pauses the calling thread after attempt `tried`, counted from 0: spins after each of the first `SPINS` attempts, and
-/// naps after each later one, including the last, each time twice as long. It allocates nothing.
+/// Pauses this thread after attempt number `tried`, counted from 0 and below `TRIES`: spins after each of the first
+/// `SPINS` attempts, and naps after each later one, including the last, each time twice as long. It allocates nothing.
 pub(crate) fn back_off<R: Wait>(rt: &R, tried: u32)
     requires tried { tried < TRIES }
 {
@@ -92,7 +94,8 @@ pub(crate) fn back_off<R: Wait>(rt: &R, tried: u32)
     }
 }
 
-/// The total length of the naps before the attempt with this number, in microseconds.
+/// The total length of the naps before attempt number `tried`, counted from 0, in microseconds: 0 up to attempt
+/// `SPINS`.
 pub(crate) fn napped_before(tried: u32) -> u64
     requires tried { tried < TRIES }
 {
@@ -103,14 +106,14 @@ pub(crate) fn napped_before(tried: u32) -> u64
     }
 }
 
-/// Sleeps for this many microseconds; the thread wakes by itself, so that the other end need not wake it. It allocates
+/// Sleeps for `micros` microseconds; the thread wakes by itself, so that the other end need not wake it. It allocates
 /// nothing.
 pub(crate) fn nap<R: Wait>(rt: &R, micros: u64) {
     AtomicU64::new(0).park_timeout(rt, 0, Duration::from_micros(micros));
 }
 
-/// Allocates a link that holds at most `capacity` items, and returns its two ends; `Memory` if there is no memory for
-/// them.
+/// Allocates an empty link that holds at most `capacity` items, and returns its two ends: the giver and the taker.
+/// `Memory` if there is no memory for them.
 ///
 /// Nothing was given or taken.
 pub fn link<T: Send + Drop>(alloc: Global, capacity: u32) -> Result<(Giver<T>, Taker<T>), Memory>
@@ -127,8 +130,8 @@ pub fn link<T: Send + Drop>(alloc: Global, capacity: u32) -> Result<(Giver<T>, T
     Ok((Giver::of(sender, pass), Taker::of(receiver, takes)))
 }
 
-/// Allocates a fan that holds at most `capacity` items, and returns a giver for each of its `LANES` lanes, in order,
-/// and the one gatherer. `Memory` if there is no memory for them.
+/// Allocates an empty fan that holds at most `capacity` items, and returns a giver for each of its `LANES` lanes, in
+/// order, and the one gatherer. `Memory` if there is no memory for them.
 ///
 /// Nothing was given or taken.
 pub fn fan_in<T: Send + Drop>(

@@ -126,7 +126,7 @@ impl<T: Drop> LaneGiver<T> {
     ghost use Rattle.ruled_lanes.specs.FanEnds.{lane_of, given_at, GivesToSameLane};
     ghost use Rattle.ruled_lanes.specs.HandedBack.{handed_back};
 
-    // The sending end of a channel, with the pass of one lane.
+    /// The giver at lane `lane` of a fan, over the sending end `sender` of the fan's channel and the pass of this lane.
     pub(crate) fn of(
         sender: RuledSender<(u32, T), FanLog<T>, Fanned>,
         pass: Pass<(u32, T), FanLog<T>>,
@@ -148,7 +148,8 @@ impl<T: Drop> LaneGiver<T> {
         self.lane
     }
 
-    // Appends an item of its lane. While the fan is full, its thread sleeps until it is woken.
+    /// Sends `item` at the lane of this end; while the fan is full, the thread sleeps until it is woken. `Closed`
+    /// returns `item` if the gatherer is gone: nothing is sent.
     fn wait_and_give<R: Wait>(&mut self, rt: &R, item: T) -> Result<(), Closed<T>>
         ensures lane { GivesToSameLane self.old self.new }
         ensures ok { OnOk result (given_at self.new ≡ given_at self.old ++ item ∷ []) }
@@ -164,8 +165,8 @@ impl<T: Drop> LaneGiver<T> {
         }
     }
 
-    /// Sends an item at the lane of this end, and waits while the fan is full; `Closed` returns the item if the
-    /// gatherer is gone.
+    /// Sends `item` at the lane of this end, and waits while the fan is full. `Closed` returns `item` if the gatherer
+    /// is gone: nothing is sent.
     ///
     /// The item is appended in one step. The call tries again for about a millisecond, then its thread sleeps until it
     /// is woken. It allocates nothing.
@@ -200,7 +201,7 @@ impl<T: Drop> Gatherer<T> {
     ghost use Rattle.ruled_lanes.specs.FanProtocol.{Accounts};
     ghost use Rattle.ruled_lanes.specs.FanEnds.{gathered, AreGiversOf, TakesFromSameFan, SettlesFan};
 
-    // The receiving end of a channel, with the pass that may take.
+    /// The gatherer of a fan, over the receiving end `receiver` of the fan's channel and the pass that may take.
     pub(crate) fn of(
         receiver: RuledReceiver<(u32, T), FanLog<T>, Fanned>,
         pass: Pass<(u32, T), FanLog<T>>,
@@ -212,7 +213,8 @@ impl<T: Drop> Gatherer<T> {
         Gatherer { receiver, pass }
     }
 
-    // The first item in the channel, if there is one.
+    /// Removes the next item from the fan without waiting, and returns the number of its lane and the item. `Empty` if
+    /// the fan holds none, `Disconnected` if it holds none and all givers are gone; nothing is taken then.
     fn try_receive<R: Wait>(&mut self, rt: &R) -> Result<(u32, T), TryRecvError>
         ensures fan { TakesFromSameFan self.old self.new }
         ensures lane { IfOk result (λ item. item.0 < LANES) }
@@ -222,7 +224,8 @@ impl<T: Drop> Gatherer<T> {
         self.receiver.try_recv_as::<Takes, R>(rt, &mut self.pass)
     }
 
-    // The first item in the channel. While the channel is empty, its thread sleeps until it is woken.
+    /// Removes the next item from the fan, and returns the number of its lane and the item; while the fan is empty, the
+    /// thread sleeps until it is woken. `Closed` if all givers are gone and no item is left: nothing is taken.
     fn wait_and_receive<R: Wait>(&mut self, rt: &R) -> Result<(u32, T), Closed<()>>
         ensures fan { TakesFromSameFan self.old self.new }
         ensures lane { IfOk result (λ item. item.0 < LANES) }
@@ -235,7 +238,7 @@ impl<T: Drop> Gatherer<T> {
     }
 
     /// Removes the next item from the fan, and returns the number of its lane and the item; waits while the fan is
-    /// empty. `Closed` if all givers are gone and no item is left.
+    /// empty. `Closed` if all givers are gone and no item is left: nothing is taken.
     ///
     /// The item is taken in one step. The call tries again for about a millisecond, then its thread sleeps until it is
     /// woken. It allocates nothing.
@@ -259,8 +262,9 @@ impl<T: Drop> Gatherer<T> {
         self.wait_and_receive(rt)
     }
 
-    /// Removes the next item from the fan, and returns the number of its lane and the item, or `None` if none arrives
-    /// within `patience` microseconds (at least about a millisecond). It subtracts the time waited from `patience`.
+    /// Removes the next item from the fan, and returns its lane's number and the item; `None` if none arrives within
+    /// `patience` microseconds (at least about a millisecond). Subtracts the time waited from `patience`, which is 0
+    /// after `None`. `Closed` if all givers are gone and no item is left: nothing is taken.
     ///
     /// The item is taken in one step. While the fan is empty, the call tries again for about a millisecond, as `take`
     /// does, then after naps, each an eighth of the time that it has waited and at most a tenth of a second. The time
@@ -296,7 +300,9 @@ impl<T: Drop> Gatherer<T> {
         self.nap_and_receive(rt, patience)
     }
 
-    // The first item in the fan, or `None` if none arrives within `patience` microseconds: it tries again after naps.
+    /// Removes the next item from the fan, tried after each nap, and returns its lane's number and the item; `None` if
+    /// none arrives within `patience` microseconds, at once if this is 0. Subtracts the time slept from `patience`,
+    /// which is 0 after `None`. `Closed` if all givers are gone and no item is left: nothing is taken.
     fn nap_and_receive<R: Wait>(
         &mut self,
         rt: &R,
@@ -325,7 +331,8 @@ impl<T: Drop> Gatherer<T> {
         Ok(None)
     }
 
-    // Adds to the pass that takes what the rule implies of the items that the fan then holds.
+    /// Adds to `pass`, for proofs, what the rule implies: the items given at each lane are those taken of it, and then
+    /// those that the fan still holds. It gives and takes nothing, and cannot fail.
     #[tactic(auto, using(crate::proofs::Fans::totals))]
     fn learn(
         sender: &RuledSender<(u32, T), FanLog<T>, Fanned>,
@@ -338,8 +345,8 @@ impl<T: Drop> Gatherer<T> {
         sender.learn_as::<EachLane>(pass);
     }
 
-    /// Consumes the gatherer and these givers, and drops the items that the fan still holds; proves that no item of
-    /// their lanes was lost, repeated or reordered.
+    /// Consumes the gatherer and `givers`, and drops the items that the fan still holds; returns nothing and cannot
+    /// fail. It proves that no item of their lanes was lost, repeated or reordered.
     ///
     /// The items given at a lane are those taken from it, followed by those that the fan still holds.
     ///

@@ -110,7 +110,7 @@ impl<T: Drop> Giver<T> {
     ghost use Rattle.ruled_lanes.specs.HandedBack.{handed_back};
     ghost use Rattle.ruled_lanes.specs.LinkEnds.{given, GivesToSame};
 
-    // The sending end of a channel, with the pass that may give.
+    /// The giver of a link, over the sending end `sender` of the link's channel and the pass that may give.
     pub(crate) fn of(sender: RuledSender<T, Log<T>, Linked>, pass: Pass<T, Log<T>>) -> Giver<T>
         requires seated { IsSeatAt (sends_on sender) pass }
         requires role { view pass ≡ log true false (view pass).given [] }
@@ -119,7 +119,8 @@ impl<T: Drop> Giver<T> {
         Giver { sender, pass }
     }
 
-    // Appends an item. While the link is full, its thread sleeps until it is woken.
+    /// Sends `item` on the link; while the link is full, the thread sleeps until it is woken. `Closed` returns `item`
+    /// if the taker is gone: nothing is sent.
     fn wait_and_give<R: Wait>(&mut self, rt: &R, item: T) -> Result<(), Closed<T>>
         ensures link { GivesToSame self.old self.new }
         ensures ok { OnOk result (given self.new ≡ given self.old ++ item ∷ []) }
@@ -132,7 +133,8 @@ impl<T: Drop> Giver<T> {
         }
     }
 
-    /// Sends an item on the link, and waits while the link is full; `Closed` returns the item if the taker is gone.
+    /// Sends `item` on the link, and waits while the link is full. `Closed` returns `item` if the taker is gone:
+    /// nothing is sent.
     ///
     /// The item is appended in one step. The call tries again for about a millisecond, then its thread sleeps until it
     /// is woken. It allocates nothing.
@@ -166,7 +168,7 @@ impl<T: Drop> Taker<T> {
     ghost use Rattle.std.specs.Prelude.{◌∷◌, ◌++◌, IfOk, IfSome, IfNone, OnErr};
     ghost use Rattle.ruled_lanes.specs.LinkEnds.{given, taken, AreEnds, TakesFromSame, Settles};
 
-    // The receiving end of a channel, with the pass that may take.
+    /// The taker of a link, over the receiving end `receiver` of the link's channel and the pass that may take.
     pub(crate) fn of(receiver: RuledReceiver<T, Log<T>, Linked>, pass: Pass<T, Log<T>>) -> Taker<T>
         requires seated { IsSeatAt (receives_on receiver) pass }
         requires role { view pass ≡ log false true [] (view pass).taken }
@@ -175,7 +177,8 @@ impl<T: Drop> Taker<T> {
         Taker { receiver, pass }
     }
 
-    // The first item in the channel. While the channel is empty, its thread sleeps until it is woken.
+    /// Removes the next item from the link and returns it; while the link is empty, the thread sleeps until it is
+    /// woken. `Closed` if the giver is gone and no item is left: nothing is taken.
     fn wait_and_receive<R: Wait>(&mut self, rt: &R) -> Result<T, Closed<()>>
         ensures link { TakesFromSame self.old self.new }
         ensures ok { IfOk result (λ item. taken self.new ≡ taken self.old ++ item ∷ []) }
@@ -187,7 +190,7 @@ impl<T: Drop> Taker<T> {
     }
 
     /// Removes the next item from the link and returns it; waits while the link is empty. `Closed` if the giver is gone
-    /// and no item is left.
+    /// and no item is left: nothing is taken.
     ///
     /// The item is taken in one step. The call tries again for about a millisecond, then its thread sleeps until it is
     /// woken. It allocates nothing.
@@ -210,8 +213,8 @@ impl<T: Drop> Taker<T> {
         self.wait_and_receive(rt)
     }
 
-    /// Consumes both ends of a link and drops the items that it still holds; proves that no item was lost, repeated or
-    /// reordered.
+    /// Consumes the taker and `giver`, both ends of a link, and drops the items that the link still holds; returns
+    /// nothing and cannot fail. It proves that no item was lost, repeated or reordered.
     ///
     /// The items given are those taken, followed by those that the link still holds. It allocates nothing, and though
     /// it is passed `rt`, it never waits.

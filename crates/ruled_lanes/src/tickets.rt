@@ -90,7 +90,7 @@ pub struct Seat {
 impl Seat {
     ghost use Rattle.std.specs.Prelude.{false};
 
-    // A seat that has drawn nothing.
+    /// A seat over `pass` that has drawn nothing and has not ended.
     fn of(pass: Pass<(), Draws>) -> Seat
         requires idle { pass.me.1 ≡ [] }
         requires unused { (pass.me.0.shares ≡ 1) × (pass.me.0.ends ≡ 0) }
@@ -108,7 +108,8 @@ impl Tickets {
     ghost use Rattle.ruled_lanes.specs.TicketProtocol.{draws, HasOnceBelow};
     ghost use Rattle.ruled_lanes.specs.TicketSeats.{limit_of, lanes_of, drawn, has_ended, all_drawn, word_value, MustBeWord, SitsAt, IsSeatOf, IsUnused, IsPool};
 
-    // Splits a pass that represents all seats into one for each.
+    /// Splits `pass`, which represents all seats of the tickets, into `lanes` seats, which have drawn nothing and have
+    /// not ended; returns them. `Memory` if there is no memory for the list: `pass` is then dropped.
     fn divide(
         alloc: Global,
         table: &Word,
@@ -130,7 +131,7 @@ impl Tickets {
         Ok(seats)
     }
 
-    // The pass that represents all these seats.
+    /// Consumes `seats` and joins their passes; returns the one pass that represents all these seats.
     fn pool(table: &Word, mut seats: Vec<Seat>) -> Pass<(), Draws>
         requires words { 0 < table.now.shared.table_id.words }
         requires some { 1 ≤ vec_len seats }
@@ -148,10 +149,10 @@ impl Tickets {
         pass
     }
 
-    /// New tickets with the numbers below `limit`, and a seat for each of `lanes` lanes.
+    /// New tickets that deal the numbers 0 to `limit` - 1, and a seat for each of `lanes` lanes, which has drawn
+    /// nothing and has not ended. `Memory` if there is no memory for them.
     ///
-    /// The seats have drawn nothing and have not ended. Until one draws, the shared word is 0. `Memory` if memory runs
-    /// out for them.
+    /// Until a seat draws, the shared word is 0.
     pub fn new(alloc: Global, limit: u32, lanes: u32) -> Result<(Tickets, Vec<Seat>), Memory>
         requires limit { limit ≤ MAX_TICKETS }
         requires lanes { (1 ≤ lanes) × (lanes ≤ LANES) }
@@ -170,8 +171,8 @@ impl Tickets {
         Ok((tickets, seats))
     }
 
-    /// Draws the next number for `seat` from the shared counter; `None` if all numbers below the limit are drawn, and
-    /// then the seat has ended.
+    /// Draws the next number for `seat` from the shared counter and returns it; `None` if all numbers below the limit
+    /// are drawn, and then `seat` has ended: for an ended seat it returns `None` again and changes nothing.
     ///
     /// It is one step on the shared word. A seat that got `None` once has ended, and takes no further step. It
     /// allocates nothing and never waits.
@@ -195,7 +196,7 @@ impl Tickets {
         None
     }
 
-    /// Consumes the tickets and all seats; returns how many numbers were drawn plus how many seats have ended.
+    /// Consumes the tickets and all their seats; returns how many numbers were drawn plus how many seats have ended.
     ///
     /// The numbers drawn are those below both that value and the limit, each once. It allocates nothing and never
     /// waits.

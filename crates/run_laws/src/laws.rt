@@ -88,14 +88,14 @@ const _: () = prove!(LANES == 8);
 
 const _: () = prove!(MAX_CAPACITY == 64);
 
-/// A network has at most 2,402 nodes and 9,600 arcs, and no node supplies or demands more than 12,008 units.
+/// Theorem: a network has at most 2,402 nodes and 9,600 arcs, and no node supplies or demands more than 12,008 units.
 pub fn network_limits()
     ensures nodes { MAX_NODES ≡ 2402 }
     ensures arcs { MAX_ARCS ≡ 9600 }
     ensures supply { MAX_SUPPLY ≡ 12008 }
 {}
 
-/// A record has 1 to 255 lists of at most 254 entries, and at most 65,026 bytes.
+/// Theorem: a record has 1 to 255 lists of at most 254 entries, and at most 65,026 bytes.
 pub fn record_limits()
     ensures some { (bytes : List ℕ) → IsRecord bytes → 1 ≤ length (lists_of bytes) }
     ensures vertices { (bytes : List ℕ) → IsRecord bytes → length (lists_of bytes) ≤ 255 }
@@ -103,30 +103,32 @@ pub fn record_limits()
     ensures bytes { (bytes : List ℕ) → IsRecord bytes → length bytes ≤ 65026 }
 {}
 
-/// A wide record has 1 to 1,200 lists, and at most 65,535 numbers, with its count and the zero after each list.
+/// Theorem: a wide record has 1 to 1,200 lists, and at most 65,535 numbers, with its count and the zero after each
+/// list.
 pub fn wide_record_limits()
     ensures some { (entries : List ℕ) → IsWideRecord entries → 1 ≤ length (lists_of entries) }
     ensures vertices { (entries : List ℕ) → IsWideRecord entries → length (lists_of entries) ≤ 1200 }
     ensures entries { (entries : List ℕ) → IsWideRecord entries → length entries ≤ 65535 }
 {}
 
-/// A plane has at most 1,200 vertices, 4,800 darts and 1,202 faces.
+/// Theorem: a plane has at most 1,200 vertices, 4,800 darts and 1,202 faces.
 pub fn plane_limits()
     ensures vertices { (p : PlaneModel) → IsPlane p → vertices p ≤ 1200 }
     ensures darts { (p : PlaneModel) → IsPlane p → darts p ≤ 4800 }
     ensures faces { (p : PlaneModel) → IsPlane p → p.faces ≤ 1202 }
 {}
 
-/// The plane of a record has at most 255 vertices, 1,020 darts and 257 faces.
+/// Theorem: the plane of a record has at most 255 vertices, 1,020 darts and 257 faces.
 pub fn record_plane_limits()
     ensures vertices { (bytes : List ℕ) (p : PlaneModel) → IsRecord bytes → p.lists ≡ lists_of bytes → IsPlane p → vertices p ≤ 255 }
     ensures darts { (bytes : List ℕ) (p : PlaneModel) → IsRecord bytes → p.lists ≡ lists_of bytes → IsPlane p → darts p ≤ 1020 }
     ensures faces { (bytes : List ℕ) (p : PlaneModel) → IsRecord bytes → p.lists ≡ lists_of bytes → IsPlane p → p.faces ≤ 257 }
 {}
 
-/// The shape of a laid answer has at most one bend for each edge and four for each inner face.
+/// Theorem: the shape of a laid answer has at most one bend for each edge and four for each inner face.
 ///
-/// This is at most five for each edge, and never more than six for each vertex, and four: 7,204, and 1,534 for a record.
+/// This is at most five for each edge, and never more than six for each vertex, and four: 7,204, and 1,534 for a
+/// record.
 pub fn laid_bends()
     ensures inner { (choice : Choice) (g : List (List ℕ)) (plane : PlaneModel) (shape : ShapeModel) (prices : PricesModel) (drawing : Result PointsModel Cause)
         → IsLaid choice g plane shape prices drawing → bends plane shape ≤ bend_bound plane }
@@ -140,7 +142,7 @@ pub fn laid_bends()
         → IsRecord bytes → IsLaid choice (lists_of bytes) plane shape prices drawing → bends plane shape ≤ 1534 }
 {}
 
-/// The boxes that a shape with the fewest bends is cut into have at most 15n + 13 vertices, for a plane with n
+/// Theorem: the boxes that a shape with the fewest bends is cut into have at most 15n + 13 vertices, for a plane with n
 /// vertices: 18,013, and 3,838 for a record.
 pub fn boxes_are_few()
     ensures fifteen { (p : PlaneModel) (shape : ShapeModel) (b : BoxesModel) → IsPlane p → IsLeast p shape → IsBoxed p shape b
@@ -151,7 +153,8 @@ pub fn boxes_are_few()
         → IsPlane p → IsLeast p shape → IsBoxed p shape b → b.vertices ≤ 3838 }
 {}
 
-/// The total supply of a plane's network is the sum of 4 less each vertex's degree, plus 1 for each inner triangle.
+/// Theorem: the total supply of a plane's network is the sum of 4 less each vertex's degree, plus 1 for each inner
+/// triangle.
 ///
 /// No inner face has fewer than three darts, and the outer face supplies none. A solution takes at most as many
 /// searches as units are supplied.
@@ -160,8 +163,8 @@ pub fn units_supplied()
         → supply_sum n.network ≡ supplied_quarters p + inner_triangles p }
 {}
 
-/// The plane of a laid answer is that of its graph with the chosen outer face, the shape has the fewest bends, the
-/// prices prove so, and the points, if given, draw the shape.
+/// Theorem: the plane of a laid answer is that of its graph with the chosen outer face, the shape has the fewest bends,
+/// the prices prove so, and the points, if given, draw the shape.
 ///
 /// The plane has the neighbour lists of the graph, which break no rule, their faces and the chosen outer face. The
 /// shape is an orthogonal representation with no more bends than any other, with strings of any length, and the prices
@@ -172,7 +175,7 @@ pub fn laid_means()
         → IsLaidPlainly choice g plane shape prices drawing }
 {}
 
-/// The outer face by `Choice::First` is unique: it has the most darts, and among equals the least dart.
+/// Theorem: the outer face by `Choice::First` is unique: it has the most darts, and among equals the least dart.
 ///
 /// Two planes that differ only in the outer face, and each have that face as it, have the same outer face.
 pub fn one_greatest()
@@ -180,7 +183,7 @@ pub fn one_greatest()
         → HasGreatestOuter p → HasGreatestOuter (with_outer p other) → p.outer ≡ other }
 {}
 
-/// The outer face by `Choice::Best` is unique: it minimises bends, and has the least number among equals.
+/// Theorem: the outer face by `Choice::Best` is unique: it minimises bends, and has the least number among equals.
 ///
 /// Two planes that differ only in the outer face, and each have that face as it, have the same outer face.
 pub fn one_best()
@@ -188,7 +191,7 @@ pub fn one_best()
         → IsBest p → IsBest (with_outer p other) → p.outer ≡ other }
 {}
 
-/// A right turn of the outer face of a shape's map looks straight at a side of the rectangle around the map.
+/// Theorem: a right turn of the outer face of a shape's map looks straight at a side of the rectangle around the map.
 ///
 /// The whole map is contained in the boxes. Whatever numbers that grow along the darts their vertices get, four of them
 /// are the corners of a rectangle, and straight across from a right turn of the plane's outer face there is a vertex on
@@ -197,7 +200,7 @@ pub fn outer_face_looks_out()
     ensures { (p : PlaneModel) (shape : ShapeModel) (b : BoxesModel) → IsBoxed p shape b → LooksOut p shape b }
 {}
 
-/// No part of the boxes belongs to two edges, and no edge passes a vertex twice or returns to its start.
+/// Theorem: no part of the boxes belongs to two edges, and no edge passes a vertex twice or returns to its start.
 ///
 /// This holds whichever way a part is walked. It is why the paths of a plane's darts are disjoint.
 pub fn edges_share_no_part()
@@ -210,7 +213,7 @@ pub fn edges_share_no_part()
         → (d a : ℕ) → d < darts p → IsPart (dart_map b) d a → (dart_map b).head a ≢ tail p d - 1 }
 {}
 
-/// Edges neither cross nor touch except at their ends.
+/// Theorem: edges neither cross nor touch except at their ends.
 ///
 /// An edge reaches a vertex of the plane only at its end, and if parts of two edges reach one vertex, that is the end
 /// of both. It is why darts form chains.
@@ -222,7 +225,8 @@ pub fn edges_meet_at_ends()
         → (dart_map b).head a ≡ (dart_map b).head c → IsOneEdge p d e ⊎ ((a ≡ d) × (c ≡ e)) }
 {}
 
-/// The least of all vertices and corners, by x and then by y, lies on the outer face of points that have regions.
+/// Theorem: the least of all vertices and corners, by x and then by y, lies on the outer face of points that have
+/// regions.
 ///
 /// The parts of all paths run along the axes.
 pub fn least_corner_is_outer()
@@ -230,7 +234,8 @@ pub fn least_corner_is_outer()
         → IsLeastCorner p points q → (d : ℕ) × (d < darts p) × (face_at p d ≡ p.outer) × Meets p points d q }
 {}
 
-/// Two cells of a drawing lie in one face if and only if they are joined, so each face is one connected region.
+/// Theorem: two cells of a drawing lie in one face if and only if they are joined, so each face is one connected
+/// region.
 ///
 /// The points draw a shape of the plane, and the map gives the face of each cell.
 pub fn regions_are_connected()
@@ -241,26 +246,27 @@ pub fn regions_are_connected()
         → (i j k l : ℕ) → r i j ≡ r k l → AreJoined p points i j k l }
 {}
 
-/// Two lists of least points of the same boxes are equal, since each takes the least numbers that grow along the darts.
+/// Theorem: two lists of least points of the same boxes are equal, since each takes the least numbers that grow along
+/// the darts.
 ///
 /// The coordinates of boxes therefore leave no choice open.
 pub fn least_points_are_unique()
     ensures { (b : BoxesModel) (points others : PointsModel) → AreBoxes b → AreLeastPoints b points → AreLeastPoints b others → points ≡ others }
 {}
 
-/// If just points are given (at some vertices all angles, which make a whole turn, and no turns), no set of vertices
-/// and faces turns more than can leave it.
+/// Theorem: if only points are given (at some vertices all angles, which make a whole turn, and no turns), no set of
+/// vertices and faces turns more than can leave it.
 pub fn points_have_no_cut()
     ensures { (p : PlaneModel) (given : GivenModel) (vertices faces : List Bool) → IsPlane p → CanBeGiven given.angles given.turns → ArePoints p given → ¬ ShowsNone p given vertices faces }
 {}
 
-/// If just points and frames (cycles of straight edges with four corners) are given, no set of vertices and faces turns
-/// more than can leave it.
+/// Theorem: if only points and frames (cycles of straight edges with four corners) are given, no set of vertices and
+/// faces turns more than can leave it.
 pub fn parts_have_no_cut()
     ensures { (p : PlaneModel) (given : GivenModel) (frames : ℕ) (inside : ℕ → FaceSet) (vertices faces : List Bool) → IsPlane p → CanBeGiven given.angles given.turns → AreParts p given frames inside → ¬ ShowsNone p given vertices faces }
 {}
 
-/// Two whole runs of the same bytes under the same choice have the same text in a report.
+/// Theorem: two whole runs of the same bytes under the same choice have the same text in a report.
 ///
 /// This holds whichever numbers their files have.
 pub fn same_whole_runs()
@@ -271,14 +277,14 @@ pub fn same_whole_runs()
         → book_text number book ≡ book_text number other }
 {}
 
-/// If the text of a sink is known, the report that `write_batch` adds to it is the report of right books.
+/// Theorem: if the text of a sink is known, the report that `write_batch` adds to it is the report of right books.
 pub fn written_is_report()
     ensures { (choice : Choice) (meaning : ℕ → Meaning) (files status : ℕ) (start now : List ℕ)
         → IsAllWritten choice meaning Form.Report files (Some start) (Some now) status
         → (text : List ℕ) × (now ≡ start ++ text) × IsReport choice meaning files text }
 {}
 
-/// Two right books of files with the same known bytes have the same text in a report, unless memory ran out.
+/// Theorem: two right books of files with the same known bytes have the same text in a report, unless memory ran out.
 ///
 /// The books are under the same choice, and the word "memory" occurs in neither text. This holds whichever numbers the
 /// files have.
@@ -293,7 +299,7 @@ pub fn one_book_text()
         → book_text number book ≡ book_text number other }
 {}
 
-/// Two reports of files with the same known bytes are equal, unless memory ran out.
+/// Theorem: two reports of files with the same known bytes are equal, unless memory ran out.
 ///
 /// The reports are under the same choice, and the word "memory" occurs in neither. This holds whether `run_plain` or
 /// `run_batch` made the books or `write_batch` wrote the text, and for any lanes, capacity and schedule.
@@ -307,13 +313,14 @@ pub fn one_report()
         → text ≡ other }
 {}
 
-/// Two `Facts` of one graph under the same choice of the outer face are equal.
+/// Theorem: two `Facts` of one graph under the same choice of the outer face are equal.
 pub fn one_facts()
     ensures { (choice : Choice) (g : List (List ℕ)) (facts other : Facts)
         → AreFacts choice g (Some facts) → AreFacts choice g (Some other) → facts ≡ other }
 {}
 
-/// Two picks by one selection, from files with the same known bytes, have the same text, unless memory ran out.
+/// Theorem: two picks by one selection, from files with the same known bytes, have the same text, unless memory ran
+/// out.
 ///
 /// This holds for any lanes, capacity and schedule.
 pub fn one_picked_text()
@@ -326,8 +333,8 @@ pub fn one_picked_text()
         → picked_text selection books ≡ picked_text selection others }
 {}
 
-/// Two tables with the same columns, of the graphs that one selection chooses from files with the same known bytes,
-/// have the same text, unless memory ran out.
+/// Theorem: two tables with the same columns, of the graphs that one selection chooses from files with the same known
+/// bytes, have the same text, unless memory ran out.
 ///
 /// This holds for any lanes, capacity and schedule.
 pub fn one_counted_text()

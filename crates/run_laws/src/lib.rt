@@ -1,7 +1,7 @@
 //! Theorems about answers, reports and whole runs, each as the contract of an empty function: the meaning of a laid
-//! answer in plain terms, the uniqueness of faces, coordinates and reports, the regions of drawings, upper bounds on sizes,
-//! and angles and turns that can always be given: points, each a vertex with a whole turn of given angles, and frames,
-//! each a cycle of straight edges with four corners.
+//! answer in plain terms, the uniqueness of faces, coordinates and reports, the regions of drawings, upper bounds on
+//! sizes, and angles and turns that can always be given: points, each a vertex with a whole turn of given angles, and
+//! frames, each a cycle of straight edges with four corners.
 #![tactic(auto)]
 
 mod laws;

@@ -12,8 +12,8 @@ use faces::{MAX_FACES, Plane};
 use ortho_rep::{DartShape, MAX_REPEATS, Prices, Shape, Turn, count_lefts};
 use std::alloc::{AllocError, Global};
 
-/// The angle of each dart, and how often it turns to the left: a corner arc carries its angle less one, and a unit across
-/// an edge is a left turn. Once units were moved it may be no representation.
+/// The angle of each dart, and how often it turns to the left: a corner arc carries its angle less one, and a unit
+/// across an edge is a left turn. Once units were moved it may be no representation.
 #[derive(Drop)]
 pub(crate) struct ShapeFlow {
     angles: [u8; MAX_DARTS],
@@ -29,7 +29,8 @@ impl ShapeFlow {
         }
     }
 
-    /// Copies the angle and the number of left turns, at most 65,535, of each dart from a shape.
+    /// Copies the angle and the number of left turns, at most 65,535, of each dart from `shape` in place of those kept
+    /// here.
     pub(crate) fn load(&mut self, plane: &Plane, shape: &Shape)
         requires { HasDarts plane.now shape.now }
     {
@@ -39,7 +40,7 @@ impl ShapeFlow {
         }
     }
 
-    /// The angle of a dart.
+    /// The angle of `dart`, in right angles.
     pub(crate) fn angle(&self, dart: u16) -> u8
         requires { dart < MAX_DARTS }
         ensures { result ≡ slice_index self.now.angles dart }
@@ -47,7 +48,7 @@ impl ShapeFlow {
         self.angles[usize::from(dart)]
     }
 
-    /// How often a dart turns to the left.
+    /// The number of left turns of `dart`, at most 65,535.
     pub(crate) fn left_turns(&self, dart: u16) -> u16
         requires { dart < MAX_DARTS }
         ensures { result ≡ slice_index self.now.lefts dart }
@@ -56,7 +57,8 @@ impl ShapeFlow {
     }
 
     /// Moves a unit from the angle of dart `give` to that of dart `take`. If `take` is the reverse of `give`, it takes
-    /// a left turn from `take` instead, or adds one to `give` if `take` has none.
+    /// a left turn from `take` instead, or adds one to `give` if `take` has none. A number that cannot go lower or
+    /// higher stays.
     pub(crate) fn send(&mut self, plane: &Plane, give: u16, take: u16)
         requires give { give < darts plane.now }
         requires take { take < darts plane.now }
@@ -72,8 +74,8 @@ impl ShapeFlow {
         }
     }
 
-    /// A new shape, which may be no representation, with these angles and turns, at most `MAX_REPEATS` a dart. If both
-    /// darts of an edge have left turns, each gets its own alone.
+    /// Returns a new shape, which may be no representation, with these angles and turns, at most `MAX_REPEATS` a dart;
+    /// `AllocError` if there is no memory for it. If both darts of an edge have left turns, each gets its own alone.
     ///
     /// # Errors
     ///
@@ -87,7 +89,7 @@ impl ShapeFlow {
         Ok(Shape::of_darts(found))
     }
 
-    /// The angle of a dart and its turns, at most `MAX_REPEATS`: its left turns, or if it has none the left turns of
+    /// The angle of `dart` and its turns, at most `MAX_REPEATS`: its left turns, or if it has none the left turns of
     /// its reverse as right turns.
     fn dart_shape(&self, plane: &Plane, dart: u16) -> DartShape
         requires { dart < darts plane.now }
@@ -108,7 +110,7 @@ impl ShapeFlow {
     }
 }
 
-/// The dart that arrives next clockwise at the head of a dart.
+/// The dart that arrives next clockwise at the head of `dart`; `dart` itself if no other one arrives there.
 pub(crate) fn clockwise(plane: &Plane, dart: u16) -> u16
     requires { dart < darts plane.now }
     ensures { result < darts plane.now }
@@ -116,7 +118,8 @@ pub(crate) fn clockwise(plane: &Plane, dart: u16) -> u16
     plane.graph().reverse(plane.next(dart))
 }
 
-/// Whether a unit may leave the angle of a dart, or come to it, while the prices stay a proof.
+/// Whether a unit may leave the angle of `dart`, or come to it, while the prices stay a proof: its vertex and its face
+/// have the same price.
 pub(crate) fn is_tight_angle(plane: &Plane, prices: &Prices, dart: u16) -> bool
     requires prices { HasPrices plane.now prices.now }
     requires within { dart < darts plane.now }
@@ -125,7 +128,7 @@ pub(crate) fn is_tight_angle(plane: &Plane, prices: &Prices, dart: u16) -> bool
     prices.vertex(plane.graph().head(dart)) == prices.face(plane.face_of(dart))
 }
 
-/// The number of left turns among these turns, but at most 65,535.
+/// The number of left turns in `turns`, but at most 65,535.
 fn few_lefts(turns: &[Turn]) -> u16 {
     count_lefts(turns).min(usize::from(u16::MAX)) as u16
 }
@@ -173,7 +176,7 @@ impl FaceSearch {
         }
     }
 
-    /// Marks all faces of a plane as not reached, so that the search can begin in this plane.
+    /// Marks all faces of `plane` as not reached, so that searches can begin in this plane.
     pub(crate) fn clear(&mut self, plane: &Plane) {
         for face in 0..plane.face_count() {
             self.goals[usize::from(face)] = NO_DART;
@@ -181,7 +184,8 @@ impl FaceSearch {
     }
 
     /// Searches for a path from the face of `path.from` to that of `path.to` by steps of reduced cost 0, and returns
-    /// whether there is one. Between two calls of `clear`, no two searches may have the same `path.to`.
+    /// whether there is one; its steps are kept for `send`. Between two calls of `clear`, no two searches may have the
+    /// same `path.to`.
     pub(crate) fn finds(
         &mut self,
         plane: &Plane,
@@ -206,7 +210,8 @@ impl FaceSearch {
         self.goals[end] == path.to
     }
 
-    /// Begins a search: marks the face of `path.from` as reached, and queues that dart alone.
+    /// Begins a search: marks the face of `path.from` as reached, and queues that dart alone; the queue of the last
+    /// search is emptied.
     fn begin(&mut self, plane: &Plane, path: PathEnds)
         requires { path.from < darts plane.now }
     {
@@ -220,8 +225,8 @@ impl FaceSearch {
         self.found = 1;
     }
 
-    /// Takes each step out of the face of dart `first` that is allowed; the faces entered are marked as reached, and
-    /// queued.
+    /// Takes each allowed step out of the face of dart `first`, in the search for dart `goal`: the faces entered are
+    /// marked as reached, and queued, except those that this search has reached already.
     fn leave(&mut self, plane: &Plane, prices: &Prices, flow: &ShapeFlow, first: u16, goal: u16)
         requires prices { HasPrices plane.now prices.now }
         requires first { first < darts plane.now }
@@ -237,7 +242,8 @@ impl FaceSearch {
         }
     }
 
-    /// Takes the step across the edge of a dart, if it is tight.
+    /// Takes the step across the edge of `step.dart`, if its reduced cost is 0: the face on the other side is marked as
+    /// reached, and queued, unless this search has reached it already.
     fn step_across_edge(&mut self, plane: &Plane, prices: &Prices, flow: &ShapeFlow, step: FaceStep)
         requires prices { HasPrices plane.now prices.now }
         requires dart { step.dart < darts plane.now }
@@ -249,8 +255,9 @@ impl FaceSearch {
         }
     }
 
-    /// Takes each step from the angle of a dart to others at the same vertex, if it is tight and no vertex of degree
-    /// 2 begins to turn.
+    /// Takes each step from the angle of `step.dart` to others at the same vertex, if both are tight and no vertex of
+    /// degree 2 begins to turn: the faces there are marked as reached, and queued, unless this search has reached them
+    /// already.
     fn step_at_vertex(&mut self, plane: &Plane, prices: &Prices, flow: &ShapeFlow, step: FaceStep)
         requires prices { HasPrices plane.now prices.now }
         requires dart { step.dart < darts plane.now }
@@ -270,8 +277,8 @@ impl FaceSearch {
         self.step_to_angle(plane, prices, step, third);
     }
 
-    /// Takes the step from the angle of its dart to that of dart `take`, if that is another dart and its angle is
-    /// tight.
+    /// Takes the step from the angle of `step.dart` to that of dart `take`, if that is another dart and its angle is
+    /// tight: its face is marked as reached, and queued, unless this search has reached it already.
     fn step_to_angle(&mut self, plane: &Plane, prices: &Prices, step: FaceStep, take: u16)
         requires prices { HasPrices plane.now prices.now }
         requires take { take < darts plane.now }
@@ -281,8 +288,8 @@ impl FaceSearch {
         }
     }
 
-    /// Marks the face of dart `take` as reached by this step, and queues `take`, unless this search has reached the
-    /// face before.
+    /// Marks the face of dart `take` as reached by `step`, and queues `take`; nothing changes if this search has
+    /// reached the face already.
     fn reach(&mut self, plane: &Plane, step: FaceStep, take: u16)
         requires { take < darts plane.now }
     {
@@ -303,7 +310,7 @@ impl FaceSearch {
         }
     }
 
-    /// Moves a unit in `flow` along `path`, which the last call of `finds` found.
+    /// Moves a unit in `flow` along `path`, which must be the path that the last call of `finds` found.
     pub(crate) fn send(&self, plane: &Plane, flow: &mut ShapeFlow, path: PathEnds)
         requires { path.to < darts plane.now }
     {

@@ -37,8 +37,8 @@ struct Workspace {
 }
 
 impl Workspace {
-    /// A new workspace on the heap, in which nothing was straightened. Only this function's stack frame holds it while
-    /// it is made.
+    /// Returns a new workspace on the heap, in which nothing was straightened; `AllocError` if there is no memory for
+    /// it. Only this function's stack frame holds it while it is made.
     #[inline(never)]
     fn boxed(alloc: Global) -> Result<Box<Workspace>, AllocError> {
         let workspace = Workspace {
@@ -52,15 +52,17 @@ impl Workspace {
 /// The reflex angle at a vertex of degree 2 that turns. No other vertex has it.
 const REFLEX: u8 = 3;
 
-/// Returns a least shape, with as many bends as the given one, and with no more reflex angles.
+/// Returns a least shape, with as many bends as the given one, and with no more reflex angles: the given one if no
+/// better one is found. Works in `scratch`, which gets its buffers when first needed; `AllocError` if there is no
+/// memory for them or the new shape, and the given shape is then dropped.
 ///
 /// The same prices prove it least. At a vertex of degree 2 that turns, one angle is of three right angles and the other
 /// of one. Such vertices are made straight one after another: a unit goes from the reflex angle to the right angle, and
 /// back from the face of the right angle to that of the reflex angle, if there is a path of residual arcs whose reduced
 /// cost is 0 by the prices (a flow of least cost stays one along a cycle of such arcs, by complementary slackness). On
-/// that path no vertex of degree 2 begins to turn. The result of these moves is returned only if `is_shape` and `certify`
-/// accept it and it has fewer reflex angles. Otherwise the given shape is returned: after one look at each angle if no
-/// vertex can be made straight. How few vertices turn in the end is measured and not proved.
+/// that path no vertex of degree 2 begins to turn. The result of these moves is returned only if `is_shape` and
+/// `certify` accept it and it has fewer reflex angles. Otherwise the given shape is returned: after one look at each
+/// angle if no vertex can be made straight. How few vertices turn in the end is measured and not proved.
 ///
 /// # Errors
 ///
@@ -93,8 +95,9 @@ pub fn straighten_in(
     made
 }
 
-/// A least shape with as many bends as `shape` and no more reflex angles, found in the lists of `workspace`. Only
-/// vertices at the heads of dart `first` and later darts are made straight.
+/// Returns a least shape with as many bends as `shape` and no more reflex angles, found in the lists of `workspace`:
+/// `shape` itself if no better one is found. Only vertices at the heads of dart `first` and later darts are made
+/// straight. `AllocError` if there is no memory for the new shape; `shape` is then dropped.
 fn straighten_shape(
     alloc: Global,
     workspace: &mut Workspace,
@@ -140,7 +143,7 @@ fn first_movable(plane: &Plane, shape: &Shape, prices: &Prices) -> Option<u16>
     None
 }
 
-/// How many angles of three right angles a shape has.
+/// The number of reflex angles, those of three right angles, in `shape`.
 fn count_reflex(plane: &Plane, shape: &Shape) -> u16
     requires { HasDarts plane.now shape.now }
     ensures { result ≡ reflex_angles shape.now }
@@ -155,7 +158,7 @@ fn count_reflex(plane: &Plane, shape: &Shape) -> u16
 }
 
 /// Makes straight in `flow` each vertex of degree 2 where it can, at the heads of dart `first` and later darts, and
-/// returns whether it did anywhere.
+/// returns whether it did anywhere. It finds paths with `search`, which must be cleared for this plane before.
 fn straighten_from(
     flow: &mut ShapeFlow,
     search: &mut FaceSearch,
@@ -175,8 +178,8 @@ fn straighten_from(
     moved
 }
 
-/// Makes the vertex with this reflex angle straight in `flow` if its two angles are in one face or a path leads back,
-/// and returns whether it did.
+/// Makes the vertex at the head of dart `reflex`, which has a reflex angle, straight in `flow` if its two angles are in
+/// one face or `search` finds a path back, and returns whether it did; if not, `flow` stays unchanged.
 fn straighten_one(
     flow: &mut ShapeFlow,
     search: &mut FaceSearch,
@@ -202,8 +205,8 @@ fn straighten_one(
     true
 }
 
-/// Whether a unit may go from the reflex angle of a vertex of degree 2 to its right angle while the prices stay a
-/// proof.
+/// Whether a unit may go from the angle of dart `reflex`, a reflex angle at a vertex of degree 2, to the right angle
+/// there while the prices stay a proof.
 fn is_movable(plane: &Plane, prices: &Prices, reflex: u16) -> bool
     requires prices { HasPrices plane.now prices.now }
     requires within { reflex < darts plane.now }

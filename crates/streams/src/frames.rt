@@ -71,7 +71,7 @@ impl Frames {
         self.records.as_slice()
     }
 
-    /// How the source ended.
+    /// How the source ended: the mark of these frames.
     pub fn mark(&self) -> Mark
         ensures { result ≡ self.now.mark }
     {
@@ -79,7 +79,8 @@ impl Frames {
     }
 }
 
-/// Writes a line for each record and one for the mark of the source.
+/// Writes to `sink` a line for each record of `frames`, in order, and one for the mark, through a fixed buffer.
+/// `Write`, the only error, if `sink` fails: it then has a prefix of this text.
 ///
 /// It allocates nothing: lines are collected in a fixed buffer.
 ///
@@ -96,8 +97,9 @@ pub fn write_frames<S: Sink>(frames: &Frames, sink: &mut S) -> Result<(), WriteF
     write_mark(&mut lines, sink, frames.mark(), records.len() as u64)
 }
 
-/// Reads a source, piece by piece through `buffer`, and writes to the sink a line for each record and one for the mark;
-/// returns the mark.
+/// Reads `source`, piece by piece into `buffer`, and writes to `sink` a line for each record and one for the mark;
+/// returns the mark, which says too if the source failed or memory ran out. `Write`, the only error, if `sink` fails:
+/// it then has a prefix of the text.
 ///
 /// The line of a record is written before the next read of the source.
 ///
@@ -124,7 +126,9 @@ pub fn write_frames_of<T: Tap, S: Sink>(
     Ok(end.mark)
 }
 
-/// Reads a source and writes the lines of its records; returns their number and the mark of the source.
+/// Reads `source`, piece by piece into `buffer`, and writes the lines of its records to `sink` through `lines`, which
+/// must be empty and is empty again; returns their number and the mark, which says if memory ran out. `Write`, the only
+/// error, if `sink` fails: it then has a prefix of the lines, and `lines` keeps the text that it was to write.
 fn write_records_of<T: Tap, S: Sink>(
     source: T,
     alloc: Global,
@@ -170,6 +174,8 @@ impl<S: Sink> Receiver for RecordLines<'_, S> {
 
     ghost accepts = { λ _ _ _. ⊤ };
 
+    /// Writes the lines of `records`, numbered from `first` + 1, to the sink, and empties `records`. `Write`, the only
+    /// error, if the sink fails: it then has a prefix of these lines, and `records` stays as it is.
     fn receive(
         &mut self,
         _alloc: Global,
@@ -194,8 +200,9 @@ impl<S: Sink> Receiver for RecordLines<'_, S> {
     ghost stays_on = { λ x y z p q. (p.0 ∙ q.0, p.1 ∙ q.1) };
 }
 
-/// Writes the lines of `records`, numbered from `first` + 1, to the sink, through the buffer `lines`: this must be
-/// empty, and is empty again unless the sink fails.
+/// Writes the lines of `records`, numbered from `first` + 1, to `sink`, through the fixed buffer `lines`, which must be
+/// empty and is empty again. `Write`, the only error, if `sink` fails: it then has a prefix of the lines, and `lines`
+/// keeps the text that it was to write.
 fn write_records<S: Sink>(
     lines: &mut TextBuffer,
     sink: &mut S,
@@ -214,8 +221,9 @@ fn write_records<S: Sink>(
     lines.flush(sink)
 }
 
-/// Writes the line of a mark, with the number `count` of records, to the sink, through the buffer `lines`, which must
-/// be empty.
+/// Writes the line of `mark`, with the number `count` of records, to `sink`, through the fixed buffer `lines`, which
+/// must be empty and is empty again. `Write`, the only error, if `sink` fails: it then has a prefix of the line, and
+/// `lines` keeps it.
 fn write_mark<S: Sink>(
     lines: &mut TextBuffer,
     sink: &mut S,
@@ -230,8 +238,9 @@ fn write_mark<S: Sink>(
     lines.flush(sink)
 }
 
-/// Appends the line of one record to the buffer `lines`; if that has little room, first writes the whole buffer to the
-/// sink.
+/// Appends the line of `rec`, with the number `number`, to the fixed buffer `lines`; if fewer than `LINE` bytes are
+/// free there, first writes the whole buffer to `sink` and empties it. `Write`, the only error, if `sink` fails: it
+/// then has a prefix of the buffered text, and `lines` stays as it is.
 fn write_record<S: Sink>(
     lines: &mut TextBuffer,
     sink: &mut S,
@@ -247,7 +256,8 @@ fn write_record<S: Sink>(
     Ok(())
 }
 
-/// Appends the line of one record to the buffer.
+/// Appends the line of `rec`, with the number `number`, to the fixed buffer `lines`, in which `LINE` bytes must be
+/// free.
 fn push_record(lines: &mut TextBuffer, number: u64, rec: &Record)
     requires { length lines.old + LINE ≤ ROOM }
     ensures { lines.new ≡ lines.old ++ record_line number rec.now }
@@ -261,7 +271,8 @@ fn push_record(lines: &mut TextBuffer, number: u64, rec: &Record)
     lines.push(b"\n");
 }
 
-/// Appends the line of a mark to the buffer.
+/// Appends the line of `mark`, with the number `count` of records, to the fixed buffer `lines`, in which `LINE` bytes
+/// must be free.
 fn push_end(lines: &mut TextBuffer, mark: Mark, count: u64)
     requires { length lines.old + LINE ≤ ROOM }
     ensures { lines.new ≡ lines.old ++ frames_end_line mark count }
@@ -273,7 +284,7 @@ fn push_end(lines: &mut TextBuffer, mark: Mark, count: u64)
     lines.push(b"\n");
 }
 
-/// The word for a mark in text output.
+/// The word for `mark` in text output, such as `complete` or `io`; at most 9 bytes long.
 pub fn mark_word(mark: Mark) -> &'static str
     ensures word { result.now ≡ word_of mark }
     ensures short { length result.now ≤ 9 }

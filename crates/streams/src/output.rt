@@ -53,7 +53,8 @@ pub trait Sink {
 
     ghost failed: { Self → Bool };
 
-    /// Takes the first bytes of `piece` and returns how many: at least one of a nonempty piece.
+    /// Takes the first bytes of `piece` and returns how many: at least one of a nonempty piece. `SinkFault` if it takes
+    /// no more: nothing of `piece` is taken, and the sink has then failed.
     ///
     /// # Errors
     ///
@@ -76,7 +77,7 @@ pub struct IoSink<W> {
 }
 
 impl<W: Write> IoSink<W> {
-    /// A sink over this writer, which has not failed yet. What the writer contains already counts as taken.
+    /// A sink over `writer`, which has not failed yet. What the writer contains already counts as taken.
     pub fn new(writer: W) -> IoSink<W>
         ensures taken { ⟦<IoSink<W> as Sink>⟧.taken result ≡ W.contents writer }
         ensures intact { ⟦<IoSink<W> as Sink>⟧.failed result ≡ false }
@@ -87,7 +88,7 @@ impl<W: Write> IoSink<W> {
         }
     }
 
-    /// Returns the writer, with all that the sink took.
+    /// Consumes the sink and returns its writer, which contains all that the sink took.
     pub fn into_writer(self) -> W
         ensures { W.contents result ≡ ⟦<IoSink<W> as Sink>⟧.taken self }
     {
@@ -101,6 +102,9 @@ impl<W: Write> Sink for IoSink<W> {
 
     ghost failed = { λ s. s.failed };
 
+    /// Writes the first bytes of `piece` to the writer and returns how many: at least one of a nonempty piece.
+    /// `SinkFault` if the write fails or takes nothing of a nonempty piece: nothing is written, and the sink has then
+    /// failed.
     fn put(&mut self, piece: &[u8]) -> Result<usize, SinkFault> {
         match self.writer.write(piece) {
             Ok(count) if count > 0 || piece.is_empty() => Ok(count),
@@ -134,7 +138,7 @@ impl Model for TextBuffer {
 }
 
 impl TextBuffer {
-    /// An empty buffer.
+    /// An empty buffer with space for `ROOM` bytes, which are part of the value itself.
     pub fn new() -> TextBuffer
         ensures { result ≡ [] }
     {
@@ -151,7 +155,7 @@ impl TextBuffer {
         self.len == 0
     }
 
-    /// Appends `text`, for which there must be room.
+    /// Appends `text` to the buffer, in which as many bytes must be free.
     pub fn push(&mut self, text: &[u8])
         requires { length self.old + length text.now ≤ ROOM }
         ensures { self.new ≡ self.old ++ text.now }
@@ -161,7 +165,7 @@ impl TextBuffer {
         self.len = end;
     }
 
-    /// Appends a number in decimal, for which there must be room.
+    /// Appends `number` in decimal to the buffer, in which 40 bytes must be free.
     pub fn push_number(&mut self, number: u64)
         requires { length self.old + 40 ≤ ROOM }
         ensures text { self.new ≡ self.old ++ decimal number }
@@ -171,7 +175,8 @@ impl TextBuffer {
         self.push(buffer.format(number).as_bytes());
     }
 
-    /// Makes sure that `LINE` bytes are free: if fewer are, writes the whole buffer to the sink.
+    /// Makes sure that `LINE` bytes are free: if fewer are, writes the whole buffer to `sink` and empties it. `Write`,
+    /// the only error, if `sink` fails: it then has a prefix of the buffered text, and the buffer keeps its bytes.
     ///
     /// # Errors
     ///
@@ -189,8 +194,9 @@ impl TextBuffer {
         self.flush(sink)
     }
 
-    /// Appends `text`, of any length, in pieces; if fewer than `LINE` bytes are free, writes the whole buffer to the
-    /// sink before a piece. It allocates nothing.
+    /// Appends `text`, of any length, in pieces of at most `LINE` bytes; before a piece for which fewer than `LINE`
+    /// bytes are free, writes the whole buffer to `sink`. `Write`, the only error, if `sink` fails: it then has a
+    /// prefix of the buffered text and `text`, and the rest of `text` is not appended.
     ///
     /// # Errors
     ///
@@ -213,7 +219,8 @@ impl TextBuffer {
         Ok(())
     }
 
-    /// Writes the whole buffer to the sink and empties it; after an error the buffer keeps its bytes.
+    /// Writes the whole buffer to `sink` and empties it. `Write`, the only error, if `sink` fails: it then has a prefix
+    /// of the buffered text, and the buffer keeps all its bytes.
     ///
     /// # Errors
     ///
@@ -230,7 +237,8 @@ impl TextBuffer {
     }
 }
 
-/// Writes all of `text` to the sink, by several writes if the sink takes only part at once.
+/// Writes all of `text` to `sink`, by several writes if it takes only part at once. `Write`, the only error, if `sink`
+/// fails: it then has a prefix of `text`.
 ///
 /// # Errors
 ///

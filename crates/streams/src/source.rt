@@ -54,7 +54,7 @@ pub struct MemTap {
 impl MemTap {
     ghost use Rattle.streams.specs.Memory.{most_of};
 
-    /// A source of these bytes; a read returns at most `most` of them.
+    /// A source of `bytes`, from the first on; a read returns at most `most` of them.
     pub fn new(bytes: Vec<u8>, most: usize) -> MemTap
         requires { 0 < most }
         ensures tells { ⟦<MemTap as Tap>⟧.to_come result ≡ Some bytes.items }
@@ -72,7 +72,10 @@ impl Tap for MemTap {
 
     ghost fails = { λ _. false };
 
-    // The contract of every tap, and that no read returns more bytes than chosen.
+    /// Copies the next bytes, at most as many as chosen, into the beginning of `buf` and returns how many. If `buf` is
+    /// not empty, 0 is the end of the source. It never fails.
+    ///
+    /// The contract of every tap, and that no read returns more bytes than chosen.
     fn read(&mut self, buf: &mut [u8]) -> Result<usize, TapFault>
         ensures bound { IfOk result (λ n. n ≤ length buf.new) }
         ensures given { IfOk result (λ n. Consumes (⟦<MemTap as Tap>⟧.to_come self.old)
@@ -96,8 +99,8 @@ impl Tap for MemTap {
 
 /// A receiver of the records of a source as they are read.
 ///
-/// In proofs it has which records, numbered from a first one on, were received from one value to a later one, or refused
-/// in part; when and which ones it may be passed; and which part of it stays the same.
+/// In proofs it has which records, numbered from a first one on, were received from one value to a later one, or
+/// refused in part; when and which ones it may be passed; and which part of it stays the same.
 pub trait Receiver {
     /// The reason why records were refused.
     type Refusal: Drop;
@@ -115,7 +118,9 @@ pub trait Receiver {
     // Which records it may be passed, of which the first has this place in the source.
     ghost accepts: { Self → ℕ → List (List ℕ) → Type 0 };
 
-    /// Takes all records out of the list, in order. The first of them has the place `first` in the source.
+    /// Takes all records out of `records`, in order; the first of them has the place `first`, from 0, in the source.
+    /// `Refusal`, a reason of the implementation, such as lack of memory, if it refuses one: some records may be taken
+    /// then, and the source is read no further.
     ///
     /// # Errors
     ///
@@ -157,7 +162,7 @@ pub trait Receiver {
 /// The number of bytes requested from a source at once.
 pub const PIECE: usize = 65_536;
 
-/// A new buffer of `PIECE` bytes, into which a source is read.
+/// A new buffer of `PIECE` bytes, all 0, into which a source is read. `AllocError` if there is no memory for it.
 ///
 /// # Errors
 ///
@@ -177,7 +182,9 @@ pub struct SourceEnd {
     pub mark: Mark,
 }
 
-/// Reads a source and passes its records, in order, to `receiver`; returns their number and the mark of the source.
+/// Reads `source`, piece by piece into `buffer`, and passes its records, in order, to `receiver`; returns their number
+/// and the mark of the source, which is `Memory` if memory ran out for the records. The only error is the refusal of
+/// `receiver`, which has then received the records before.
 ///
 /// It reads to the end of the source, to its failure or to the first fault in its bytes. The mark is `Memory` if the
 /// framer ran out of memory.

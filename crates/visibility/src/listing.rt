@@ -38,7 +38,8 @@ impl StraightEdges {
         }
     }
 
-    /// Forgets all edges, and makes room for those of this many vertices.
+    /// Removes all edges, and makes an entry for each of `vertices` vertices, numbered from 1. `AllocError` if there is
+    /// no memory for the entries; the old edges are then gone, too.
     pub(crate) fn begin(&mut self, vertices: u16) -> Result<(), AllocError>
         ensures { OnOk result (vec_len self.new.beside ≡ vertices + 1) }
     {
@@ -46,7 +47,9 @@ impl StraightEdges {
         self.beside.resize(usize::from(vertices) + 1, ALONE)
     }
 
-    /// Adds the straight edge between two vertices with these coordinates.
+    /// Adds the straight edge between the vertex `tail`, at the coordinate `from`, and the vertex `head`, at `to`. It
+    /// leads ahead from the vertex with the lesser coordinate, and replaces the edges that led ahead from there and
+    /// back from the other.
     pub(crate) fn connect(&mut self, tail: u16, from: u32, head: u16, to: u32)
         requires tail { tail < vec_len self.old.beside }
         requires head { head < vec_len self.old.beside }
@@ -59,7 +62,8 @@ impl StraightEdges {
         }
     }
 
-    /// Adds the straight edge that leads ahead from the lower vertex to the higher one.
+    /// Adds the straight edge that leads ahead from the lower vertex `low` to the higher one `high`; it replaces the
+    /// edges that led ahead from `low` and back from `high`.
     fn lead(&mut self, low: u16, high: u16)
         requires low { low < vec_len self.old.beside }
         requires high { high < vec_len self.old.beside }
@@ -69,14 +73,14 @@ impl StraightEdges {
         self.beside[usize::from(high)].back = low;
     }
 
-    /// Whether a straight edge leads to this vertex from one with a lesser coordinate.
+    /// Whether a straight edge leads to `vertex` from a vertex with a lesser coordinate.
     pub(crate) fn is_led_to(&self, vertex: u16) -> bool
         requires { vertex < vec_len self.now.beside }
     {
         self.beside[usize::from(vertex)].back != 0
     }
 
-    /// The vertex to which the straight edge ahead leads; 0 if there is none.
+    /// The vertex to which the straight edge ahead of `vertex` leads; 0 if there is none.
     pub(crate) fn ahead(&self, vertex: u16) -> u16
         requires { vertex < vec_len self.now.beside }
     {
@@ -84,8 +88,9 @@ impl StraightEdges {
     }
 }
 
-/// Sets for each segment the segments of the other axis on which it begins and ends, counts it at these, and lists it
-/// by its coordinate; `TooLarge` if a place is on no segment, or 65,535 begin or end on one already.
+/// Sets for each segment of `along` the segments of `other` on which it begins and ends, counts it at these in `other`,
+/// and lists `along` by coordinates. `TooLarge` if an end is on no segment, or 65,535 begin or end on one already;
+/// `Memory` if there is no memory for the lists. Both leave `along` and `other` partly changed.
 pub(crate) fn find_ends(along: &mut Segments, other: &mut Segments) -> Result<(), SegmentFault>
     requires few { AreFew along.old.segments.items }
     ensures listed { OnOk result (AreListed along.new.segments.items along.new.firsts.items) }
@@ -101,8 +106,9 @@ pub(crate) fn find_ends(along: &mut Segments, other: &mut Segments) -> Result<()
     Ok(along.list_anew()?)
 }
 
-/// Sets for each segment the segments of the other axis where it begins and ends, and counts it at these; `TooLarge`
-/// if a place is on no segment, or 65,535 begin or end on one already.
+/// Sets for each of `segments` the indices in `others` of the segments on which it begins and ends, as `of` gives them
+/// for its end places, and counts it at these in `others`. `TooLarge` if a place is on no segment, or 65,535 begin or
+/// end on one already: earlier segments have then changed.
 fn set_ends(
     segments: &mut [Segment],
     others: &mut [Segment],
@@ -127,7 +133,8 @@ fn set_ends(
     Ok(())
 }
 
-/// The two segments on which this one begins and ends; `None` if one of them is not among the first `count`.
+/// The indices of the two segments on which `segment` begins and ends, in this order, as `of` gives them for its end
+/// places; `None` if a place is not in `of`, or an index is not below `count`.
 fn ends_of(segment: &Segment, of: &[u16], count: usize) -> Option<(u16, u16)>
     ensures { IfSome result (λ ends. (ends.0 < count) × (ends.1 < count)) }
 {
@@ -136,7 +143,8 @@ fn ends_of(segment: &Segment, of: &[u16], count: usize) -> Option<(u16, u16)>
     Some((first, last))
 }
 
-/// Counts a segment at those where it begins and ends; `TooLarge` if 65,535 begin or end there already.
+/// Adds 1 to the number of segments that begin on the one with the index `first`, and to that of those that end on
+/// `last`, in `segments`. `TooLarge` if one of the two is 65,535 already; nothing changes then.
 fn count_ends(segments: &mut [Segment], first: u16, last: u16) -> Result<(), SegmentFault>
     requires first { first < length segments.old }
     requires last { last < length segments.old }
@@ -172,8 +180,9 @@ pub(crate) struct Bent {
 /// The maximum number of vertices and corners.
 const MAX_PLACES: usize = 65_535;
 
-/// Fills `lists` anew with the segments of a drawing along both axes, with their ends; `TooLarge` if the lists cannot
-/// hold them, or a vertex or corner is on no segment.
+/// Fills `lists` anew with the segments of a drawing along both axes, their ends, and its bent edges; the other buffers
+/// in it stay. `TooLarge` if the lists cannot hold them, or a vertex or corner is on no segment; `Memory` if there is
+/// no memory for them. Both leave these lists incomplete.
 pub(crate) fn list_segments(
     lists: &mut Lists,
     plane: &Plane,
@@ -195,7 +204,8 @@ pub(crate) fn list_segments(
     find_ends(y, x)
 }
 
-/// Adds each edge that has no corner to the straight edges of its axis, and appends each other one to `lists.bent`.
+/// Adds each edge without corners to the straight edges of its axis in `lists`, and appends each other one, in order,
+/// to `lists.bent`. `AllocError` if there is no memory for `lists.bent`; edges added earlier stay.
 fn list_edges(lists: &mut Lists, plane: &Plane, points: &Points) -> Result<(), AllocError>
     requires points { HasPoints plane.now points.now }
     requires x_edges { length points.now.vertices < vec_len lists.old.x.edges.beside }
@@ -221,7 +231,9 @@ fn list_edges(lists: &mut Lists, plane: &Plane, points: &Points) -> Result<(), A
     Ok(())
 }
 
-/// Adds an edge to the straight edges of its axis if it has no corner, and otherwise appends it to `lists.bent`.
+/// Adds the edge `edge` between the vertices `tail` and `head` to the straight edges of its axis in `lists` if it has
+/// no corner, and otherwise appends it to `lists.bent`. `AllocError` if there is no memory for that, and nothing
+/// changes.
 fn list_edge(
     lists: &mut Lists,
     points: &Points,
@@ -264,8 +276,9 @@ fn list_edge(
     Ok(())
 }
 
-/// Adds the segments of the first `count` vertices and the straight edges between them to `x` and `y`; `TooLarge` if
-/// there is no room.
+/// Adds the segments of the first `count` vertices and the straight edges between them to `x` and `y`. `TooLarge` if
+/// there are too many segments, a coordinate is above `MAX_COORDINATE`, or an edge leads to a vertex with no place;
+/// `Memory` if there is no memory for them. Segments added earlier stay.
 fn list_straight(
     count: u16,
     points: &Points,
@@ -290,7 +303,9 @@ fn list_straight(
     Ok(())
 }
 
-/// Adds the corners of all edges to segments; `TooLarge` if there are too many.
+/// Adds the corners of the edges `bent`, and the segments between them, to `x` and `y`. `TooLarge` if there are too
+/// many, a coordinate is above `MAX_COORDINATE`, or an end of an edge is on no segment; `Memory` if there is no memory
+/// for them. What was added earlier stays.
 fn list_bent(
     bent: &[Bent],
     points: &Points,
@@ -309,8 +324,9 @@ fn list_bent(
     Ok(())
 }
 
-/// Adds the corners of an edge to the segments on which they lie, which begin or end there, and a new segment between
-/// each two corners; `TooLarge` if there are too many, or an end of the edge is on no segment.
+/// Adds the corners of the edge `bent` to the segments of `x` and `y` on which they lie, which begin or end there, and
+/// a new segment between each two corners. `TooLarge` if there are too many, a coordinate is above `MAX_COORDINATE`, or
+/// an end of the edge is on no segment; `Memory` if there is no memory. Part of the edge may then be added.
 fn list_corners(
     corners: &[Point],
     bent: Bent,
@@ -353,9 +369,9 @@ fn list_corners(
     }
 }
 
-/// Adds the corner at `place`, to which an edge runs along `segment` between the coordinates `run`, and returns the
-/// segment of the other axis along which it leaves: that of the vertex `end`, or a new one if `None`. `TooLarge` if
-/// there is no room, or `end` is on no segment.
+/// Adds the corner at `place`, to which an edge runs along `segment` of `from_segments` between the coordinates `run`.
+/// Returns the segment of `to_segments` along which it leaves: that of the vertex `end`, or a new one if `None`.
+/// `TooLarge` if there are too many or `end` is on none; `Memory` if there is no memory. The segments may have changed.
 fn turn(
     from_segments: &mut Segments,
     segment: u16,

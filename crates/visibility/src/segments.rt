@@ -20,18 +20,20 @@ pub(crate) const MAX_COORDINATE: u16 = 65_534;
 pub(crate) enum SegmentFault {
     /// Memory ran out.
     Memory,
-    /// There are more vertices, corners, segments or parts of edges than the lists can hold, or a coordinate is too great
-    /// for them. It also stands where no invariant says that an entry of one list is in the range of the next.
+    /// There are more vertices, corners, segments or parts of edges than the lists can hold, or a coordinate is too
+    /// great for them. It also stands where no invariant says that an entry of one list is in the range of the next.
     TooLarge,
 }
 
 impl From<AllocError> for SegmentFault {
+    /// Returns `Memory`, whatever the error.
     fn from(_refused: AllocError) -> SegmentFault {
         SegmentFault::Memory
     }
 }
 
 impl<T: Drop> From<AllocFailed<T>> for SegmentFault {
+    /// Returns `Memory`, whatever the error, and drops what could not be stored.
     fn from(_refused: AllocFailed<T>) -> SegmentFault {
         SegmentFault::Memory
     }
@@ -58,9 +60,9 @@ pub(crate) struct Segment {
 }
 
 impl Segment {
-    /// Whether it is surely as short as can be while the segments of the other axis, `along`, keep their order: no part
-    /// of an edge on it is longer than 1, or steps of 1 lead from where it begins to where it ends (`leads`). `other`
-    /// are the segments of its own axis.
+    /// Whether this segment is surely as short as can be while the segments of the other axis, `along`, keep their
+    /// order: no part of an edge on it is longer than 1, or steps of 1 lead from where it begins to where it ends
+    /// (`leads`). False also if that is not seen. `other` are the segments of its own axis.
     fn is_shortest(&self, other: &[Segment], along: &Segments) -> bool
         requires begins { self.now.begins_on < vec_len along.now.segments }
         requires ends { self.now.ends_on < vec_len along.now.segments }
@@ -72,8 +74,8 @@ impl Segment {
         from.coordinate.abs_diff(to.coordinate) <= self.parts || along.leads(other, from, to)
     }
 
-    /// A bit for each level that it crosses, and none if there is a level from 64 on. `other` are the segments of the
-    /// other axis.
+    /// A bit for each level that the segment crosses, the lowest bit for level 0; 0 if it crosses a level above 63.
+    /// `other` are the segments of the other axis.
     fn levels(&self, other: &[Segment]) -> u64
         requires begins { self.now.begins_on < length other.now }
         requires ends { self.now.ends_on < length other.now }
@@ -85,7 +87,8 @@ impl Segment {
         (u64::MAX >> (63 - (high - low))) << low
     }
 
-    /// The lowest and the highest level that it crosses.
+    /// The lowest and the highest level that the segment crosses, in this order: the coordinates of the segments on
+    /// which it begins and ends, in `other`, the segments of the other axis.
     pub(crate) fn span(&self, other: &[Segment]) -> (u16, u16)
         requires begins { self.now.begins_on < length other.now }
         requires ends { self.now.ends_on < length other.now }
@@ -124,7 +127,8 @@ impl Segments {
         }
     }
 
-    /// Forgets all segments, and makes a place for each of this many vertices.
+    /// Removes all segments, their lists and their straight edges, and makes a place for each of `vertices` vertices.
+    /// `AllocError` if there is no memory for the places or the edges; the old segments are then gone, too.
     pub(crate) fn begin(&mut self, vertices: u16) -> Result<(), AllocError>
         ensures few { OnOk result (AreFew self.new.segments.items) }
         ensures of { OnOk result (vec_len self.new.of ≡ vertices) }
@@ -137,8 +141,9 @@ impl Segments {
         self.edges.begin(vertices)
     }
 
-    /// Adds a segment with this coordinate that reaches from one vertex or corner to another, by their places, over this
-    /// many parts of edges, and returns its index; `TooLarge` if there is no room.
+    /// Appends a segment with this coordinate that reaches from the vertex or corner at the place `begins_on` to the
+    /// one at `ends_on`, over `parts` parts of edges, and returns its index. `TooLarge` if there are `MAX_SEGMENTS`
+    /// already or `coordinate` is above `MAX_COORDINATE`, `Memory` if there is no memory; nothing changes then.
     pub(crate) fn add(
         &mut self,
         coordinate: u32,
@@ -169,8 +174,9 @@ impl Segments {
         Ok(place as u16)
     }
 
-    /// Adds the segment with this coordinate that begins at a vertex, with all to which straight edges lead from there;
-    /// none if such an edge leads to the vertex. `TooLarge` if there is no room, or an edge leads to a vertex with no place.
+    /// Appends the segment with this coordinate of `vertex` and all vertices ahead of it on straight edges, and sets it
+    /// for their places; does nothing if such an edge leads to `vertex`. `TooLarge` as in `add`, or if an edge leads to
+    /// a vertex with no place: the segment is then incomplete. `Memory` if there is no memory; nothing changes then.
     pub(crate) fn add_straight(&mut self, vertex: u16, coordinate: u32) -> Result<(), SegmentFault>
         requires vertex { 0 < vertex }
         requires place { vertex ≤ vec_len self.old.of }
@@ -204,8 +210,8 @@ impl Segments {
         Ok(())
     }
 
-    /// Makes a segment begin or end at the vertex or corner with this place, to which one part more leads; `TooLarge` if
-    /// it has 65,535 parts.
+    /// Makes the segment with the index `segment` end at the vertex or corner at `place` if `is_end`, and otherwise
+    /// begin there, and adds 1 to its parts. `TooLarge` if it has 65,535 parts already; nothing changes then.
     pub(crate) fn extend(
         &mut self,
         segment: u16,
@@ -230,7 +236,7 @@ impl Segments {
     }
 
     /// Whether each segment is surely as short as can be while the segments of the other axis, `along`, keep their
-    /// order; false if that is not seen.
+    /// order; false also if that is not seen, and true if there are no segments.
     pub(crate) fn are_shortest(&self, along: &Segments) -> bool
         requires ends { HaveEnds self.now.segments.items (vec_len along.now.segments) }
         requires listed { AreListed along.now.segments.items along.now.firsts.items }
@@ -245,7 +251,8 @@ impl Segments {
         true
     }
 
-    /// The length of all segments with these segments of the other axis.
+    /// The sum of the lengths of all segments, as the segments of the other axis, `along`, are placed on which they
+    /// begin and end; 0 if there are no segments.
     pub(crate) fn length(&self, along: &Segments) -> u64
         requires few { vec_len self.now.segments ≤ MAX_SEGMENTS }
         requires ends { HaveEnds self.now.segments.items (vec_len along.now.segments) }
@@ -260,7 +267,7 @@ impl Segments {
         length
     }
 
-    /// Whether steps of 1 lead over segments from one to another, each to one that shares a level with the segment
+    /// Whether steps of 1 lead over segments from `from` up to `to`, each to one that shares a level with the segment
     /// before: then the two cannot come nearer to each other while segments on each level keep their order. It does not
     /// see segments that cross a level above 63; `other` are the segments of the other axis.
     fn leads(&self, other: &[Segment], from: Segment, to: Segment) -> bool
@@ -279,7 +286,8 @@ impl Segments {
         levels & to.levels(other) != 0
     }
 
-    /// The levels of all segments with this coordinate that cross one of these levels.
+    /// The levels, one bit each, of all segments with this coordinate that cross one of `levels`; 0 if there are none.
+    /// It does not see segments that cross a level above 63; `other` are the segments of the other axis.
     fn levels_behind(&self, other: &[Segment], coordinate: usize, levels: u64) -> u64
         requires coordinate { coordinate < vec_len self.now.firsts }
         requires listed { AreListed self.now.segments.items self.now.firsts.items }
@@ -302,7 +310,8 @@ impl Segments {
         behind
     }
 
-    /// Makes a list for each coordinate up to the greatest, all empty.
+    /// Replaces the lists of segments by empty ones, one for each coordinate up to the greatest of a segment.
+    /// `AllocError` if there is no memory for them; the old lists are then gone, too.
     fn begin_lists(&mut self) -> Result<(), AllocError>
         requires { AreFew self.old.segments.items }
         ensures same { self.new.segments ≡ self.old.segments }
@@ -314,7 +323,9 @@ impl Segments {
         self.firsts.resize(usize::from(greatest) + 1, 0)
     }
 
-    /// Makes the lists of segments anew, one for each coordinate. The old lists are gone also if memory runs out.
+    /// Replaces the lists of segments by new ones, one for each coordinate up to the greatest of a segment, with each
+    /// segment in that of its coordinate. `AllocError` if there is no memory for them; the old lists are then gone,
+    /// too.
     pub(crate) fn list_anew(&mut self) -> Result<(), AllocError>
         requires few { AreFew self.old.segments.items }
         ensures listed { OnOk result (AreListed self.new.segments.items self.new.firsts.items) }
@@ -326,8 +337,9 @@ impl Segments {
         Ok(())
     }
 
-    /// Gives each segment a coordinate of its own, in the order of those that they have; `TooLarge` if one is listed
-    /// twice.
+    /// Gives each segment a coordinate of its own, from 0 on, in the order of those that they have, and makes the lists
+    /// anew. `TooLarge` if one is listed twice, `Memory` if there is no memory for the lists: coordinates have then
+    /// changed, and the lists do not fit them.
     pub(crate) fn set_apart(&mut self) -> Result<(), SegmentFault>
         requires listed { AreListed self.old.segments.items self.old.firsts.items }
         ensures listed { OnOk result (AreListed self.new.segments.items self.new.firsts.items) }
@@ -338,22 +350,24 @@ impl Segments {
         Ok(self.list_anew()?)
     }
 
-    /// The segment on which the vertex at this place lies, if it lies on one.
+    /// The index of the segment on which the vertex or corner at `place` lies; `None` if there is no such place or
+    /// segment.
     pub(crate) fn segment_at(&self, place: u16) -> Option<u16>
         ensures { IfSome result (λ segment. segment < vec_len self.now.segments) }
     {
         segment_of(self.of.as_slice(), usize::from(place), self.segments.len())
     }
 
-    /// The coordinate of the vertex or corner at this place, if it lies on a segment.
+    /// The coordinate of the segment on which the vertex or corner at `place` lies; `None` if there is no such place or
+    /// segment.
     pub(crate) fn coordinate_at(&self, place: usize) -> Option<u32> {
         let segment = segment_of(self.of.as_slice(), place, self.segments.len())?;
         Some(u32::from(self.segments[usize::from(segment)].coordinate))
     }
 }
 
-/// The segment on which `of` says that the vertex or corner at this place lies; `None` if there is no such place, or
-/// the segment is not below `count`.
+/// The index of the segment on which the vertex or corner at `place` lies, as `of` gives it; `None` if there is no such
+/// place, or the index is not below `count`.
 pub(crate) fn segment_of(of: &[u16], place: usize, count: usize) -> Option<u16>
     ensures { IfSome result (λ segment. segment < count) }
 {
@@ -379,7 +393,8 @@ fn greatest_of(segments: &[Segment]) -> u16
     greatest
 }
 
-/// Empties the list of a coordinate, and returns the first segment of it, by its index plus 1; 0 if there is none.
+/// Empties the list of `coordinate`: sets its entry of `firsts` to 0, and returns the old entry, the index of its first
+/// segment plus 1, or 0 if it had none.
 pub(crate) fn take_first(firsts: &mut [u16], coordinate: usize) -> u16
     requires { coordinate < length firsts.old }
     ensures first { result ≡ slice_index firsts.old coordinate }
@@ -388,7 +403,8 @@ pub(crate) fn take_first(firsts: &mut [u16], coordinate: usize) -> u16
     mem::replace(&mut firsts[coordinate], 0)
 }
 
-/// Puts a segment, whose index is `place`, at the front of the list of its coordinate.
+/// Puts `segment`, whose index is `place`, at the front of the list of its coordinate: sets `segment.next` to the entry
+/// of `firsts` for that coordinate, and then the entry to `place` plus 1.
 pub(crate) fn list(firsts: &mut [u16], segment: &mut Segment, place: u16)
     requires coordinate { segment.old.coordinate < length firsts.old }
     requires place { place + 1 < 2 ^ 16 }
@@ -400,7 +416,8 @@ pub(crate) fn list(firsts: &mut [u16], segment: &mut Segment, place: u16)
     *first = place + 1;
 }
 
-/// Puts each segment, in order, at the front of the list of its coordinate.
+/// Puts each of `segments`, from the first to the last, at the front of the list of its coordinate: sets `next` in
+/// `segments`, and the entries of `firsts`.
 fn list_all(segments: &mut [Segment], firsts: &mut [u16])
     requires { AreListed segments.old firsts.old }
     ensures listed { AreListed segments.new firsts.new }
@@ -411,8 +428,8 @@ fn list_all(segments: &mut [Segment], firsts: &mut [u16])
     }
 }
 
-/// Gives each segment a coordinate of its own, in the order of those that they have, but does not list them anew;
-/// `TooLarge` if one is listed twice.
+/// Gives each of `segments` that the lists `firsts` have a coordinate of its own, in the order of those that they have,
+/// but does not list them anew. `TooLarge` if one is listed twice: some coordinates have then changed.
 fn spread(segments: &mut [Segment], firsts: &[u16]) -> Result<(), SegmentFault>
     requires { AreListed segments.old firsts.now }
     ensures few { AreFew segments.new }

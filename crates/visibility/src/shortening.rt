@@ -29,7 +29,7 @@ pub(crate) struct Shortening {
 }
 
 impl Shortening {
-    /// Empty buffers; nothing is allocated.
+    /// Empty buffers and no looks; nothing is allocated.
     pub(crate) fn empty(alloc: Global) -> Shortening
         ensures { result.wires.items ≡ [] }
     {
@@ -43,14 +43,16 @@ impl Shortening {
         }
     }
 
-    /// Lets the searches for a drawing go over `MAX_LOOKS` segments in all.
+    /// Sets the looks to `MAX_LOOKS`: the number of segments that the searches for a drawing may go over in all.
     pub(crate) fn begin(&mut self) {
         self.looks = MAX_LOOKS;
     }
 
-    /// Gives segments coordinates with which those of the other axis, `other`, are shortest in all, while the
-    /// segments on each level keep their order; returns whether they are shorter then. If not, no coordinate changes. The
-    /// search that takes the last of the looks for this drawing may leave them shorter, and yet not shortest.
+    /// Gives `along` coordinates with which the segments of the other axis, `other`, are shortest in all, while `along`
+    /// keeps its order on each level; returns whether they are shorter then, and if not, leaves `along` as it is. Takes
+    /// looks for the search. `AllocError` if there is no memory: `along` is as it was, or its new lists are missing.
+    ///
+    /// The search that takes the last of the looks for this drawing may leave them shorter, and yet not shortest.
     pub(crate) fn shorten(
         &mut self,
         along: &mut Segments,
@@ -90,8 +92,9 @@ impl Shortening {
         Ok(true)
     }
 
-    /// Lists anew the segments of `along` in the order of their coordinates, with the levels that they cross, and the
-    /// place of each there; returns false if more or fewer are listed than there are.
+    /// Replaces `segments` by those of `along` in the order of their coordinates, with the levels that they cross by
+    /// `other`, the segments of the other axis, and `places` by the place of each there. False if more or fewer are
+    /// listed than there are, `AllocError` if there is no memory for the two: both are then incomplete.
     fn list_segments(&mut self, along: &Segments, other: &[Segment]) -> Result<bool, AllocError>
         requires listed { AreListed along.now.segments.items along.now.firsts.items }
         requires ends { HaveEnds along.now.segments.items (length other.now) }
@@ -129,8 +132,9 @@ impl Shortening {
         Ok(self.segments.len() == segments.len())
     }
 
-    /// Lists anew the segments of the other axis as wires from the segment where each begins to that where it ends,
-    /// without those that begin and end on the same one.
+    /// Replaces `wires` by one for each segment of the other axis, `other`, from the place of the segment where it
+    /// begins to that where it ends, without those that begin and end on the same one. `AllocError` if there is no
+    /// memory for `wires`, which is then incomplete.
     fn list_wires(&mut self, other: &[Segment]) -> Result<(), AllocError>
         requires { HaveEnds other.now (vec_len self.old.places) }
         ensures places { self.new.places ≡ self.old.places }
@@ -150,8 +154,9 @@ impl Shortening {
     }
 }
 
-/// Writes into `coordinates` those with which the wires are shortest, or only shorter if the search runs out of
-/// `looks`; returns false if it finds none.
+/// Writes to `coordinates` those with which the wires are shortest, or only shorter if the search runs out of `looks`;
+/// it takes one for each segment gone over. False if it finds none. After false or an error, what `coordinates` holds
+/// does not matter. Overwrites the buffers of `search`; `AllocError` if there is no memory for them.
 fn find(
     search: &mut least_length::Scratch,
     segments: &[least_length::Segment],
@@ -170,7 +175,8 @@ fn find(
     take_shorter(search, segments, wires, coordinates)
 }
 
-/// Gives each segment a coordinate found: segment r the one at the place `places[r]`.
+/// Gives each of `segments` a coordinate found: segment r the one at the place `places[r]` in `coordinates`. It does
+/// not list them anew.
 fn assign(segments: &mut [Segment], places: &[u16], coordinates: &[u16])
     requires count { length places.now ≡ length segments.old }
     requires places { (r : ℕ) → r < length places.now → slice_index places.now r < length coordinates.now }
@@ -184,7 +190,8 @@ fn assign(segments: &mut [Segment], places: &[u16], coordinates: &[u16])
     }
 }
 
-/// Whether no coordinate is above those that segments can have.
+/// Whether none of `coordinates` is above `MAX_COORDINATE`, the greatest that segments can have; true if there are
+/// none.
 fn are_low(coordinates: &[u16]) -> bool
     ensures { result ≡ true → (r : ℕ) → slice_index coordinates.now r ≤ MAX_COORDINATE }
 {
