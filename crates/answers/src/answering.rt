@@ -5,7 +5,7 @@ ghost use Rattle.lanes.specs.Notes.{About};
 ghost use Rattle.answers.specs.Spelt.{IsSpelt};
 
 use crate::drawing::DrawScratch;
-use crate::holder::{EmbedScratch, held, joined_scratch, taken};
+use crate::holder::{EmbedScratch, joined_scratch, put_in_holder, take_from_holder};
 use crate::item::{Carried, Item, KeepEntries, Purpose, ShapeFound, Task, Traced};
 use crate::shaping::{ShapeScratch, shape};
 use crate::stages::embed;
@@ -46,7 +46,7 @@ impl<P: Purpose> Staged for Item<P, Record, ()> {
             task: self.task,
             purpose: self.purpose,
             rec: P::Carried::carried(self.rec),
-            state: held(alloc, scratch.shell.take(), plane),
+            state: put_in_holder(alloc, scratch.shell.take(), plane),
         }
     }
 }
@@ -78,13 +78,13 @@ impl<P: Purpose> Staged for Item<P, <P as Purpose>::Carried, Traced> {
     /// uses the buffers of `scratch` and leaves the plane's holder there.
     fn work(self, alloc: Global, scratch: &mut ShapeScratch) -> Shaped<P> {
         let task = self.task;
-        let plane = taken(self.state, &mut scratch.plane_shell);
+        let plane = take_from_holder(self.state, &mut scratch.plane_shell);
         let shaped_plane = shape(alloc, scratch, plane, task.choice, task.drawing_kind);
         Item {
             task,
             purpose: self.purpose,
             rec: self.rec,
-            state: held(alloc, scratch.shell.take(), shaped_plane),
+            state: put_in_holder(alloc, scratch.shell.take(), shaped_plane),
         }
     }
 }
@@ -113,7 +113,7 @@ impl<P: Purpose> Staged for Item<P, <P as Purpose>::Carried, ShapeFound> {
     /// holder of the shaped plane stays in `scratch`, whose buffers serve for a drawing if one is made.
     fn work(self, alloc: Global, scratch: &mut DrawScratch) -> P::Entry {
         let task = self.task;
-        let shaped_plane = taken(self.state, &mut scratch.shell);
+        let shaped_plane = take_from_holder(self.state, &mut scratch.shell);
         self.purpose
             .finish(alloc, scratch, task, self.rec, shaped_plane)
     }
@@ -150,7 +150,7 @@ impl<P: Purpose> LaneKind for Answering<P> {
         ensures purpose { result.purpose ≡ self.now.purpose }
         ensures drawing { result.task.drawing_kind ≡ self.now.drawing_kind }
     {
-        spelt(&rec);
+        lists_encode_record(&rec);
         Framed {
             task: Task {
                 file,
@@ -181,7 +181,7 @@ impl<P: Purpose> LaneKind for Answering<P> {
 }
 
 /// Theorem: the bytes of a record are the code of its lists. The call does nothing.
-fn spelt(rec: &Record)
+fn lists_encode_record(rec: &Record)
     ensures { IsSpelt rec.now }
 {
     rec.bytes();

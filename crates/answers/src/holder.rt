@@ -76,7 +76,7 @@ impl<T: Drop> Shell<T> {
 /// # Errors
 ///
 /// `Memory` if there is no memory for a holder.
-pub(crate) fn held<T: Drop>(
+pub(crate) fn put_in_holder<T: Drop>(
     alloc: Global,
     shell: Option<Shell<T>>,
     value: Result<T, ReadFault>,
@@ -94,7 +94,7 @@ pub(crate) fn held<T: Drop>(
 
 /// Takes a value out of its holder and returns it, and puts the emptied holder into `shell`, where one that was there
 /// is dropped; a fault in place of the holder is returned as it is, and `shell` stays unchanged.
-pub(crate) fn taken<T: Drop>(
+pub(crate) fn take_from_holder<T: Drop>(
     value: Result<Holder<T>, ReadFault>,
     shell: &mut Option<Shell<T>>,
 ) -> Result<T, ReadFault>

@@ -171,14 +171,14 @@ pub(crate) fn turns_in(alloc: Global, value: &Value) -> Result<Option<Vec<Vec<Tu
     ensures fault { IfErr result (λ fault. fault ≢ Memory → IsWrongField IsWrongTurns (codes "turns") (view value.now) fault) }
 {
     match value.get("turns") {
-        Some(field) => Ok(Some(string_list(alloc, field)?)),
+        Some(field) => Ok(Some(turn_lists(alloc, field)?)),
         None => Ok(None),
     }
 }
 
 /// The turns that a JSON value holds as an array of strings of the letters L and R: a list for each string, in order.
 /// `Turns` if the value is no such array, `Memory` if memory runs out.
-fn string_list(alloc: Global, value: &Value) -> Result<Vec<Vec<Turn>>, LineFault>
+fn turn_lists(alloc: Global, value: &Value) -> Result<Vec<Vec<Turn>>, LineFault>
     ensures ok { IfOk result (λ strings. view value.now ≡ array_of turns_data (lists_in strings.items)) }
     ensures none { IfErr result (λ fault. fault ≢ Memory
         → (strings : List (List Turn)) → view value.now ≢ array_of turns_data strings) }
@@ -201,12 +201,12 @@ fn turns_of(alloc: Global, value: &Value) -> Result<Vec<Turn>, LineFault>
     ensures fault { IfErr result (λ fault. fault ≢ Memory → fault ≡ Turns) }
 {
     let text = text_in(value, LineFault::Turns)?;
-    letters_of(alloc, text.as_bytes())
+    turns_of_letters(alloc, text.as_bytes())
 }
 
 /// The turns that `letters`, each L or R, encode, in order. `Turns` if there is any other byte, `Memory` if memory runs
 /// out.
-fn letters_of(alloc: Global, letters: &[u8]) -> Result<Vec<Turn>, LineFault>
+fn turns_of_letters(alloc: Global, letters: &[u8]) -> Result<Vec<Turn>, LineFault>
     ensures ok { IfOk result (λ turns. letters.now ≡ map letter_of turns.items) }
     ensures none { IfErr result (λ fault. fault ≢ Memory → (turns : List Turn) → letters.now ≢ map letter_of turns) }
     ensures fault { IfErr result (λ fault. fault ≢ Memory → fault ≡ Turns) }

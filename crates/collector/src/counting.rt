@@ -10,7 +10,7 @@ ghost use Rattle.collector.specs.Counted.{IsAllCounted};
 ghost use Rattle.collector.specs.CountsHeld.{CountsHold, counted_stop};
 ghost use Rattle.graph_facts.specs.Tables.{IsTable};
 
-use crate::find_facts::{Flaws, FoundFacts, add_flaw, fact_lanes, no_flaws, set_mark};
+use crate::find_facts::{Flaws, FoundFacts, add_flaw, fact_lane_kind, set_mark, unread_flaws};
 use file_order::{KnownEnd, KnownFiles};
 use graph_facts::{Columns, Counts, Facts, Selection};
 use lanes::{Consumer, Gate, Opener, Run, RunFault, run_lanes};
@@ -71,14 +71,14 @@ fn count_known<J: KnownFiles + Send + Sync, R: Threads + Wait + Sync, O: Opener,
         c.flaws.items c.counts) }
     ensures failed { IfErr result IsOfLanes }
 {
-    let flaws = no_flaws(run.alloc, run.files)?;
+    let flaws = unread_flaws(run.alloc, run.files)?;
     let counts = Counts::new(run.alloc, columns);
     let counted = Counted {
         selection,
         counts,
         flaws,
     };
-    let lanes = fact_lanes::<J>();
+    let lanes = fact_lane_kind::<J>();
     let mut ran = Ok(());
     let counted = run_lanes(run, &lanes, counted, &mut ran);
     match ran {

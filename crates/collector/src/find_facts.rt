@@ -74,7 +74,7 @@ pub fn status_of_flaws(flaws: &[Flaws]) -> u8
 
 /// A new list with the flaws of each of `files` files, of which nothing has arrived: the mark `Memory`, as if memory
 /// had run out for the file, and no record without an answer. `AllocError` if there is no memory for the list.
-pub(crate) fn no_flaws(alloc: Global, files: u32) -> Result<Vec<Flaws>, AllocError>
+pub(crate) fn unread_flaws(alloc: Global, files: u32) -> Result<Vec<Flaws>, AllocError>
     ensures count { IfOk result (λ flaws. length flaws.items ≡ files) }
     ensures none { IfOk result (λ flaws. All (λ each. each ≡ flaws_of (book_so_far none_arrived)) flaws.items) }
 {
@@ -179,7 +179,7 @@ impl<J: KnownFiles> FoundFacts<J> {
 
 /// The value that tells `run_lanes` to run lanes which find facts of graphs and draw nothing; its drawing kind is
 /// `Quick`, and is not used. No lane is started.
-pub(crate) fn fact_lanes<J: KnownFiles>() -> Answering<FindFacts<J>> {
+pub(crate) fn fact_lane_kind<J: KnownFiles>() -> Answering<FindFacts<J>> {
     Answering {
         purpose: FindFacts {
             known_files: PhantomData,

@@ -76,7 +76,7 @@ pub(crate) fn answer_line(
     match form {
         Form::Report => Line::copied(alloc, ReportLine::of_graph(graph, answer).as_slice()),
         Form::Json => {
-            let text = reports::answer_line(alloc, number_of(file)?, graph, answer)?;
+            let text = reports::answer_line(alloc, file_number(file)?, graph, answer)?;
             Ok(Line::of(text))
         }
     }
@@ -91,7 +91,7 @@ pub(crate) fn answer_line(
 ///
 /// `AllocError` if there is no memory for the line; in JSON also if the number of the file, counted from 1, does not
 /// fit in 32 bits.
-pub fn lacking_text(
+pub fn out_of_memory_text(
     alloc: Global,
     form: Form,
     file: u32,
@@ -106,7 +106,7 @@ pub fn lacking_text(
             let line = ReportLine::of_graph(graph, &Answer::NoMemory);
             Vec::from_slice(alloc, line.as_slice())
         }
-        Form::Json => reports::lacking_line(alloc, number_of(file)?, graph),
+        Form::Json => reports::out_of_memory_line(alloc, file_number(file)?, graph),
     }
 }
 
@@ -141,7 +141,7 @@ pub fn end_text(
     let graphs = u64::from(count);
     match form {
         Form::Report => Vec::from_slice(alloc, ReportLine::of_end(mark, graphs).as_slice()),
-        Form::Json => reports::end_line(alloc, number_of(file)?, mark, graphs),
+        Form::Json => reports::end_line(alloc, file_number(file)?, mark, graphs),
     }
 }
 
@@ -151,7 +151,7 @@ pub fn end_text(
 /// # Errors
 ///
 /// `AllocError` if it does not fit. No file of a run has such a number.
-pub(crate) fn number_of(file: u32) -> Result<u32, AllocError>
+pub(crate) fn file_number(file: u32) -> Result<u32, AllocError>
     ensures number { IfOk result (λ number. number ≡ file + 1) }
     ensures fits { OnErr result (2 ^ 32 ≤ file + 1) }
 {

@@ -14,7 +14,7 @@ ghost use Rattle.ruled_lanes.specs.declared.channel.TheConstants.{LANES};
 ghost use Rattle.reports.specs.declared.book.TheConstants.{MAX_FILES};
 ghost use Rattle.collector.specs.PicksStops.{held_stop};
 
-use crate::find_facts::{Flaws, FoundFacts, add_flaw, fact_lanes, no_flaws, set_mark};
+use crate::find_facts::{Flaws, FoundFacts, add_flaw, fact_lane_kind, set_mark, unread_flaws};
 use crate::texts::Texts;
 use common::Choice;
 use file_order::{FileOrder, KnownEnd, KnownFiles, Pace};
@@ -60,7 +60,7 @@ impl Picks {
         ensures files { IfOk result (λ picks. files_of picks ≡ files) }
     {
         let order = FileOrder::new(alloc, files, HEADER.as_slice())?;
-        let flaws = no_flaws(alloc, files)?;
+        let flaws = unread_flaws(alloc, files)?;
         Ok(Picks {
             selection,
             choice,
@@ -126,7 +126,7 @@ impl Picks {
         ensures stands { TellsFailure (S.failed sink.new) result }
         ensures same { ArePicksOf self.old self.new }
     {
-        self.order.keep_end(file, mark, known)?;
+        self.order.store_mark(file, mark, known)?;
         set_mark(&mut self.flaws, file, mark);
         self.advance(alloc, sink)
     }
@@ -168,7 +168,7 @@ impl Picks {
     {
         while self.order.current_end().is_some() {
             if self.order.go_on()? {
-                self.order.begin(alloc, sink)?;
+                self.order.drain(alloc, sink)?;
             }
         }
         Ok(())
@@ -236,7 +236,7 @@ fn pick_known<J: KnownFiles + Send + Sync, R: Threads + Wait + Sync, O: Opener, 
 {
     let picks = Picks::new(run.alloc, selection, run.choice, run.files)?;
     let texts = Texts::new(run.alloc, sink, picks, pace);
-    let lanes = fact_lanes::<J>();
+    let lanes = fact_lane_kind::<J>();
     let mut ran = Ok(());
     let texts = run_lanes(run, &lanes, texts, &mut ran);
     match ran {

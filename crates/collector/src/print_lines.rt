@@ -15,7 +15,7 @@ ghost use Rattle.common.specs.declared.parameters.DrawingKind.TheVariants.{Quick
 ghost use Rattle.reports.specs.Lengths.{IfDrawn, IsQuick};
 ghost use Rattle.answers.specs.Tasks.{about_in};
 
-use crate::lines::{Line, answer_line, number_of};
+use crate::lines::{Line, answer_line, file_number};
 use answers::{Answering, DrawScratch, PointsFound, Purpose, ShapedPlane, Task, find_points};
 use common::{Choice, DrawingKind};
 use embedding::ReadFault;
@@ -98,7 +98,7 @@ pub fn found_line(
                     prices: &shaped_plane.prices,
                     drawing: Ok(points),
                 };
-                let text = laid_line(alloc, number_of(file).ok()?, graph, laid).ok()?;
+                let text = laid_line(alloc, file_number(file).ok()?, graph, laid).ok()?;
                 Some(Line::of(text))
             }
         },

@@ -88,7 +88,7 @@ pub fn run_plain<O: Opener>(
     if files > MAX_FILES {
         return Err(BatchFault::TooManyFiles);
     }
-    match plain_books(alloc, opener, files, choice) {
+    match books_on_this_thread(alloc, opener, files, choice) {
         Ok(batch) => Ok(batch),
         Err(AllocError) => Err(BatchFault::Memory),
     }
@@ -97,7 +97,7 @@ pub fn run_plain<O: Opener>(
 /// Reads the first `files` files on this thread, and answers their records; returns a book for each file, in order.
 /// `AllocError` if there is no memory for the read buffer, the entries or the books; no book is then returned. If it
 /// runs out for one file or one answer, its book says so.
-fn plain_books<O: Opener>(
+fn books_on_this_thread<O: Opener>(
     alloc: Global,
     opener: &O,
     files: u32,

@@ -16,7 +16,7 @@ ghost use Rattle.collector.specs.Whole.{HaveFiles, IsAllWritten};
 ghost use Rattle.std.proofs.Common.{◌∙◌};
 ghost use Rattle.collector.specs.Stops.{held_stop};
 
-use crate::lines::{end_text, lacking_text, preamble_line};
+use crate::lines::{end_text, out_of_memory_text, preamble_line};
 use crate::print_lines::Printed;
 use common::Choice;
 use file_order::{FileOrder, KnownEnd, KnownFiles, Pace};
@@ -104,7 +104,7 @@ impl Lines {
         }
         match line {
             Some(line) => self.order.add(alloc, sink, file, line.as_slice()),
-            None => self.add_lacking(alloc, sink, file, ordinal),
+            None => self.add_out_of_memory_line(alloc, sink, file, ordinal),
         }
     }
 
@@ -132,7 +132,7 @@ impl Lines {
         ensures stands { TellsFailure (S.failed sink.new) result }
         ensures same { AreLinesOf self.old self.new }
     {
-        self.order.keep_end(file, mark, known)?;
+        self.order.store_mark(file, mark, known)?;
         self.flawless = is_flawless_with(self.flawless, mark);
         self.advance(alloc, sink)
     }
@@ -164,7 +164,7 @@ impl Lines {
     /// Takes in a line saying that memory ran out for entry `ordinal` of file `file`: sends it on to `sink`, or buffers
     /// it if the file is not current; the run is then not flawless. `Memory` if there is no memory to make or buffer
     /// it, `Refused` exactly if `sink` fails, `LaneLost` if the file has 2^32 - 1 entries.
-    fn add_lacking<S: Sink>(
+    fn add_out_of_memory_line<S: Sink>(
         &mut self,
         alloc: Global,
         sink: &mut S,
@@ -186,7 +186,7 @@ impl Lines {
         ensures lacking { OnOk result (self.new.flawless ≡ false) }
         ensures same { AreLinesOf self.old self.new }
     {
-        let text = lacking_text(alloc, self.form, file, ordinal)?;
+        let text = out_of_memory_text(alloc, self.form, file, ordinal)?;
         self.flawless = false;
         self.order.add(alloc, sink, file, text.as_slice())
     }
@@ -212,7 +212,7 @@ impl Lines {
             if self.order.go_on()? {
                 let first = preamble_line(self.form, self.order.current());
                 self.order.put(sink, first.as_slice())?;
-                self.order.begin(alloc, sink)?;
+                self.order.drain(alloc, sink)?;
             }
         }
         Ok(())

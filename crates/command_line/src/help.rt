@@ -15,7 +15,7 @@ pub(crate) fn describe<'a>(alloc: Global) -> Result<Command<'a>, AllocError> {
         .subcommand_required(true)
         .arg(flag(alloc, "version"))?
         .subcommand(describe_layout(alloc)?)?
-        .subcommand(Command::new(alloc, "frames").arg(file_of(alloc, "FILE"))?)?
+        .subcommand(Command::new(alloc, "frames").arg(file_argument(alloc, "FILE"))?)?
         .subcommand(describe_check(alloc)?)?
         .subcommand(describe_selection(alloc, "pick", waiting)?)?
         .subcommand(describe_selection(alloc, "count", valued(alloc, "by", "COLUMNS"))?)
@@ -31,7 +31,7 @@ fn describe_layout<'a>(alloc: Global) -> Result<Command<'a>, AllocError> {
         .arg(valued(alloc, "drawing", "KIND").value_parser(DRAWING))?
         .arg(flag(alloc, "json"))?
         .arg(flag(alloc, "progress").action(ArgAction::Count))?
-        .arg(run_files(alloc))
+        .arg(files_argument(alloc))
 }
 
 /// The definition for clap of the option `--` and `name`, which has no value.
@@ -45,7 +45,7 @@ fn valued<'a>(alloc: Global, name: &'a str, value: &'a str) -> Arg<'a> {
 }
 
 /// The definition for clap of the argument `FILE`: the files of a run, one or more.
-fn run_files<'a>(alloc: Global) -> Arg<'a> {
+fn files_argument<'a>(alloc: Global) -> Arg<'a> {
     Arg::new(alloc, "FILE")
         .required(true)
         .num_args(1..)
@@ -58,8 +58,8 @@ fn describe_check<'a>(alloc: Global) -> Result<Command<'a>, AllocError> {
     Command::new(alloc, "check")
         .arg(flag(alloc, "json"))?
         .arg(flag(alloc, "faces"))?
-        .arg(file_of(alloc, "GRAPHS"))?
-        .arg(file_of(alloc, "LINES"))
+        .arg(file_argument(alloc, "GRAPHS"))?
+        .arg(file_argument(alloc, "LINES"))
 }
 
 /// The definition for clap of the command `name`, which selects graphs: the options that `pick` and `count` have in
@@ -80,11 +80,11 @@ fn describe_selection<'a>(
         .arg(valued(alloc, "lanes", "N").allow_hyphen_values(true))?
         .arg(flag(alloc, "progress").action(ArgAction::Count))?
         .arg(own)?
-        .arg(run_files(alloc))
+        .arg(files_argument(alloc))
 }
 
 /// The definition for clap of the argument `name`: exactly one file, which must be given.
-fn file_of<'a>(alloc: Global, name: &'a str) -> Arg<'a> {
+fn file_argument<'a>(alloc: Global, name: &'a str) -> Arg<'a> {
     Arg::new(alloc, name).required(true).action(ArgAction::Set)
 }
 

@@ -143,7 +143,7 @@ fn fault_of(alloc: Global, words: &[String]) -> ParseFault
     if words.is_empty() {
         return ParseFault::NoArguments;
     }
-    let error = match why(alloc, words) {
+    let error = match clap_error(alloc, words) {
         Ok(Some(error)) => error,
         Ok(None) => return ParseFault::BadWaiting,
         Err(error) => error,
@@ -162,7 +162,7 @@ fn fault_of(alloc: Global, words: &[String]) -> ParseFault
 ///
 /// The error of clap: the help, if it is asked for; the reason why the arguments are refused; or that memory ran out,
 /// of the kind `OutOfMemory`.
-fn why(alloc: Global, words: &[String]) -> Result<Option<Error>, Error> {
+fn clap_error(alloc: Global, words: &[String]) -> Result<Option<Error>, Error> {
     let mut program = describe(alloc)?;
     program.try_get_matches_from_mut(words)?;
     let files = files_of(alloc, words)?;

@@ -9,7 +9,7 @@ ghost use Rattle.command_line.specs.Refusals.{IsMisuse};
 ghost use Rattle.named_sources.specs.Naming.{meanings_in};
 ghost use Rattle.commands.specs.Statuses.{IsTextOfBooks, IsBegunTextOfBooks, IsTooMuch};
 
-use crate::runs::{NamedRun, bytes_of, run_size};
+use crate::runs::{NamedRun, bytes_of, checked_file_count};
 use collector::{Lines, Texts, line_lanes};
 use command_line::{Console, Fault, LayoutRequest};
 use common::Choice;
@@ -65,7 +65,7 @@ pub fn write_batch<'r, R: Threads + Wait + Sync, O: Opener, G: Gate, S: Sink>(
     requires stands { S.failed sink.old ≡ false }
     ensures { IsStreamed choice (O.meaning opener.now) style.form files lanes S.taken S.failed sink.old sink.new result }
 {
-    run_size(files as usize, lanes)?;
+    checked_file_count(files as usize, lanes)?;
     let pauses = Pauses::none();
     let run = Run {
         rt,
@@ -140,14 +140,14 @@ fn write_files<J: KnownFiles + Send + Sync, R: Threads + Wait + Sync, O: Opener,
             Err(_) => Err(RunFault::Refused(SinkFault)),
         },
         Err(fault) => {
-            let_go(texts);
+            drop_texts(texts);
             Err(fault)
         }
     }
 }
 
 /// Drops `texts` with what it has buffered, and writes nothing more to its sink.
-fn let_go<S: Sink>(texts: Texts<'_, S, Lines>)
+fn drop_texts<S: Sink>(texts: Texts<'_, S, Lines>)
     ensures { texts.exit.0.now ≡ texts.entry.sink.now }
 {
     let Texts { .. } = texts;
@@ -198,7 +198,7 @@ pub(crate) fn layout<
 {
     let named = NamedRun::new(rt, &asked.run, files, console)?;
     let opener = named.opener();
-    let run = named.over(&opener);
+    let run = named.run_with(&opener);
     let outcome = write_text(&run, asked.style, bytes_of(asked.waiting), out);
     named.meter.finish();
     let status = outcome?;

@@ -35,7 +35,7 @@ pub(crate) fn bytes_of(megabytes: u32) -> usize {
 ///
 /// `TooManyFiles` exactly if there are more than `MAX_FILES`; `BadLanes` exactly if there are no more than that and no
 /// lanes or more than `LANES`. There is no other error.
-pub(crate) fn run_size(files: usize, lanes: u32) -> Result<u32, Fault>
+pub(crate) fn checked_file_count(files: usize, lanes: u32) -> Result<u32, Fault>
     ensures count { IfOk result (λ count. count ≡ files) }
     ensures few { IfOk result (λ _. files ≤ MAX_FILES) }
     ensures some_lanes { IfOk result (λ _. 0 < lanes) }
@@ -77,7 +77,7 @@ impl<'a, R: AllocGlobal, N, C: Console> NamedRun<'a, R, N, C> {
     ///
     /// # Errors
     ///
-    /// Those of `run_size`; otherwise `Memory` if there is no memory for notes.
+    /// Those of `checked_file_count`; otherwise `Memory` if there is no memory for notes.
     pub(crate) fn new(
         rt: &'a R,
         asked: &'a RunRequest<'a>,
@@ -98,7 +98,7 @@ impl<'a, R: AllocGlobal, N, C: Console> NamedRun<'a, R, N, C> {
         ensures refusable { IfErr result (λ fault. IsMisuse fault → IsTooMuch (vec_len asked.now.names) asked.now.lanes) }
     {
         let names = asked.names.as_slice();
-        let count = run_size(names.len(), asked.lanes)?;
+        let count = checked_file_count(names.len(), asked.lanes)?;
         Ok(NamedRun {
             rt,
             files,
@@ -128,7 +128,7 @@ impl<'a, R: AllocGlobal, N, C: Console> NamedRun<'a, R, N, C> {
 
     /// The description of the run for the lanes, with `opener` for its files and the run's meter as the gate; it starts
     /// nothing and opens no file.
-    pub(crate) fn over<'s>(
+    pub(crate) fn run_with<'s>(
         &'s self,
         opener: &'s FileOpener<'s, 's, N>,
     ) -> Run<'s, R, FileOpener<'s, 's, N>, Meter<'a, C>>

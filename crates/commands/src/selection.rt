@@ -68,7 +68,7 @@ pub(crate) fn pick<
     }
     let named = NamedRun::new(rt, &asked.run, files, console)?;
     let opener = named.opener();
-    let run = named.over(&opener);
+    let run = named.run_with(&opener);
     let outcome = pick_files(&run, asked.selection, bytes_of(asked.waiting), out);
     named.meter.finish();
     let flaws = outcome?;
@@ -120,7 +120,7 @@ pub(crate) fn count<
 {
     let named = NamedRun::new(rt, &asked.run, files, console)?;
     let opener = named.opener();
-    let run = named.over(&opener);
+    let run = named.run_with(&opener);
     let outcome = write_table(&run, asked, out);
     named.meter.finish();
     let flaws = outcome?;

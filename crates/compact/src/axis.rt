@@ -198,7 +198,7 @@ fn are_along(boxes: &Boxes, around: &[u32], x: &[u16], y: &[u16]) -> bool
 /// vertex. Linear in the vertices, if all faces are boxes. It is inlined, so that the directions of an axis are
 /// constants.
 #[inline(always)]
-fn low_along(
+fn lower_bounds_along(
     boxes: &Boxes,
     around: &[u32],
     axis: Axis,
@@ -269,8 +269,8 @@ pub fn least_coordinates(
     ensures y { IfOk result (λ found. AreLeastOnAxis boxes.now 1 found.1.items) }
     ensures fault { IfErr result (IsCompactFault boxes.now) }
 {
-    let x = low_along(boxes, around, Axis::X, x, segments)?;
-    let y = low_along(boxes, around, Axis::Y, y, segments)?;
+    let x = lower_bounds_along(boxes, around, Axis::X, x, segments)?;
+    let y = lower_bounds_along(boxes, around, Axis::Y, y, segments)?;
     if are_along(boxes, around, &x, &y) {
         return Ok((x, y));
     }

@@ -1,7 +1,7 @@
 //! Longest paths (Lengauer 1990) over segments: vertices that darts across join, by the neighbours of each vertex.
 //! Segments come in a topological order: the preorder of a depth-first tree, which has of the arcs to a segment the one
 //! farthest to the right. In a plane map with one source and one sink, as boxes are, an arc from a segment that comes
-//! later would have to cross the path of the tree. All is inlined into the two calls of `low_along`, so that the
+//! later would have to cross the path of the tree. All is inlined into the two calls of `lower_bounds_along`, so that the
 //! directions of an axis are constants.
 ghost use Rattle.std.specs.Prelude.{◌≡◌, ℕ, ◌*◌, ◌<◌, length, IfOk, ◌^◌, ◌≤◌};
 ghost use Rattle.compact.specs.Neighbours.{AreNeighbours, HasNeighbours, neighbour, AreUnder, Grow, StayEqual, StayUnder};

@@ -10,7 +10,7 @@ ghost use Rattle.common.specs.declared.parameters.Choice.{Choice};
 ghost use Rattle.conditions.specs.Asked.{IsAsked};
 ghost use Rattle.conditions.specs.Chosen.{IsGreatestSoFar, IsGreatestOpen, IsChosenKeeping, HasNoChosen, IsKept, IsKeepFault, IsToldOf};
 
-use crate::conditions::{Conditions, angles_of, are_angles, are_darts, barred_of, turns_of};
+use crate::conditions::{Conditions, angles_of, are_all_adjacent, are_angles, barred_of, turns_of};
 use crate::cuts::{KeepFault, Unkept, violated_cut};
 use common::Choice;
 use faces::Plane;
@@ -119,7 +119,7 @@ fn conditions_by_darts(
     if !are_angles(conditions) {
         return Err(KeepFault::NoAngle);
     }
-    if !are_darts(plane, conditions) {
+    if !are_all_adjacent(plane, conditions) {
         return Err(KeepFault::NoEdge);
     }
     let angles = angles_of(alloc, plane, conditions.angles)?;

@@ -60,7 +60,7 @@ pub struct Conditions<'a> {
 }
 
 /// Whether the dart `dart` leads from the vertex `from` to the vertex `to`.
-pub(crate) fn is_named(plane: &Plane, dart: u16, from: u16, to: u16) -> bool
+pub(crate) fn has_ends(plane: &Plane, dart: u16, from: u16, to: u16) -> bool
     requires { dart < darts plane.now }
     ensures { IsTrue result ↔ Names plane.now dart from to }
 {
@@ -73,7 +73,7 @@ pub(crate) fn is_dart(plane: &Plane, from: u16, to: u16) -> bool
     ensures { IsTrue result ↔ IsDart plane.now from to }
 {
     for dart in 0..plane.graph().darts() {
-        if is_named(plane, dart, from, to) {
+        if has_ends(plane, dart, from, to) {
             return true;
         }
     }
@@ -86,7 +86,7 @@ fn is_among(plane: &Plane, list: &[DartEnds], dart: u16) -> bool
     ensures { IsTrue result ↔ IsAmong plane.now list.now dart }
 {
     list.iter()
-        .any(|ends| is_named(plane, dart, ends.from, ends.to))
+        .any(|ends| has_ends(plane, dart, ends.from, ends.to))
 }
 
 /// Returns a mark for each face: true if the face is on the left of a dart of `list`; `AllocError` if there is no
@@ -111,12 +111,12 @@ fn mark_faces(plane: &Plane, list: &[DartEnds], barred: &mut [bool])
 {
     for dart in 0..plane.graph().darts() {
         let face = plane.face_of(dart);
-        mark(barred, usize::from(face), is_among(plane, list, dart));
+        mark_if(barred, usize::from(face), is_among(plane, list, dart));
     }
 }
 
 /// Sets `marks[place]` to true if `yes` is true, and otherwise leaves `marks` as it is; `place` must be in `marks`.
-fn mark(marks: &mut [bool], place: usize, yes: bool)
+fn mark_if(marks: &mut [bool], place: usize, yes: bool)
     requires { place < length marks.old }
     ensures { marks.new ≡ (if yes then slice_set marks.old place true else marks.old) }
 {
@@ -137,7 +137,7 @@ pub(crate) fn are_angles(conditions: &Conditions<'_>) -> bool
 
 /// Whether the two vertices of each condition, on turns, angles or inner faces, are adjacent; true if there are no
 /// conditions. Linear in the darts of the plane for each condition.
-pub(crate) fn are_darts(plane: &Plane, conditions: &Conditions<'_>) -> bool
+pub(crate) fn are_all_adjacent(plane: &Plane, conditions: &Conditions<'_>) -> bool
     ensures { IsTrue result ↔ AreDarts plane.now conditions.now }
 {
     conditions
@@ -162,7 +162,7 @@ fn dart_of(plane: &Plane, from: u16, to: u16) -> u16
     ensures named { Names plane.now result from to }
 {
     for dart in 0..plane.graph().darts() {
-        if is_named(plane, dart, from, to) {
+        if has_ends(plane, dart, from, to) {
             return dart;
         }
     }

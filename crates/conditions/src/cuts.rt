@@ -13,7 +13,7 @@ ghost use Rattle.conditions.specs.Cut.{ShowsNone, HasFacesIn, HasFaceOut, IsLeft
 
 use common::emptied;
 use faces::Plane;
-use flow_network::{FaceNet, Given, has_mark, vertex_to_turn};
+use flow_network::{FaceNet, Given, has_mark, vertex_supply};
 use min_cost_flow::overfull_in;
 use std::alloc::{AllocError, Global};
 use thiserror::Error;
@@ -109,7 +109,7 @@ fn lies_in_cut(plane: &Plane, given: &Given<'_>, faces: &[bool], vertex: u16) ->
     ensures inside { result ≡ true → HasFacesIn plane.now given.now faces.now vertex }
     ensures outside { result ≡ false → IsLeftOut plane.now given.now faces.now vertex }
 {
-    if vertex_to_turn(plane, given, vertex) <= 0 {
+    if vertex_supply(plane, given, vertex) <= 0 {
         return false;
     }
     has_faces_in(plane, given, faces, vertex)

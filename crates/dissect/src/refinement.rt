@@ -113,7 +113,7 @@ fn peak(angle: &[u8], ring: &[u32]) -> usize
 
 /// Rotates `ring` so that the corner at the place `start` comes first; nothing changes if `start` is 0 or, as most
 /// often, the length of `ring`. (`rotate_left` clears 4 KB at each call.)
-fn start_at(ring: &mut [u32], start: usize)
+fn rotate_to(ring: &mut [u32], start: usize)
     requires { start ≤ length ring.old }
     ensures after { ring.new ≡ drop start ring.old ++ take start ring.old }
 {
@@ -145,7 +145,7 @@ pub fn cut_face(table: &mut DartTable, ring: &mut [u32])
         return;
     }
     let start = peak(table.angle.as_slice(), ring);
-    start_at(ring, start);
+    rotate_to(ring, start);
     let mut height = 0;
     'corners: for read in 0..ring.len() {
         height = read_corner(table, ring, height, read);

@@ -88,8 +88,8 @@ impl DartTable {
         put_before(&mut self.next, &mut self.prev, second, reverse_dart);
         pair(&mut self.reverse_dart, e, second);
         pair(&mut self.reverse_dart, reverse_dart, first);
-        take_over(&mut self.before, first, e);
-        take_over(&mut self.before, second, reverse_dart);
+        put_before_on_edge(&mut self.before, first, e);
+        put_before_on_edge(&mut self.before, second, reverse_dart);
         self.head[first as usize] = vertex;
         self.head[second as usize] = vertex;
         self.direction[first as usize] = way;
@@ -181,7 +181,7 @@ pub fn pair(reverse_dart: &mut Vec<u32>, a: u32, b: u32)
 
 /// Inserts the dart `new` before the dart `old` on its edge: in `before`, item `new` gets the item of `old`, and item
 /// `old` becomes `new`.
-pub fn take_over(before: &mut Vec<u32>, new: u32, old: u32)
+pub fn put_before_on_edge(before: &mut Vec<u32>, new: u32, old: u32)
     requires new_in { new < vec_len before.old }
     requires old_in { old < vec_len before.old }
     ensures before { before.new.items ≡ slice_set (slice_set before.old.items new (slice_index before.old.items old)) old new }

@@ -15,7 +15,7 @@ use Rattle.drawing_check.proofs.Pieces.{GoesAt, BackAt, back_in_reverse, goes_in
 use Rattle.drawing_check.proofs.Leaving.{reverse_dart_is_greater}
 use Rattle.drawing_check.specs.declared.face_regions.Upright.{Upright}
 use Rattle.drawing_check.specs.Outside.{IsWestmost, IsLevel}
-use Rattle.drawing_check.specs.Westmost.{further_west, with_part, with_path, with_edge, westmost_below, face_on_west}
+use Rattle.drawing_check.specs.Westmost.{further_west, west_with_part, west_with_path, west_with_edge, westmost_below, face_on_west}
 use Rattle.drawing_check.proofs.Drawn.{back_is_lesser, path_axes}
 use Rattle.drawing_check.proofs.Passing.{path_of_lesser, path_of_greater}
 use Rattle.drawing_check.proofs.ByOneDart.{regions_by_westmost, regions_of_level}
@@ -67,19 +67,19 @@ module _ (left right : ℕ) where
   abbrev this : Point → Point → Upright
   this a b = record { line = a.x; face = cond (ltb a.y b.y) left right }
 
-  part_keeps : (west : Option Upright) (a b : Point) (x : ℕ) → IsAtMost west x → IsAtMost (with_part left right west a b) x
+  part_keeps : (west : Option Upright) (a b : Point) (x : ℕ) → IsAtMost west x → IsAtMost (west_with_part left right west a b) x
   part_keeps west a b x h =
       elim (cases_eq a.x b.x) [
         | inl same ↦ subst (λ (t : Bool). IsAtMost (cond t (further_west west (this a b)) west) x) (sym (eq-eqb a.x b.x same)) (further_keeps west (this a b) x h)
         | inr off ↦ subst (λ (t : Bool). IsAtMost (cond t (further_west west (this a b)) west) x) (sym (ne_eqb a.x b.x off)) h
       ]
 
-  part_has : (west : Option Upright) (a b : Point) (x : ℕ) → a.x ≡ x → b.x ≡ x → IsAtMost (with_part left right west a b) x
+  part_has : (west : Option Upright) (a b : Point) (x : ℕ) → a.x ≡ x → b.x ≡ x → IsAtMost (west_with_part left right west a b) x
   part_has west a b x from to =
       subst (λ (t : Bool). IsAtMost (cond t (further_west west (this a b)) west) x) (sym (eq-eqb a.x b.x (from ∙ sym to)))
       (subst (IsAtMost (further_west west (this a b))) from (further_has west (this a b)))
 
-  part_from : (west : Option Upright) (a b : Point) (found : Upright) → with_part left right west a b ≡ Some found → (west ≡ Some found) ⊎ IsBetween left right a b found
+  part_from : (west : Option Upright) (a b : Point) (found : Upright) → west_with_part left right west a b ≡ Some found → (west ≡ Some found) ⊎ IsBetween left right a b found
   part_from west a b found e =
       elim (cases_eq a.x b.x) [
         | inl same ↦ elim (further_from west (this a b) found (sym (cond-true (eqb a.x b.x) (further_west west (this a b)) west (eq-eqb a.x b.x same)) ∙ e)) [
@@ -91,18 +91,18 @@ module _ (left right : ℕ) where
 
   -- ---- a path more
 
-  path_keeps : (west : Option Upright) (path : List Point) (x : ℕ) → IsAtMost west x → IsAtMost (with_path left right west path) x
+  path_keeps : (west : Option Upright) (path : List Point) (x : ℕ) → IsAtMost west x → IsAtMost (west_with_path left right west path) x
   path_keeps west [] x h = h
   path_keeps west (a ∷ []) x h = h
-  path_keeps west (a ∷ b ∷ rest) x h = path_keeps (with_part left right west a b) (b ∷ rest) x (part_keeps west a b x h)
+  path_keeps west (a ∷ b ∷ rest) x h = path_keeps (west_with_part left right west a b) (b ∷ rest) x (part_keeps west a b x h)
 
-  path_has : (west : Option Upright) (path : List Point) (k x : ℕ) → IsUpright path k x → IsAtMost (with_path left right west path) x
+  path_has : (west : Option Upright) (path : List Point) (k x : ℕ) → IsUpright path k x → IsAtMost (west_with_path left right west path) x
   path_has west [] k x up = absurd (omega (arith, up.inside))
   path_has west (a ∷ []) k x up = absurd (omega (arith, up.inside))
-  path_has west (a ∷ b ∷ rest) zero x up = path_keeps (with_part left right west a b) (b ∷ rest) x (part_has west a b x up.from up.to)
+  path_has west (a ∷ b ∷ rest) zero x up = path_keeps (west_with_part left right west a b) (b ∷ rest) x (part_has west a b x up.from up.to)
   path_has west (a ∷ b ∷ rest) (suc k) x up =
       let e : suc k + 1 ≡ suc (k + 1) = omega arith in
-      path_has (with_part left right west a b) (b ∷ rest) k x
+      path_has (west_with_part left right west a b) (b ∷ rest) k x
       (record { inside = omega (arith, up.inside); from = up.from; to = subst (λ (n : ℕ). (point_of (a ∷ b ∷ rest) n).x ≡ x) e up.to })
 
   -- the part of a path that it is
@@ -111,11 +111,11 @@ module _ (left right : ℕ) where
     pub inside : k + 1 < length path
     pub between : IsBetween left right (point_of path k) (point_of path (k + 1)) found
 
-  path_from : (west : Option Upright) (path : List Point) (found : Upright) → with_path left right west path ≡ Some found → (west ≡ Some found) ⊎ IsPartOf path found
+  path_from : (west : Option Upright) (path : List Point) (found : Upright) → west_with_path left right west path ≡ Some found → (west ≡ Some found) ⊎ IsPartOf path found
   path_from west [] found e = inl e
   path_from west (a ∷ []) found e = inl e
   path_from west (a ∷ b ∷ rest) found e =
-      elim (path_from (with_part left right west a b) (b ∷ rest) found e) [
+      elim (path_from (west_with_part left right west a b) (b ∷ rest) found e) [
         | inl before ↦ elim (part_from west a b found before) [
           | inl earlier ↦ inl earlier
           | inr here ↦ inr (record { k = 0; inside = omega arith; between = here })
@@ -136,7 +136,7 @@ below_has : (p : PlaneModel) (points : PointsModel) (n d k x : ℕ) → d < n �
 below_has p points zero d k x d_in less up = absurd (omega (arith, d_in))
 below_has p points (suc n) d k x d_in less up =
     let before : Option Upright = westmost_below p points n in
-    let then : Option Upright = with_edge p points before n in
+    let then : Option Upright = west_with_edge p points before n in
     elim (cases_eq d n) [
       | inl last ↦
           let less' : is_lesser p n ≡ true = subst (λ (c : ℕ). is_lesser p c ≡ true) last less in
@@ -162,7 +162,7 @@ below_from : (p : PlaneModel) (points : PointsModel) (n : ℕ) (found : Upright)
 below_from p points zero found e = absurd (cc)
 below_from p points (suc n) found e =
     let before : Option Upright = westmost_below p points n in
-    let then : Option Upright = with_edge p points before n in
+    let then : Option Upright = west_with_edge p points before n in
     elim (cases_Bool (is_lesser p n)) [
       | inl less ↦ elim (path_from (face_at p n) (face_at p (reverse_dart p n)) before (path_along p points n) found (sym (cond-true (is_lesser p n) then before less) ∙ e)) [
         | inl earlier ↦ more n (below_from p points n found earlier)
@@ -174,25 +174,25 @@ below_from p points (suc n) found e =
     more : (n : ℕ) → IsPartOfEdge p points n found → IsPartOfEdge p points (suc n) found
     more n is = let below = is.below in record { d = is.d; below = omega arith; less = is.less; part = is.part }
 
-pub westmost_more : (p : PlaneModel) (points : PointsModel) (d : ℕ) → is_lesser p d ≡ true → westmost_below p points (d + 1) ≡ with_edge p points (westmost_below p points d) d
+pub westmost_more : (p : PlaneModel) (points : PointsModel) (d : ℕ) → is_lesser p d ≡ true → westmost_below p points (d + 1) ≡ west_with_edge p points (westmost_below p points d) d
 westmost_more p points d less =
     let up : d + 1 ≡ suc d = omega arith in
-    ap (westmost_below p points) up ∙ cond-true (is_lesser p d) (with_edge p points (westmost_below p points d) d) (westmost_below p points d) less
+    ap (westmost_below p points) up ∙ cond-true (is_lesser p d) (west_with_edge p points (westmost_below p points d) d) (westmost_below p points d) less
 
 pub westmost_kept : (p : PlaneModel) (points : PointsModel) (d : ℕ) → is_lesser p d ≡ false → westmost_below p points (d + 1) ≡ westmost_below p points d
 westmost_kept p points d greater =
     let up : d + 1 ≡ suc d = omega arith in
-    ap (westmost_below p points) up ∙ cond-false (is_lesser p d) (with_edge p points (westmost_below p points d) d) (westmost_below p points d) greater
+    ap (westmost_below p points) up ∙ cond-false (is_lesser p d) (west_with_edge p points (westmost_below p points d) d) (westmost_below p points d) greater
 
 -- what is found along the lesser dart of an edge
 pub edge_is : (p : PlaneModel) (points : PointsModel) (west result : Option Upright) (d r left right : ℕ) (path : List Point)
     → r ≡ reverse_dart p d → left ≡ face_at p d → right ≡ face_at p r → path ≡ path_along p points d
-    → result ≡ with_path left right west path → result ≡ with_edge p points west d
+    → result ≡ west_with_path left right west path → result ≡ west_with_edge p points west d
 edge_is p points west result d r left right path is_r is_left is_right is_path found =
     found
-    ∙ ap (λ (k : ℕ). with_path k right west path) is_left
-    ∙ ap (λ (k : ℕ). with_path (face_at p d) k west path) (is_right ∙ ap (face_at p) is_r)
-    ∙ ap (with_path (face_at p d) (face_at p (reverse_dart p d)) west) is_path
+    ∙ ap (λ (k : ℕ). west_with_path k right west path) is_left
+    ∙ ap (λ (k : ℕ). west_with_path (face_at p d) k west path) (is_right ∙ ap (face_at p) is_r)
+    ∙ ap (west_with_path (face_at p d) (face_at p (reverse_dart p d)) west) is_path
 
 -- ---- in a drawing
 

@@ -12,7 +12,9 @@ ghost use Rattle.ortho_rep.specs.Shapes.{turns_at};
 ghost use Rattle.ortho_rep.specs.Representation.{HasDarts};
 ghost use Rattle.ortho_rep.specs.Edges.{lesser_darts};
 
-use crate::route::{Route, all_in_grid, direction_from, is_axis, is_on_axes, is_turning, route_of};
+use crate::route::{
+    Route, all_in_grid, direction_from, is_axial, is_on_axes, is_turning, route_of,
+};
 use faces::Plane;
 use geometry::{Direction, Rectangle};
 use ortho_rep::{Point, Points, Shape, Turn};
@@ -203,7 +205,7 @@ fn examine_straight(
 {
     PathSeen {
         in_grid: true,
-        on_axes: is_axis(route.start, route.end),
+        on_axes: is_axial(route.start, route.end),
         turning: turns.is_empty(),
         listed: list_straight(rectangles, listed, route.start, route.end),
         out: direction_from(route.start, route.end),

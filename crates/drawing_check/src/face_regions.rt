@@ -8,7 +8,7 @@ ghost use Rattle.ortho_rep.specs.Edges.{edge_number, is_lesser};
 ghost use Rattle.drawing_check.specs.Draws.{Draws, HasPoints};
 ghost use Rattle.drawing_check.specs.Regions.{HasRegions, PassesNorth};
 ghost use Rattle.drawing_check.specs.Routes.{path_of};
-ghost use Rattle.drawing_check.specs.Westmost.{further_west, with_part, with_path, with_edge, westmost_below, face_on_west};
+ghost use Rattle.drawing_check.specs.Westmost.{further_west, west_with_part, west_with_path, west_with_edge, westmost_below, face_on_west};
 ghost use Rattle.ortho_rep.specs.Points.{PointsModel};
 ghost use Rattle.drawing_check.specs.Outside.{IsWestmost, IsLevel};
 
@@ -72,7 +72,7 @@ fn westmost(plane: &Plane, points: &Points) -> Option<Upright>
     for dart in 0..graph.darts() {
         let reverse = graph.reverse(dart);
         if dart < reverse {
-            west = with_edge(west, plane, points, dart, reverse, edge);
+            west = west_with_edge(west, plane, points, dart, reverse, edge);
             edge += 1;
         }
     }
@@ -81,7 +81,7 @@ fn westmost(plane: &Plane, points: &Points) -> Option<Upright>
 
 /// The westmost of `west` and the upright parts of an edge, given by its lesser dart, that dart's reverse and its
 /// number: the first one met, `west` before all, if several lie furthest west; `None` if there is none.
-fn with_edge(
+fn west_with_edge(
     west: Option<Upright>,
     plane: &Plane,
     points: &Points,
@@ -94,7 +94,7 @@ fn with_edge(
     requires reverse { reverse ≡ reverse_dart plane.now dart }
     requires number { edge ≡ edge_number plane.now dart }
     requires points { HasPoints plane.now points.now }
-    ensures { result ≡ with_edge plane.now points.now west dart }
+    ensures { result ≡ west_with_edge plane.now points.now west dart }
 {
     // Only the proof needs this: `graph` says where darts end.
     let _graph = plane.graph();
@@ -103,27 +103,27 @@ fn with_edge(
         left: plane.face_of(dart),
         right: plane.face_of(reverse),
     };
-    with_path(west, &route, &sides)
+    west_with_path(west, &route, &sides)
 }
 
 /// The westmost of `west` and the upright parts of a path between the faces `sides`: the first one met, `west` before
 /// all, if several lie furthest west; `None` if there is none.
-fn with_path(west: Option<Upright>, route: &Route<'_>, sides: &Sides) -> Option<Upright>
-    ensures { result ≡ with_path sides.now.left sides.now.right west (path_of route.now) }
+fn west_with_path(west: Option<Upright>, route: &Route<'_>, sides: &Sides) -> Option<Upright>
+    ensures { result ≡ west_with_path sides.now.left sides.now.right west (path_of route.now) }
 {
     let mut so_far = west;
     let mut from = route.start;
     for corner in route.corners {
-        so_far = with_part(so_far, from, *corner, sides);
+        so_far = west_with_part(so_far, from, *corner, sides);
         from = *corner;
     }
-    with_part(so_far, from, route.end, sides)
+    west_with_part(so_far, from, route.end, sides)
 }
 
 /// The westmost of `west` and the part from one point to another, if that is upright, `west` if both lie on one line.
 /// If the part is level, `west`, which may be `None`.
-fn with_part(west: Option<Upright>, from: Point, to: Point, sides: &Sides) -> Option<Upright>
-    ensures { result ≡ with_part sides.now.left sides.now.right west from to }
+fn west_with_part(west: Option<Upright>, from: Point, to: Point, sides: &Sides) -> Option<Upright>
+    ensures { result ≡ west_with_part sides.now.left sides.now.right west from to }
 {
     if from.x != to.x {
         return west;
@@ -173,7 +173,7 @@ fn further_west(west: Option<Upright>, part: Upright) -> Option<Upright>
 ///
 /// It is any dart that goes north with no dart to the west of it in some row that it crosses. If all parts of
 /// edges are level, it is any dart at all.
-pub fn regions_are_told_at_one_place()
+pub fn one_dart_decides_regions()
     ensures westmost { (p : PlaneModel) (shape : ShapeModel) (points : PointsModel) → IsPlane p → IsShape p shape
         → length points.vertices ≡ vertices p → Draws p shape points
         → (d x y : ℕ) → PassesNorth p points d x y → IsWestmost p points x y → HasRegions p points ↔ (face_at p d ≡ p.outer) }

@@ -11,5 +11,5 @@ mod face_regions;
 mod route;
 
 pub use drawing::{CheckFault, Drawing, Scratch, check, check_in};
-pub use face_regions::{outside_is_outer, regions_are_told_at_one_place};
-pub use route::{Route, direction_from, distance, is_axis, route_of};
+pub use face_regions::{one_dart_decides_regions, outside_is_outer};
+pub use route::{Route, direction_from, distance, is_axial, route_of};

@@ -78,7 +78,7 @@ pub(crate) fn is_on_axes(route: &Route<'_>) -> bool
     ensures { IsTrue result ↔ IsOnAxes (path_of route.now) }
 {
     for k in 0..route.corners.len() + 1 {
-        if !is_axis(route.point_at(k), route.point_at(k + 1)) {
+        if !is_axial(route.point_at(k), route.point_at(k + 1)) {
             return false;
         }
     }
@@ -86,7 +86,7 @@ pub(crate) fn is_on_axes(route: &Route<'_>) -> bool
 }
 
 /// Whether two points differ in exactly one coordinate.
-pub fn is_axis(a: Point, b: Point) -> bool
+pub fn is_axial(a: Point, b: Point) -> bool
     ensures { IsTrue result ↔ IsAxis a b }
 {
     (a.x == b.x) != (a.y == b.y)

@@ -117,7 +117,7 @@ pub fn least_coordinates_exist()
 
 /// Theorem: the coordinates of least points, of vertices and corners, are less than the number of vertices of the
 /// boxes.
-pub fn least_points_have_no_gap()
+pub fn least_points_are_below_vertex_count()
     ensures { (b : BoxesModel) (points : PointsModel) → AreBoxes b → AreLeastPoints b points → AreBelow b.vertices points }
 {}
 

@@ -172,7 +172,7 @@ fn breaks_multi(lists: &Lists<'_>) -> bool
 
 /// Whether the list of some vertex u names a vertex v whose list does not name u (rule 4), tested with one bit for each
 /// pair of vertices. There must be at most 255 lists, and no entry may be above their number.
-fn lacks_any_pair(lists: &Lists<'_>) -> bool
+fn breaks_asymmetric_by_bits(lists: &Lists<'_>) -> bool
     requires few { length lists.now < 256 }
     requires range { ¬ Breaks lists.now Rule.Range }
     ensures { IsTrue result ↔ Breaks lists.now Rule.Asymmetric }
@@ -203,7 +203,7 @@ fn lacks_return(lists: &Lists<'_>, vertex: u16) -> bool
 
 /// Whether the list of some vertex u names a vertex v whose list does not name u (rule 4), tested by a search of the
 /// list of v for each entry. An entry that is no vertex has the empty list.
-fn lacks_any_return(lists: &Lists<'_>) -> bool
+fn breaks_asymmetric_by_search(lists: &Lists<'_>) -> bool
     ensures { IsTrue result ↔ Breaks lists.now Rule.Asymmetric }
 {
     for place in 0..lists.count() {
@@ -221,9 +221,9 @@ fn breaks_asymmetric(lists: &Lists<'_>) -> bool
     ensures { IsTrue result ↔ Breaks lists.now Rule.Asymmetric }
 {
     if lists.count() < 256 {
-        lacks_any_pair(lists)
+        breaks_asymmetric_by_bits(lists)
     } else {
-        lacks_any_return(lists)
+        breaks_asymmetric_by_search(lists)
     }
 }
 

@@ -78,7 +78,7 @@ fn count_degrees(faces: &[u16], degrees: &mut [u16])
 
 /// Numbers the faces of `darts` darts from 0 in the order of their least darts, writes the face of each dart to the end
 /// of `table`, which must be all `UNSET` there and have the rotation before it, and returns the number of faces.
-fn number_behind(table: &mut [u16], darts: usize) -> u16
+fn number_faces_after(table: &mut [u16], darts: usize) -> u16
     requires tied { AreRotations darts (take (2 * darts) table.old) }
     requires few { darts ≤ MAX_DARTS }
     requires size { length table.old ≡ 3 * darts }
@@ -94,7 +94,7 @@ fn number_behind(table: &mut [u16], darts: usize) -> u16
 
 /// Writes the number of darts of each face to the end of `table`, which must be all 0 there and have the rotation and
 /// the faces of `darts` darts before it; that front of three numbers for each dart stays as it is.
-fn count_behind(table: &mut [u16], darts: usize)
+fn count_degrees_after(table: &mut [u16], darts: usize)
     requires few { darts ≤ MAX_DARTS }
     requires size { 3 * darts ≤ length table.old }
     requires named { (d : ℕ) → d < darts
@@ -118,9 +118,9 @@ pub(crate) fn add_faces(table: &mut Vec<u16>, darts: usize) -> Result<u16, Alloc
     ensures { IfOk result (λ count. HasFaceTable darts table.old.items count table.new.items) }
 {
     table.resize(3 * darts, UNSET)?;
-    let count = number_behind(table, darts);
+    let count = number_faces_after(table, darts);
     table.resize(3 * darts + usize::from(count), 0)?;
-    count_behind(table, darts);
+    count_degrees_after(table, darts);
     Ok(count)
 }
 

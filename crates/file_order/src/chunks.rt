@@ -113,7 +113,7 @@ pub struct Waiting {
 
 /// A new list with the state of each of `files` files, in order, of which nothing has arrived: no lines, a count of 0,
 /// no mark. `AllocError` if there is no memory for the list.
-pub(crate) fn none_come(alloc: Global, files: u32) -> Result<Vec<Waiting>, AllocError>
+pub(crate) fn new_waiting(alloc: Global, files: u32) -> Result<Vec<Waiting>, AllocError>
     ensures count { IfOk result (λ waiting. length waiting.items ≡ files) }
     ensures empty { IfOk result (λ waiting. All IsNothing waiting.items) }
 {

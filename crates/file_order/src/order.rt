@@ -11,7 +11,7 @@ ghost use Rattle.file_order.specs.FileOrder.{HasEnd, IsAddFault, IsBegun, StaysA
 ghost use Rattle.file_order.specs.Waits.{ChangesAt, GetsMark, IsNext, IsTaken, IsUnmarked, TakesIn};
 ghost use Rattle.file_order.specs.Writing.{GoesOn, IsPartlyAdded, IsRefused, TellsFailure};
 
-use crate::chunks::{Chunks, Waiting, none_come};
+use crate::chunks::{Chunks, Waiting, new_waiting};
 use lanes::{Pauses, RunFault};
 use planar_code::MAX_RECORDS;
 use std::alloc::{AllocError, Global};
@@ -135,7 +135,7 @@ impl FileOrder {
     {
         let mut buffer = Box::new(alloc, TextBuffer::new())?;
         buffer.push(first);
-        let waiting = none_come(alloc, files)?;
+        let waiting = new_waiting(alloc, files)?;
         Ok(FileOrder {
             buffer,
             current: 0,
@@ -163,7 +163,7 @@ impl FileOrder {
     }
 
     /// Whether file `file` is the current file or a later one of the run.
-    fn is_to_come(&self, file: u32) -> bool
+    fn is_current_or_later(&self, file: u32) -> bool
         ensures { IsTrue result ↔ ((self.now.current ≤ file) × (file < length self.now.waiting)) }
     {
         self.current <= file && (file as usize) < self.waiting.len()
@@ -177,7 +177,7 @@ impl FileOrder {
         ensures due { self.now.current ≤ file → file < length self.now.waiting
             → ((other : Waiting) → IsNext ordinal (slice_index_or self.now.waiting file other)) → IsTrue result }
     {
-        if !self.is_to_come(file) {
+        if !self.is_current_or_later(file) {
             return false;
         }
         let here = &self.waiting[file as usize];
@@ -229,7 +229,7 @@ impl FileOrder {
     ///
     /// `LaneLost` if it has ended, or if `known` is not its end with this mark after the entries that have arrived.
     /// There is no other error.
-    pub fn keep_end<J: KnownFiles>(
+    pub fn store_mark<J: KnownFiles>(
         &mut self,
         file: u32,
         mark: Mark,
@@ -244,7 +244,7 @@ impl FileOrder {
         ensures same { self.new ≡ record self.old { waiting = self.new.waiting } }
         ensures count { length self.new.waiting ≡ length self.old.waiting }
     {
-        if known.file != file || known.mark != mark || !self.is_to_come(file) {
+        if known.file != file || known.mark != mark || !self.is_current_or_later(file) {
             return Err(RunFault::LaneLost);
         }
         let here = &mut self.waiting[file as usize];
@@ -299,7 +299,7 @@ impl FileOrder {
     /// # Errors
     ///
     /// `Refused` exactly if the sink has then failed. There is no other error.
-    pub fn begin<S: Sink>(&mut self, alloc: Global, sink: &mut S) -> Result<(), RunFault<SinkFault>>
+    pub fn drain<S: Sink>(&mut self, alloc: Global, sink: &mut S) -> Result<(), RunFault<SinkFault>>
         requires stands { S.failed sink.old ≡ false }
         requires below { self.old.current < length self.old.waiting }
         ensures goes_on { OnOk result ((other : Waiting) → GoesOn (S.taken sink.old) self.old.buffer (S.taken sink.new) self.new.buffer

@@ -6,4 +6,4 @@ mod given_shape;
 mod plane_network;
 
 pub use given_shape::{Given, MAX_GIVEN_TURNS, has_mark};
-pub use plane_network::{FaceNet, Scratch, vertex_to_turn};
+pub use plane_network::{FaceNet, Scratch, vertex_supply};

@@ -58,7 +58,7 @@ fn face_supply(plane: &Plane, face: u16) -> i32
 
 /// The supply of a vertex, numbered from 1: 4 less its degree, less the right angles beyond the first of the angles
 /// that are given at the heads of its arriving darts. Linear in the darts of the plane.
-pub fn vertex_to_turn(plane: &Plane, given: &Given<'_>, vertex: u16) -> i32
+pub fn vertex_supply(plane: &Plane, given: &Given<'_>, vertex: u16) -> i32
     requires some { 0 < vertex }
     requires within { vertex ≤ vertices plane.now }
     ensures { result ≡ vertex_has_to_turn plane.now given.now vertex }
@@ -99,7 +99,7 @@ pub fn supplies_of(old: Vec<i32>, plane: &Plane, given: &Given<'_>) -> Result<Ve
     if given.is_nothing() {
         return Ok(supplies);
     }
-    take_given(&mut supplies, plane, given);
+    subtract_given(&mut supplies, plane, given);
     Ok(supplies)
 }
 
@@ -127,7 +127,7 @@ fn supplies_of_plane(old: Vec<i32>, plane: &Plane) -> Result<Vec<i32>, AllocErro
 
 /// Corrects `supplies`, computed as if nothing were given: given right angles beyond the first move from the vertex to
 /// the face, and each face loses the given left turns of its darts (negative ones raise its supply).
-fn take_given(supplies: &mut [i32], plane: &Plane, given: &Given<'_>)
+fn subtract_given(supplies: &mut [i32], plane: &Plane, given: &Given<'_>)
     requires can { CanBeGiven given.now.angles given.now.turns }
     requires nodes { length supplies.old ≡ vertices plane.now + plane.now.faces }
     requires at_vertex { (v : ℕ) → 1 ≤ v → v ≤ vertices plane.now

@@ -1,6 +1,6 @@
 //! Segments whose least length is known by hand.
 use crate::made::{Drawn, segments_of, wires_of};
-use least_length::{Scratch, Wire, find_shorter, take_shorter};
+use least_length::{Scratch, Wire, find_shorter, write_if_shorter};
 use std::alloc::{AllocError, Global};
 use test_tools::same;
 
@@ -177,7 +177,7 @@ fn found_within(alloc: Global, drawn: Drawn<'_>, looks: u64) -> Result<Found, Al
     let (mut scratch, mut coordinates) = (Scratch::empty(alloc), Vec::new(alloc));
     let mut left = looks;
     let ends = find_shorter(&mut scratch, &segments, &wires, &mut left, &mut coordinates)?;
-    if !ends && !take_shorter(&mut scratch, &segments, &wires, &mut coordinates)? {
+    if !ends && !write_if_shorter(&mut scratch, &segments, &wires, &mut coordinates)? {
         return Ok((ends, None, left));
     }
     Ok((ends, Some(length_of(&wires, &coordinates)), left))

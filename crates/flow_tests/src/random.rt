@@ -1,7 +1,7 @@
 //! Random drawings, a thousand small ones and three large ones, whose least lengths LEMON found by its network simplex
 //! (`checks/drawings random`).
 use crate::least::length_of;
-use least_length::{Scratch, Segment, Wire, find_shorter, take_shorter};
+use least_length::{Scratch, Segment, Wire, find_shorter, write_if_shorter};
 use std::alloc::{AllocError, Global};
 use test_tools::{Random, same};
 
@@ -138,7 +138,7 @@ impl Lent {
         )? {
             return Ok(length_of(wires, self.coordinates.as_slice()));
         }
-        if take_shorter(&mut self.scratch, segments, wires, &mut self.coordinates)? {
+        if write_if_shorter(&mut self.scratch, segments, wires, &mut self.coordinates)? {
             return Ok(length_of(wires, self.coordinates.as_slice()));
         }
         self.own_length()

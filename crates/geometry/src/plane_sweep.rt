@@ -178,7 +178,7 @@ pub(crate) fn sweep_with_dictionary(
 {
     let mut active = BTreeMap::new(alloc);
     for rectangle in rectangles {
-        if !clear_ended(&mut active, *rectangle) {
+        if !remove_ended(&mut active, *rectangle) {
             return Ok(false);
         }
         active.insert(rectangle.bottom, *rectangle)?;
@@ -189,7 +189,7 @@ pub(crate) fn sweep_with_dictionary(
 /// Removes from `active` the rectangles that share a row with `new` and end left of it, and returns true. At one that
 /// shares a row and reaches the left column of `new` it stops and returns false; what it removed until then stays
 /// removed.
-fn clear_ended(active: &mut BTreeMap<u32, Rectangle>, new: Rectangle) -> bool
+fn remove_ended(active: &mut BTreeMap<u32, Rectangle>, new: Rectangle) -> bool
     requires { IsSweepDictionary (get nat_cmp active.old) }
     ensures clears { Clears (get nat_cmp active.old) (get nat_cmp active.new) new }
     ensures free { OnTrue result (IsFree (get nat_cmp active.new) new) }

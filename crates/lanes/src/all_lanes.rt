@@ -93,7 +93,7 @@ pub type Running<E, M, O> = PromisedHandle<LaneReturn<E, M>, LanePromise<E, M, O
 ///
 /// What a thread returns is dropped only if it is joined: a lane's end of the fan keeps the messages that are left in
 /// it.
-pub fn drop_lanes<E: Numbered, M: Drop + Send, R: Threads, O: Opener>(
+pub fn join_and_drop_lanes<E: Numbered, M: Drop + Send, R: Threads, O: Opener>(
     rt: &R,
     running: Vec<Running<E, M, O>>,
 ) {
@@ -116,7 +116,7 @@ fn join_lanes<E: Numbered, M: Drop + Send, R: Threads, O: Opener, F: Drop>(
     match join_promised(rt, running) {
         Ok(ended) => Ok(ended),
         Err(refused) => {
-            drop_lanes(rt, refused.value);
+            join_and_drop_lanes(rt, refused.value);
             Err(RunFault::Memory)
         }
     }
@@ -266,7 +266,7 @@ impl<'s, R: Threads + Wait + Sync, O: Opener, G: Gate, L: LaneKind + 's> Shared<
             Err((running, fault)) => {
                 // Without the gatherer no lane waits for room in the fan.
                 drop(gatherer);
-                drop_lanes(self.run.rt, running);
+                join_and_drop_lanes(self.run.rt, running);
                 return Err(fault.of_any_consumer());
             }
         };

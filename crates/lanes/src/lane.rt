@@ -41,7 +41,7 @@ impl<'s, R: Threads + Wait + Sync, O: Opener, G: Gate, L: LaneKind + 's> Shared<
             lane.giver result.giver result.stop result.seat }
     {
         let Lane { seat, mut giver } = lane;
-        let seat = self.work_through_files(scope, seat, &mut giver);
+        let seat = self.run_stages(scope, seat, &mut giver);
         let stop = giver.give(self.run.rt, Message::Stop);
         LaneReturn { giver, stop, seat }
     }
@@ -52,7 +52,7 @@ impl<'s, R: Threads + Wait + Sync, O: Opener, G: Gate, L: LaneKind + 's> Shared<
     ///
     /// It settles the links between the stages by the ends that they returned. This proves that the last stage gave all
     /// that the first one read.
-    fn work_through_files<'e>(
+    fn run_stages<'e>(
         &'s self,
         scope: &'s Scope<'s, &'e ()>,
         seat: Seat,

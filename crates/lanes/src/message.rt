@@ -162,7 +162,7 @@ impl<T: Drop> ReturnQueue<T> {
 
     /// Another end of the same queue, for which nothing is allocated; an end without a queue if this one has none, or
     /// if the queue can have no more ends.
-    pub fn again(&self) -> ReturnQueue<T> {
+    pub fn another_end(&self) -> ReturnQueue<T> {
         match &self.queue {
             Some(queue) => match Arc::try_clone(queue) {
                 Ok(queue) => ReturnQueue { queue: Some(queue) },
@@ -291,7 +291,7 @@ impl<T: Drop> Filling<T> {
             };
         }
         let items = mem::replace(&mut self.items, Vec::new(self.alloc));
-        let home = self.home.again();
+        let home = self.home.another_end();
         to.tell(rt, Message::Items(Batch { items, home }))
     }
 
@@ -304,7 +304,7 @@ impl<T: Drop> Filling<T> {
         if !self.items.is_empty() || self.items.capacity() > 0 {
             return;
         }
-        if let Some(mut list) = self.free_list(rt) {
+        if let Some(mut list) = self.list_to_fill(rt) {
             list.clear();
             self.items = list;
         }
@@ -313,7 +313,7 @@ impl<T: Drop> Filling<T> {
     /// A list that has returned, or else a new one for `MOST_ITEMS` items while fewer than `LISTS` are made, or else
     /// one for whose return it waits about a millisecond. `None` if none returns or memory runs out; the collected
     /// items stay.
-    fn free_list<R: Wait>(&mut self, rt: &R) -> Option<Vec<T>>
+    fn list_to_fill<R: Wait>(&mut self, rt: &R) -> Option<Vec<T>>
         ensures { self.new.items.items ≡ self.old.items.items }
     {
         if let Some(list) = self.home.receive(rt) {

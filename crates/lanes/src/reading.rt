@@ -256,7 +256,7 @@ impl<R: Wait, G: Gate, L: LaneKind> RecordSink for RecordGiver<'_, R, G, L> {
 impl<R: Wait, G: Gate, L: LaneKind> RecordGiver<'_, R, G, L> {
     /// Sends the records collected so far in one message, waiting while the link is full; sends nothing if there are
     /// none. `Gone` if the taker of the link is gone: these records are dropped. It sends neither an end nor a stop.
-    pub fn give_all(&mut self) -> Result<(), Gone>
+    pub fn give_collected(&mut self) -> Result<(), Gone>
         ensures told { OnOk result (notes L.Framed.about (given self.new.giver)
             ≡ notes L.Framed.about (given self.old.giver) ++ notes_of_items L.Framed.about self.old.filling.items.items) }
         ensures none { OnOk result (self.new.filling.items.items ≡ []) }
@@ -285,7 +285,7 @@ impl<R: Wait, O: Opener, G: Gate, L: LaneKind> Shared<'_, R, O, G, L> {
     ///
     /// It draws until none is left. For each file it gives its records and one end, and after the last file one stop.
     /// `Gone` if the other end of its link was gone.
-    pub fn read_stage(
+    pub fn run_read_stage(
         &self,
         reading: FirstStage<L::Framed, L::End>,
     ) -> Result<(Giver<Message<L::Framed, L::End>>, Seat), Gone>
@@ -341,7 +341,7 @@ impl<R: Wait, O: Opener, G: Gate, L: LaneKind> Shared<'_, R, O, G, L> {
         let run = self.run;
         run.pauses.wait(run.rt, file);
         let end = read_file(run.opener, run.alloc, file, run.choice, buffer, gives)?;
-        gives.give_all()?;
+        gives.give_collected()?;
         let mark = end.mark;
         run.opener.ended(file, mark);
         let known = self.kind.end(file, end);

@@ -144,7 +144,7 @@ impl<A: Staged, R: Wait, G: Gate> RunningStage<'_, A, R, G> {
     /// Does the stage's work on the items of `batch`, in order, sends all results to `to`, waiting while there is no
     /// room, and sends the emptied list back. `Gone`, the only error, if the other end of `to` is gone: what was not
     /// sent is dropped. If memory runs out for an item, its result says so.
-    pub(crate) fn pass_on<M: Drop, O: Outlet<A::Next, M>>(
+    pub(crate) fn work_on_batch<M: Drop, O: Outlet<A::Next, M>>(
         &mut self,
         batch: Batch<A>,
         to: &mut O,
@@ -234,7 +234,7 @@ pub fn run_until_stop<A: Staged, M: Drop, R: Wait, G: Gate, O: Outlet<A::Next, M
                 let next = running.work_on(item);
                 to.tell(rt, Message::Item(next))?;
             }
-            Message::Items(batch) => running.pass_on(batch, to)?,
+            Message::Items(batch) => running.work_on_batch(batch, to)?,
             Message::End(file, mark, known) => to.tell(rt, Message::End(file, mark, known))?,
             Message::Stop => return Ok(taker),
         }

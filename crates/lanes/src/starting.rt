@@ -160,7 +160,7 @@ impl<'s, R: Threads + Wait + Sync, O: Opener, G: Gate, L: LaneKind + 's> Shared<
             move || -> Result<(Giver<Message<L::Framed, L::End>>, Seat), Gone>
                 requires { StartsToRead self.now.tickets.now reading.seat (vec_len reading.buffer) reading.giver
                     × AcceptsAll L.accepts L.ends (O.meaning self.now.run.now.opener.now) }
-            { self.read_stage(reading) },
+            { self.run_read_stage(reading) },
         ) {
             Ok(started) => Some(started),
             Err(_) => None,

@@ -64,7 +64,7 @@ pub(crate) fn certify(
     if !kept {
         return Ok(false);
     }
-    if weigh(sights) != measure(wires, coordinates) {
+    if weigh(sights) != length_of_wires(wires, coordinates) {
         return Ok(false);
     }
     balance.is_balanced(segments.len(), wires, sights)
@@ -177,7 +177,7 @@ fn weigh(sights: &[Sight]) -> u64
 
 /// The total length of the wires with `coordinates`, one for each segment: the sum of the differences between the
 /// coordinates at both ends of each wire; 0 if there are no wires.
-pub(crate) fn measure(wires: &[Wire], coordinates: &[u16]) -> u64
+pub(crate) fn length_of_wires(wires: &[Wire], coordinates: &[u16]) -> u64
     requires few { length wires.now ≤ MAX_WIRES }
     requires ends { (i : ℕ) → i < length wires.now → ((wire_at wires.now i).from < length coordinates.now) × ((wire_at wires.now i).to < length coordinates.now) }
     ensures { result ≡ total_length wires.now (coordinates_in coordinates.now) }

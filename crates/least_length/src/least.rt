@@ -7,7 +7,7 @@ ghost use Rattle.least_length.specs.declared.segments.TheConstants.{MAX_WIRES};
 ghost use Rattle.least_length.specs.Weights.{HasEnds};
 
 use crate::certificate;
-use crate::certificate::{certify, have_ends, have_levels, measure};
+use crate::certificate::{certify, have_ends, have_levels, length_of_wires};
 use crate::pulling::Pulling;
 use crate::segments::{Balance, MAX_SEGMENTS, MAX_SIGHTS, MAX_WIRES, Segment, Wire};
 use std::alloc::{AllocError, Global};
@@ -66,7 +66,7 @@ fn is_swept(frontier: &mut [u32], segments: &[Segment], coordinates: &[u16]) -> 
             return false;
         }
         last = segment.coordinate;
-        if !move_past(frontier, segment, u32::from(coordinates[place])) {
+        if !raise_frontier(frontier, segment, u32::from(coordinates[place])) {
             return false;
         }
     }
@@ -75,7 +75,7 @@ fn is_swept(frontier: &mut [u32], segments: &[Segment], coordinates: &[u16]) -> 
 
 /// Sets the entries of `frontier` on the levels of `segment` to `coordinate` plus 1, and returns true. At the first
 /// level with an entry above `coordinate` it stops and returns false; the entries of lower levels are then set.
-fn move_past(frontier: &mut [u32], segment: Segment, coordinate: u32) -> bool
+fn raise_frontier(frontier: &mut [u32], segment: Segment, coordinate: u32) -> bool
     requires levels { segment.high < length frontier.old }
     requires coordinate { coordinate < 2 ^ 16 }
     ensures passed { result ≡ true → (level : ℕ) → HasLevel segment level → slice_index frontier.old level ≤ coordinate }
@@ -135,7 +135,7 @@ pub fn find_shorter(
     ensures shorter { IfOk result (λ found. found ≡ true → total_length wires.now (coordinates_in coordinates.new.items) < total_length wires.now (λ r. (segment_at segments.now r).coordinate)) }
     ensures looks { looks.new ≤ looks.old }
 {
-    if wires.len() > MAX_WIRES || !balance(scratch, segments, wires, looks)? {
+    if wires.len() > MAX_WIRES || !search_weights(scratch, segments, wires, looks)? {
         return Ok(false);
     }
     if !scratch.pulling.moved || !write_certified(scratch, segments, wires, coordinates)? {
@@ -154,7 +154,7 @@ pub fn find_shorter(
 /// # Errors
 ///
 /// `AllocError` if there is no memory for the coordinates.
-pub fn take_shorter(
+pub fn write_if_shorter(
     scratch: &mut Scratch,
     segments: &[Segment],
     wires: &[Wire],
@@ -183,7 +183,7 @@ pub fn take_shorter(
 ///
 /// If true, the weights may still not be in balance, since the search stops after `MAX_PULLS` pulls on a segment; they
 /// are tested later.
-fn balance(
+fn search_weights(
     scratch: &mut Scratch,
     segments: &[Segment],
     wires: &[Wire],
@@ -197,7 +197,7 @@ fn balance(
     if segments.len() > MAX_SEGMENTS || !have_ends(segments, wires) || !have_levels(wires, top) {
         return Ok(false);
     }
-    scratch.pulling.balance(segments, wires, top, looks)
+    scratch.pulling.search_weights(segments, wires, top, looks)
 }
 
 /// Writes to `coordinates` those that the last search in `scratch` came to; returns whether the weights found certify
@@ -232,7 +232,7 @@ fn is_shorter(segments: &[Segment], wires: &[Wire], coordinates: &[u16]) -> bool
     requires count { length coordinates.now ≡ length segments.now }
     ensures { result ≡ true → total_length wires.now (coordinates_in coordinates.now) < total_length wires.now (λ r. (segment_at segments.now r).coordinate) }
 {
-    measure(wires, coordinates) < measure_own(segments, wires)
+    length_of_wires(wires, coordinates) < measure_own(segments, wires)
 }
 
 /// The total length of the wires with the segments' own coordinates; 0 if there are no wires.

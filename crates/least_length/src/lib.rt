@@ -16,5 +16,5 @@ mod sight_lists;
 pub use certificate::{
     certify_lengths, shortest_are_equally_long, shortest_keep_order, weights_bound_lengths,
 };
-pub use least::{Scratch, find_shorter, take_shorter};
+pub use least::{Scratch, find_shorter, write_if_shorter};
 pub use segments::{MAX_SIGHTS, MAX_WIRES, Segment, Sight, Wire};

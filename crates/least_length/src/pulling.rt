@@ -70,7 +70,7 @@ impl Pulling {
     ///
     /// The segments are in the order of their coordinates, and no level is above `top`. Each segment that the search
     /// goes over takes one of the looks, each time.
-    pub(crate) fn balance(
+    pub(crate) fn search_weights(
         &mut self,
         segments: &[Segment],
         wires: &[Wire],
@@ -337,7 +337,7 @@ impl Pulling {
         let spare = self.up[usize::from(root)] - self.down[usize::from(root)];
         let wanted = self.down[usize::from(target)] - self.up[usize::from(target)];
         let most = spare.min(wanted).min(u64::from(u32::MAX)) as u32;
-        let units = self.measure(target, most);
+        let units = self.path_capacity(target, most);
         let sights = self.sight_lists.sights.as_mut_slice();
         if !shift(sights, self.marks.as_slice(), target, units) {
             return false;
@@ -349,7 +349,7 @@ impl Pulling {
 
     /// The number of units that the path by which the search reached `target` can carry: `most`, or the least weight of
     /// the pairs from which the path takes units back, if that is less.
-    fn measure(&self, target: u16, most: u32) -> u32
+    fn path_capacity(&self, target: u16, most: u32) -> u32
         requires ready { IsReady self.now }
         requires target { target < vec_len self.now.coordinates }
         ensures { result ≤ most }

@@ -81,7 +81,7 @@ impl Search<'_> {
     {
         let away = distance(step.label, input.potential[step.end]);
         if input.excess[step.end] < 0 {
-            self.candidate(input, step, away);
+            self.take_if_nearer(input, step, away);
         } else if away < self.bound {
             self.label_node(input, step);
         }
@@ -103,7 +103,7 @@ impl Search<'_> {
 
     /// Makes the end of `step`, a node with a deficit at `distance`, the nearest one found (`bound` and `found`) if it
     /// is nearer than the one found, or as near with a lesser score. Else nothing changes.
-    fn candidate(&mut self, input: SearchInput<'_>, step: Candidate, distance: i32)
+    fn take_if_nearer(&mut self, input: SearchInput<'_>, step: Candidate, distance: i32)
         ensures same { SameBesideBound self.old self.new }
         ensures bound { self.new.bound ≤ℤ self.old.bound }
         ensures least { self.new.bound ≤ℤ distance }
@@ -236,7 +236,7 @@ impl<'a> Search<'a> {
         ensures once { looks.new ≤ looks.old + length (arcs_of input.entry) }
     {
         let mut search = Search::begin(input, visits);
-        'nodes: while search.goes_on(input) {
+        'nodes: while search.find_next(input) {
             search.scan(input, looks);
         }
         search
@@ -272,7 +272,7 @@ impl<'a> Search<'a> {
     /// Returns whether a node nearer than the bound is left to scan. If so, and all ordered nodes are scanned, it first
     /// raises the radius to the distance of the nearest node that waits; the nodes at that distance join the ordered
     /// nodes.
-    fn goes_on(&mut self, input: SearchInput<'_>) -> bool
+    fn find_next(&mut self, input: SearchInput<'_>) -> bool
         requires search { IsSearch input self.old }
         ensures ordered { IsReordered input.entry self.old self.new }
         ensures more { result ≡ true → self.new.scanned < self.new.ordered }

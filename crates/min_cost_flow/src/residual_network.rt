@@ -124,7 +124,7 @@ impl Residual {
         ensures none { (i : ℕ) → i < arc_count network.now → flow_of self.new i ≡ 0 }
     {
         self.first.fill(NONE);
-        list_all(
+        put_arcs(
             network,
             &mut self.first,
             &mut self.arcs,
@@ -135,7 +135,7 @@ impl Residual {
 
 /// Writes the two residual arcs of each arc to `arcs` and their capacities under the zero flow to `capacities`, and
 /// makes each the first in the list of the node where it starts; in `first` each entry must be `NONE` before.
-fn list_all(network: &Network, first: &mut [u32], arcs: &mut [ResidualArc], capacities: &mut [u32])
+fn put_arcs(network: &Network, first: &mut [u32], arcs: &mut [ResidualArc], capacities: &mut [u32])
     requires starts { length first.old ≡ node_count network.now }
     requires none { (v : ℕ) → v < length first.old → numbers first.old v ≡ NONE }
     requires arcs { length arcs.old ≡ arc_count network.now + arc_count network.now }

@@ -133,12 +133,12 @@ pub fn overfull_in(
     if solver.solve(network) {
         return Ok(None);
     }
-    Ok(Some(reached(alloc, &solver.visits)?))
+    Ok(Some(marks_of_reached(alloc, &solver.visits)?))
 }
 
 /// A new list with a mark for each node: true if the last search reached it, so that it has a label in `visits`.
 /// `AllocError` if there is no memory for the list.
-fn reached(alloc: Global, visits: &[Visit]) -> Result<Vec<bool>, AllocError>
+fn marks_of_reached(alloc: Global, visits: &[Visit]) -> Result<Vec<bool>, AllocError>
     ensures size { IfOk result (λ marks. length marks.items ≡ length visits.now) }
     ensures each { IfOk result (λ marks. (v : ℕ) → v < length visits.now → is_in marks.items v ≡ was_reached visits.now v) }
 {

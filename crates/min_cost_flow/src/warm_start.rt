@@ -35,7 +35,7 @@ impl Solver {
         ensures answer { IsVerdict network.new self.new result }
     {
         network.shift(from, to, amount);
-        if !carries_little(&self.residual.capacities, amount) {
+        if !can_carry_more(&self.residual.capacities, amount) {
             return self.solve(network);
         }
         if !rebase(&mut self.nodes.potential, to as usize) {
@@ -66,7 +66,7 @@ impl Solver {
 
 /// Whether each arc would carry at most [`MAX_CARRIED`] units with `amount` more than it carries by `capacities`, those
 /// of the residual arcs.
-fn carries_little(capacities: &[u32], amount: u32) -> bool
+fn can_carry_more(capacities: &[u32], amount: u32) -> bool
     requires { amount ≤ MAX_SUPPLY }
     ensures { result ≡ true → (i : ℕ) → 2 * i + 1 < length capacities.now → carried (capacity_at capacities.now) i + amount ≤ MAX_CARRIED }
 {

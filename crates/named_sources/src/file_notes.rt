@@ -209,13 +209,13 @@ impl FileNote {
     }
 
     /// Notes that the file was not opened, or that a read of it failed, for `reason`, which replaces an earlier one.
-    pub(crate) fn fail(&self, reason: Reason) {
+    pub(crate) fn keep_failure(&self, reason: Reason) {
         self.failure.store(code_of(reason), Ordering::SeqCst);
     }
 
     /// Notes `bytes` as those that follow the first `place` bytes of the file, which were noted before; only the first
     /// `FRONT` bytes of a file are kept, in memory that the note already has.
-    pub(crate) fn begin(&self, place: usize, bytes: &[u8]) {
+    pub(crate) fn keep_front(&self, place: usize, bytes: &[u8]) {
         let mut end = place;
         for byte in bytes.iter().take(FRONT) {
             let Some(slot) = self.front.get(end) else {

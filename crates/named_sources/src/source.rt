@@ -159,7 +159,7 @@ impl<'r, F: Tap> NotedSource<'r, F> {
         ensures fails { noted_fails F.fails result ≡ true }
     {
         if let Some(note) = note {
-            note.fail(reason);
+            note.keep_failure(reason);
         }
         NotedSource {
             source: None,
@@ -185,14 +185,14 @@ impl<F: Tap + KeepsReason> Tap for NotedSource<'_, F> {
         match source.read(buf) {
             Ok(count) => {
                 if let Some(note) = note {
-                    note.begin(self.place, &buf[..count]);
+                    note.keep_front(self.place, &buf[..count]);
                 }
                 self.place = self.place.saturating_add(count);
                 Ok(count)
             }
             Err(fault) => {
                 if let Some(note) = note {
-                    note.fail(source.reason());
+                    note.keep_failure(source.reason());
                 }
                 Err(fault)
             }
@@ -284,7 +284,7 @@ impl<'r, N: NamedFiles> Opener for FileOpener<'r, '_, N> {
             Ok(source) => Ok(NotedSource::new(source, note)),
             Err(refused) => {
                 if let Some(note) = note {
-                    note.fail(refused.reason);
+                    note.keep_failure(refused.reason);
                 }
                 Err(refused.fault)
             }

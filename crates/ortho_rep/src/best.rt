@@ -83,7 +83,7 @@ fn best_found(alloc: Global, plane: &mut Plane) -> Result<(Shape, Prices), Alloc
 {
     let moving = begin(alloc, plane)?;
     let (moving, incumbent) = best_incumbent(alloc, plane, moving)?;
-    let moving = outer_moved(moving, plane, incumbent.face);
+    let moving = move_outer(moving, plane, incumbent.face);
     plane.set_outer(incumbent.face);
     let solved = moving.warm_start.solved(alloc)?;
     let mut lists = ShapeLists::empty(alloc);
@@ -115,7 +115,7 @@ fn begin(alloc: Global, plane: &Plane) -> Result<Moving, AllocError>
 /// `plane` itself is unchanged. It allocates nothing.
 ///
 /// The deficit of the old outer face is eight units less, and that of the new one eight more.
-fn outer_moved(moving: Moving, plane: &Plane, face: u16) -> Moving
+fn move_outer(moving: Moving, plane: &Plane, face: u16) -> Moving
     requires moving { IsMoving plane.now moving }
     requires face { face < plane.now.faces }
     ensures { IsMoving (with_outer plane.now face) result }
@@ -297,7 +297,7 @@ fn visit(
     if !incumbent.loses_to(bounds[usize::from(face)], face) {
         return moving;
     }
-    let moving = outer_moved(moving, plane, face);
+    let moving = move_outer(moving, plane, face);
     plane.set_outer(face);
     let bends = bends_and_bounds(plane, &moving, bounds);
     if incumbent.loses_to(bends, face) {

@@ -109,7 +109,7 @@ fn needed(plane: &Plane, dart: u16, far: &[u16], near: &[u16]) -> u64
     if !are_smooth(plane, far) {
         return 0;
     }
-    excess(plane, far, near)
+    bends_by_distances(plane, far, near)
 }
 
 /// Writes to `far` the distance of each face from that of dart `start`, `UNKNOWN` if there is no way, by a
@@ -130,14 +130,14 @@ fn measure_faces(plane: &Plane, start: u16, far: &mut [u16], queue: &mut [u16])
         if place >= reached || dart >= darts {
             return;
         }
-        reached = leave(plane, dart, far, queue, reached);
+        reached = expand(plane, dart, far, queue, reached);
     }
 }
 
 /// Writes to `far` the distance of each face across an edge of the face of dart `first` that was not reached before,
 /// and appends a dart of it to the first `reached` entries of `queue`, if that has a place left; returns the number of
 /// faces reached then.
-fn leave(plane: &Plane, first: u16, far: &mut [u16], queue: &mut [u16], reached: usize) -> usize
+fn expand(plane: &Plane, first: u16, far: &mut [u16], queue: &mut [u16], reached: usize) -> usize
     requires first { first < darts plane.now }
     requires far { plane.now.faces ≤ length far.old }
 {
@@ -194,7 +194,7 @@ fn are_smooth(plane: &Plane, far: &[u16]) -> bool
 
 /// Four times the sum of all distances of faces (`far`) and vertices (`near`), less the sum over all darts of those of
 /// its face and its head, but at least 0.
-fn excess(plane: &Plane, far: &[u16], near: &[u16]) -> u64
+fn bends_by_distances(plane: &Plane, far: &[u16], near: &[u16]) -> u64
     requires far { plane.now.faces ≤ length far.now }
     requires near { vertices plane.now < length near.now }
     ensures { result ≡ excess_of_distances plane.now far.now near.now }

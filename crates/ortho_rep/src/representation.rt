@@ -81,11 +81,11 @@ fn has_whole_sums(plane: &Plane, shape: &Shape) -> bool
 {
     let sums = plane.face_count().max(plane.graph().vertices() + 1);
     if usize::from(sums) <= FEW_SUMS {
-        angles_sum_to_four::<FEW_SUMS>(plane, shape) && turns_faces::<FEW_SUMS>(plane, shape)
+        angles_sum_to_four::<FEW_SUMS>(plane, shape) && faces_turn_once::<FEW_SUMS>(plane, shape)
     } else if usize::from(sums) <= MORE_SUMS {
-        angles_sum_to_four::<MORE_SUMS>(plane, shape) && turns_faces::<MORE_SUMS>(plane, shape)
+        angles_sum_to_four::<MORE_SUMS>(plane, shape) && faces_turn_once::<MORE_SUMS>(plane, shape)
     } else {
-        angles_sum_to_four::<MOST_SUMS>(plane, shape) && turns_faces::<MOST_SUMS>(plane, shape)
+        angles_sum_to_four::<MOST_SUMS>(plane, shape) && faces_turn_once::<MOST_SUMS>(plane, shape)
     }
 }
 
@@ -127,7 +127,7 @@ pub fn add_angles(plane: &Plane, shape: &Shape, sums: &mut [u32])
 /// Whether the darts of each inner face, with its angles, make one whole turn to the left, and those of the outer face
 /// one to the right. N, the size of its two arrays of sums, must be at least the number of faces.
 #[inline(never)]
-fn turns_faces<const N: usize>(plane: &Plane, shape: &Shape) -> bool
+fn faces_turn_once<const N: usize>(plane: &Plane, shape: &Shape) -> bool
     requires darts { HasDarts plane.now shape.now }
     requires room { plane.now.faces ≤ N }
     requires few { N < 2 ^ 16 }

@@ -72,12 +72,12 @@ fn answer(
     let conditions = &request.conditions;
     if asks_nothing(conditions) {
         match lay_out(alloc, &request.source, choice, kind) {
-            Ok(layout) => tell(&layout, counts, lists),
+            Ok(layout) => write_layout(&layout, counts, lists),
             Err(outcome) => outcome,
         }
     } else {
         match lay_out_keeping(alloc, &request.source, choice, kind, conditions, cut) {
-            Ok(layout) => tell(&layout, counts, lists),
+            Ok(layout) => write_layout(&layout, counts, lists),
             Err(outcome) => outcome,
         }
     }
@@ -86,7 +86,7 @@ fn answer(
 /// Writes the counts of `layout` to `counts`, and its lists to `lists` if each has room; returns `Laid`, or `Room` if
 /// one has not, and `lists` then stays unchanged. Returns `Memory` and writes nothing if the number of corners takes
 /// more than 32 bits.
-fn tell(layout: &Layout, counts: &mut Counts, lists: &mut Lists<'_>) -> Outcome
+fn write_layout(layout: &Layout, counts: &mut Counts, lists: &mut Lists<'_>) -> Outcome
     requires { IsDrawnIfAsked layout.now.laid.plane layout.now.laid.shape layout.now.drawing }
     ensures told { IsTold (finding_of layout.now) counts.new (contents lists.new) result }
     ensures refused { ¬ (result ≡ Outcome.Laid) → contents lists.new ≡ contents lists.old }

@@ -187,7 +187,7 @@ fn laid_keeping(
     let mut scratch = RecordScratch::empty(alloc);
     let laid = match rec.shape_keeping(alloc, &mut scratch, conditions, choice, shape_kind(kind)) {
         Ok(Ok(laid)) => laid,
-        Ok(Err(fault)) => return Err(unkept(fault, cut)),
+        Ok(Err(fault)) => return Err(outcome_of_keep_fault(fault, cut)),
         Err(ReadFault::Rule(rule)) => return Err(Outcome::Refused(rule)),
         Err(ReadFault::Memory) => return Err(Outcome::Memory),
     };
@@ -207,7 +207,7 @@ fn laid_keeping(
 
 /// The outcome for `fault`: `Argument` for `NoAngle` and `TooManyTurns`, and for the others that of the same name. For
 /// `NoShape`, the cut that proves it is written to `cut`, which otherwise stays unchanged.
-fn unkept(fault: KeepFault, cut: &mut CutLists<'_>) -> Outcome
+fn outcome_of_keep_fault(fault: KeepFault, cut: &mut CutLists<'_>) -> Outcome
     ensures told { (conditions : Conditions) (choice : Choice) (g : List (List ℕ))
         → IsUnkept conditions choice g fault → IsKeepingFault conditions choice g (cut_contents cut.new) result }
     ensures uncut { ¬ (result ≡ Outcome.NoShape) → cut_contents cut.new ≡ cut_contents cut.old }

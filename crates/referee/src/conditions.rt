@@ -12,7 +12,7 @@ ghost use Rattle.ortho_rep.specs.Shapes.{angle_at, turns_at};
 ghost use Rattle.ortho_rep.specs.Representation.{HasDarts, angles_around, turning_around};
 
 use crate::judge::Fault;
-use drawing_check::{Route, is_axis, route_of};
+use drawing_check::{Route, is_axial, route_of};
 use faces::Plane;
 use ortho_rep::{MAX_COORDINATE, MAX_TURNS, Point, Points, Shape, add_angles, add_turns};
 
@@ -75,14 +75,14 @@ fn check_corners(plane: &Plane, points: &Points) -> Result<(), Fault>
     ensures first { IfErr result (λ fault. All IsInGrid points.now.vertices → IsFirstFailure plane.now points.now fault) }
 {
     for edge in 0..plane.graph().edges() {
-        check_edge(points.corners(edge), edge)?;
+        check_edge_corners(points.corners(edge), edge)?;
     }
     Ok(())
 }
 
 /// Checks that the corners of the edge with this number lie in the grid. The error `CornerOutOfGrid` names the edge and
 /// the first corner that does not, counted from 0.
-fn check_edge(corners: &[Point], edge: u16) -> Result<(), Fault>
+fn check_edge_corners(corners: &[Point], edge: u16) -> Result<(), Fault>
     ensures inside { OnOk result (All IsInGrid corners.now) }
     ensures refused { OnErr result (¬ All IsInGrid corners.now) }
     ensures first { IfErr result (IsCornerFault corners.now edge) }
@@ -131,7 +131,7 @@ fn check_route(route: &Route<'_>, edge: u16) -> Result<(), Fault>
     ensures first { IfErr result (IsAxisFault (path_of route.now) edge) }
 {
     for part in 0..route.corners.len() + 1 {
-        if !is_axis(route.point_at(part), route.point_at(part + 1)) {
+        if !is_axial(route.point_at(part), route.point_at(part + 1)) {
             return Err(Fault::NotAxis { edge, part });
         }
     }
@@ -141,7 +141,7 @@ fn check_route(route: &Route<'_>, edge: u16) -> Result<(), Fault>
 /// Checks that the angles round each vertex sum to four quarters. The error `Embedding` names the least vertex where
 /// they do not. The angles are added up in `sums`, all 0 at first, with one item more than vertices: item v is for
 /// vertex v.
-pub(crate) fn check_embedding(plane: &Plane, shape: &Shape, sums: &mut [u32]) -> Result<(), Fault>
+pub(crate) fn check_angle_sums(plane: &Plane, shape: &Shape, sums: &mut [u32]) -> Result<(), Fault>
     requires darts { HasDarts plane.now shape.now }
     requires clear { sums.old ≡ replicate (vertices plane.now + 1) 0 }
     ensures ordered { OnOk result (AreOrdered plane.now shape.now) }

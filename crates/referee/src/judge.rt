@@ -7,7 +7,7 @@ ghost use Rattle.ortho_rep.specs.Best.{HasRep, NeedsBends};
 ghost use Rattle.referee.specs.Drawings.{IsDrawnBy, IsDrawn};
 ghost use Rattle.referee.specs.Faults.{IsFirstFailure};
 
-use crate::conditions::{check_axes, check_counts, check_embedding, check_grid, find_outer};
+use crate::conditions::{check_angle_sums, check_axes, check_counts, check_grid, find_outer};
 use crate::shape::shape_of;
 use drawing_check::{CheckFault, Drawing, check_in};
 use faces::Plane;
@@ -111,7 +111,7 @@ impl Sums {
 
     /// Makes each sum 0, with lists as long as `plane` needs: one item for each face, and one more than vertices.
     /// `AllocError` if there is no memory; some lists may then be too short.
-    pub(crate) fn begin(&mut self, plane: &Plane) -> Result<(), AllocError>
+    pub(crate) fn reset_for(&mut self, plane: &Plane) -> Result<(), AllocError>
         ensures vertices { OnOk result (self.new.vertices.items ≡ replicate (vertices plane.now + 1) 0) }
         ensures lefts { OnOk result (self.new.lefts.items ≡ replicate plane.now.faces 0) }
         ensures rights { OnOk result (self.new.rights.items ≡ replicate plane.now.faces 0) }
@@ -181,8 +181,8 @@ pub fn judge_in(
     check_axes(plane, &points)?;
     let shape = shape_of(alloc, &mut scratch.directions, plane, &points)?;
     let sums = &mut scratch.sums;
-    sums.begin(plane)?;
-    check_embedding(plane, &shape, sums.vertices.as_mut_slice())?;
+    sums.reset_for(plane)?;
+    check_angle_sums(plane, &shape, sums.vertices.as_mut_slice())?;
     let outer = find_outer(
         plane,
         &shape,
@@ -195,13 +195,13 @@ pub fn judge_in(
     }
     match check_in(alloc, &mut scratch.drawings, plane, &shape, points) {
         Ok(drawing) => Ok(Judged { shape, drawing }),
-        Err((fault, _)) => Err(meeting(fault)),
+        Err((fault, _)) => Err(fault_of_check(fault)),
     }
 }
 
 /// The fault `Memory` if `fault` says that memory ran out, and otherwise `Meet`: no other condition can fail if the
 /// shape is that of the points. It allocates nothing.
-fn meeting(fault: CheckFault) -> Fault
+fn fault_of_check(fault: CheckFault) -> Fault
     ensures real { result ≢ Fault.Memory → fault ≢ CheckFault.Memory }
     ensures kind { result ≢ Fault.Memory → result ≡ Fault.Meet }
 {

@@ -10,9 +10,9 @@ ghost use Rattle.reports.specs.Writing.{WritesOrLacks, StaysOrLacks};
 ghost use Rattle.reports.specs.Report.{numbered_texts};
 
 use crate::json_objects::{
-    natural_at, put_drawing, put_end, put_place, put_prices, put_shape, put_sizes,
+    put_drawing, put_first, put_last, put_number, put_place, put_prices, put_sizes,
 };
-use crate::json_text::bytes;
+use crate::json_text::put_bytes;
 use crate::{Answer, Batch, Book, Cause, Entry};
 use drawing_check::Drawing;
 use embedding::Rule;
@@ -84,7 +84,7 @@ pub fn answer_line(
             },
         ),
         Answer::Refused(rule) => refused_line(alloc, file, graph, *rule),
-        Answer::NoMemory => lacking_line(alloc, file, graph),
+        Answer::NoMemory => out_of_memory_line(alloc, file, graph),
     }
 }
 
@@ -106,13 +106,13 @@ fn points_of(drawing: &Result<Drawing, Cause>) -> Result<&Points, Cause>
 /// # Errors
 ///
 /// `AllocError` if there is no memory for the line.
-pub fn lacking_line(alloc: Global, file: u32, graph: u64) -> Result<Vec<u8>, AllocError>
+pub fn out_of_memory_line(alloc: Global, file: u32, graph: u64) -> Result<Vec<u8>, AllocError>
     ensures { IfOk result (λ line. line.items ≡ line_of (answer_data file graph NoMemory)) }
 {
     let mut out = Vec::with_capacity(alloc, SHORT_ROOM)?;
-    natural_at(&mut out, b"{\"file\":", u64::from(file))?;
-    natural_at(&mut out, b",\"graph\":", graph)?;
-    bytes(&mut out, b",\"status\":\"memory\"}\n")?;
+    put_number(&mut out, b"{\"file\":", u64::from(file))?;
+    put_number(&mut out, b",\"graph\":", graph)?;
+    put_bytes(&mut out, b",\"status\":\"memory\"}\n")?;
     Ok(out)
 }
 
@@ -122,11 +122,11 @@ fn refused_line(alloc: Global, file: u32, graph: u64, rule: Rule) -> Result<Vec<
     ensures { IfOk result (λ line. line.items ≡ line_of (answer_data file graph (Refused rule))) }
 {
     let mut out = Vec::with_capacity(alloc, SHORT_ROOM)?;
-    natural_at(&mut out, b"{\"file\":", u64::from(file))?;
-    natural_at(&mut out, b",\"graph\":", graph)?;
-    bytes(&mut out, b",\"rule\":\"")?;
-    bytes(&mut out, rule.word().as_bytes())?;
-    bytes(&mut out, b"\",\"status\":\"refused\"}\n")?;
+    put_number(&mut out, b"{\"file\":", u64::from(file))?;
+    put_number(&mut out, b",\"graph\":", graph)?;
+    put_bytes(&mut out, b",\"rule\":\"")?;
+    put_bytes(&mut out, rule.word().as_bytes())?;
+    put_bytes(&mut out, b"\",\"status\":\"refused\"}\n")?;
     Ok(out)
 }
 
@@ -162,12 +162,12 @@ pub fn laid_line(
 {
     let room = LAID_ROOM + DART_ROOM * usize::from(laid.plane.graph().darts());
     let mut out = Vec::with_capacity(alloc, room)?;
-    put_shape(&mut out, laid.plane, laid.shape, laid.drawing)?;
+    put_first(&mut out, laid.plane, laid.shape, laid.drawing)?;
     put_place(&mut out, file, graph)?;
     put_sizes(&mut out, laid.plane)?;
     put_drawing(&mut out, laid.plane.graph().edges(), laid.drawing)?;
     put_prices(&mut out, laid.plane, laid.prices)?;
-    put_end(&mut out, laid.shape)?;
+    put_last(&mut out, laid.shape)?;
     out.push(b'\n')?;
     Ok(out)
 }
@@ -184,11 +184,11 @@ pub fn end_line(alloc: Global, file: u32, mark: Mark, graphs: u64) -> Result<Vec
     ensures { IfOk result (λ line. line.items ≡ end_json file mark graphs) }
 {
     let mut out = Vec::with_capacity(alloc, SHORT_ROOM)?;
-    bytes(&mut out, b"{\"end\":\"")?;
-    bytes(&mut out, mark_word(mark).as_bytes())?;
-    natural_at(&mut out, b"\",\"file\":", u64::from(file))?;
-    natural_at(&mut out, b",\"graphs\":", graphs)?;
-    bytes(&mut out, b"}\n")?;
+    put_bytes(&mut out, b"{\"end\":\"")?;
+    put_bytes(&mut out, mark_word(mark).as_bytes())?;
+    put_number(&mut out, b"\",\"file\":", u64::from(file))?;
+    put_number(&mut out, b",\"graphs\":", graphs)?;
+    put_bytes(&mut out, b"}\n")?;
     Ok(out)
 }
 
@@ -210,7 +210,7 @@ pub fn write_json<S: Sink>(alloc: Global, batch: &Batch, sink: &mut S) -> Result
 {
     let mut lines = TextBuffer::new();
     for file in 0..batch.files() {
-        write_book(alloc, &mut lines, sink, file + 1, batch.book(file))?;
+        add_book(alloc, &mut lines, sink, file + 1, batch.book(file))?;
     }
     lines.flush(sink)
 }
@@ -218,7 +218,7 @@ pub fn write_json<S: Sink>(alloc: Global, batch: &Batch, sink: &mut S) -> Result
 /// Appends the JSON lines of a book to `lines`, written to `sink` each time it is nearly full; `file` is the number to
 /// print. `Write` exactly if `sink` has then failed, `Memory` if there is no memory for a line; `sink` has then taken a
 /// prefix of the text in `lines` and the new one.
-fn write_book<S: Sink>(
+fn add_book<S: Sink>(
     alloc: Global,
     lines: &mut TextBuffer,
     sink: &mut S,
@@ -230,14 +230,14 @@ fn write_book<S: Sink>(
         (S.failed sink.new) (book_json file book.now) result }
 {
     let entries = book.entries();
-    write_entries(alloc, lines, sink, file, entries)?;
-    write_end(alloc, lines, sink, file, book.mark(), entries.len() as u64)
+    add_entries(alloc, lines, sink, file, entries)?;
+    add_end(alloc, lines, sink, file, book.mark(), entries.len() as u64)
 }
 
 /// Appends the JSON line of each entry to `lines`, written to `sink` each time it is nearly full; entries are numbered
 /// from 1. `Write` exactly if `sink` has then failed, `Memory` if there is no memory for a line; `sink` has then taken
 /// a prefix of the text in `lines` and the new one.
-fn write_entries<S: Sink>(
+fn add_entries<S: Sink>(
     alloc: Global,
     lines: &mut TextBuffer,
     sink: &mut S,
@@ -249,7 +249,7 @@ fn write_entries<S: Sink>(
         (S.failed sink.new) (numbered_texts (entry_json file) 1 entries.now) result }
 {
     for (index, entry) in entries.iter().enumerate() {
-        write_entry(alloc, lines, sink, file, index as u64 + 1, entry)?;
+        add_entry(alloc, lines, sink, file, index as u64 + 1, entry)?;
     }
     Ok(())
 }
@@ -257,7 +257,7 @@ fn write_entries<S: Sink>(
 /// Appends the JSON line of one entry to `lines`, written to `sink` each time it is nearly full; `file` and `graph` are
 /// the numbers to print. `Write` exactly if `sink` has then failed, `Memory` if there is no memory for a line; `sink`
 /// has then taken a prefix of the text in `lines` and the new one.
-fn write_entry<S: Sink>(
+fn add_entry<S: Sink>(
     alloc: Global,
     lines: &mut TextBuffer,
     sink: &mut S,
@@ -278,7 +278,7 @@ fn write_entry<S: Sink>(
 /// Appends the JSON line of a file's end, with its mark and `count` of graphs, to `lines`, written to `sink` each time
 /// it is nearly full. `Write` exactly if `sink` has then failed, `Memory` if there is no memory for a line; `sink` has
 /// then taken a prefix of the text in `lines` and the new one.
-fn write_end<S: Sink>(
+fn add_end<S: Sink>(
     alloc: Global,
     lines: &mut TextBuffer,
     sink: &mut S,

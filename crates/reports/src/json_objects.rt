@@ -13,7 +13,7 @@ ghost use Rattle.ortho_rep.specs.Shapes.{turns_at};
 ghost use Rattle.reports.specs.Adding.{member_text};
 
 use crate::Cause;
-use crate::json_text::{bytes, comma, integer, natural, point, turns};
+use crate::json_text::{put_bytes, put_comma, put_integer, put_natural, put_point, put_string};
 use faces::Plane;
 use ortho_rep::{Point, Points, Prices, Shape};
 use std::alloc::AllocError;
@@ -24,11 +24,11 @@ pub(crate) fn put_angles(out: &mut Vec<u8>, plane: &Plane, shape: &Shape) -> Res
     requires { HasDarts plane.now shape.now }
     ensures { OnOk result (out.new.items ≡ out.old.items ++ compact_text (array_of natural shape.now.angles)) }
 {
-    bytes(out, b"[")?;
+    put_bytes(out, b"[")?;
     for dart in 0..plane.graph().darts() {
-        natural(out, dart > 0, u64::from(shape.angle(dart)))?;
+        put_natural(out, dart > 0, u64::from(shape.angle(dart)))?;
     }
-    bytes(out, b"]")
+    put_bytes(out, b"]")
 }
 
 /// Appends a JSON array of the turns to `out`: for each dart, in order, a string of letters `L` and `R`. `AllocError`
@@ -36,11 +36,11 @@ pub(crate) fn put_angles(out: &mut Vec<u8>, plane: &Plane, shape: &Shape) -> Res
 pub(crate) fn put_turns(out: &mut Vec<u8>, shape: &Shape) -> Result<(), AllocError>
     ensures { OnOk result (out.new.items ≡ out.old.items ++ compact_text (array_of turns_data shape.now.strings)) }
 {
-    bytes(out, b"[")?;
+    put_bytes(out, b"[")?;
     for dart in 0..shape.string_count() as u16 {
-        turns(out, dart > 0, shape.turns(dart))?;
+        put_string(out, dart > 0, shape.turns(dart))?;
     }
-    bytes(out, b"]")
+    put_bytes(out, b"]")
 }
 
 /// Appends a JSON array of the prices of the vertices, in order, to `out`. `AllocError` if memory runs out; `out` may
@@ -53,11 +53,11 @@ pub(crate) fn put_vertex_prices(
     requires { HasPrices plane.now prices.now }
     ensures { OnOk result (out.new.items ≡ out.old.items ++ compact_text (array_of integer prices.now.vertices)) }
 {
-    bytes(out, b"[")?;
+    put_bytes(out, b"[")?;
     for place in 0..plane.graph().vertices() {
-        integer(out, place > 0, prices.vertex(place + 1))?;
+        put_integer(out, place > 0, prices.vertex(place + 1))?;
     }
-    bytes(out, b"]")
+    put_bytes(out, b"]")
 }
 
 /// Appends a JSON array of the prices of the faces, in order, to `out`. `AllocError` if memory runs out; `out` may then
@@ -70,11 +70,11 @@ pub(crate) fn put_face_prices(
     requires { HasPrices plane.now prices.now }
     ensures { OnOk result (out.new.items ≡ out.old.items ++ compact_text (array_of integer prices.now.faces)) }
 {
-    bytes(out, b"[")?;
+    put_bytes(out, b"[")?;
     for face in 0..plane.face_count() {
-        integer(out, face > 0, prices.face(face))?;
+        put_integer(out, face > 0, prices.face(face))?;
     }
-    bytes(out, b"]")
+    put_bytes(out, b"]")
 }
 
 /// Appends to `out` a JSON array with an array of corners for each of the first `edges` edges, in order; an edge
@@ -84,11 +84,11 @@ pub(crate) fn put_corners(out: &mut Vec<u8>, points: &Points, edges: u16) -> Res
     ensures { OnOk result (out.new.items
         ≡ out.old.items ++ compact_text (array_of (corners_data points.now) (range_with_len 0 edges))) }
 {
-    bytes(out, b"[")?;
+    put_bytes(out, b"[")?;
     for edge in 0..edges {
         put_edge(out, edge > 0, points, edge)?;
     }
-    bytes(out, b"]")
+    put_bytes(out, b"]")
 }
 
 /// Appends the corners of one edge to `out` as a JSON array, after a comma if `later`; the array is empty if `points`
@@ -98,9 +98,9 @@ fn put_edge(out: &mut Vec<u8>, later: bool, points: &Points, edge: u16) -> Resul
 {
     let corners = corners_of(points, edge);
     if later && corners.is_empty() {
-        return bytes(out, b",[]");
+        return put_bytes(out, b",[]");
     }
-    comma(out, later)?;
+    put_comma(out, later)?;
     put_points(out, corners)
 }
 
@@ -120,18 +120,18 @@ fn corners_of(points: &Points, edge: u16) -> &[Point]
 pub(crate) fn put_points(out: &mut Vec<u8>, points: &[Point]) -> Result<(), AllocError>
     ensures { OnOk result (out.new.items ≡ out.old.items ++ compact_text (array_of point_data points.now)) }
 {
-    bytes(out, b"[")?;
+    put_bytes(out, b"[")?;
     let mut later = false;
     for each in points {
-        point(out, later, *each)?;
+        put_point(out, later, *each)?;
         later = true;
     }
-    bytes(out, b"]")
+    put_bytes(out, b"]")
 }
 
 /// Appends `{` and the members `angles`, `bends`, `drawn` and `f` (the number of faces) of a graph's JSON object to
 /// `out`. `AllocError` if memory runs out; `out` may then end in a part of the text.
-pub(crate) fn put_shape(
+pub(crate) fn put_first(
     out: &mut Vec<u8>,
     plane: &Plane,
     shape: &Shape,
@@ -144,20 +144,20 @@ pub(crate) fn put_shape(
         ++ 44 ∷ (member_text (codes "drawn") (drawn_data (points_in drawing.entry))
         ++ 44 ∷ member_text (codes "f") (natural plane.now.faces))))) }
 {
-    bytes(out, b"{\"angles\":")?;
+    put_bytes(out, b"{\"angles\":")?;
     put_angles(out, plane, shape)?;
-    natural_at(out, b",\"bends\":", u64::from(shape.bends()))?;
+    put_number(out, b",\"bends\":", u64::from(shape.bends()))?;
     put_drawn(out, drawing)?;
-    natural_at(out, b",\"f\":", u64::from(plane.face_count()))
+    put_number(out, b",\"f\":", u64::from(plane.face_count()))
 }
 
 /// Appends `key` as given, with its punctuation, and then a number in decimal to `out`. `AllocError` if memory runs
 /// out; `out` may then end in a part of the text.
-pub(crate) fn natural_at(out: &mut Vec<u8>, key: &[u8], number: u64) -> Result<(), AllocError>
+pub(crate) fn put_number(out: &mut Vec<u8>, key: &[u8], number: u64) -> Result<(), AllocError>
     ensures { OnOk result (out.new.items ≡ out.old.items ++ (key.now ++ decimal number)) }
 {
-    bytes(out, key)?;
-    natural(out, false, number)
+    put_bytes(out, key)?;
+    put_natural(out, false, number)
 }
 
 /// Appends a comma and the member `drawn` to `out`: `yes`, or the word of the cause why there is no drawing.
@@ -166,11 +166,11 @@ fn put_drawn(out: &mut Vec<u8>, drawing: Result<&Points, Cause>) -> Result<(), A
     ensures { OnOk result (out.new.items ≡ out.old.items ++ 44 ∷ member_text (codes "drawn") (drawn_data (points_in drawing.entry))) }
 {
     match drawing {
-        Ok(_) => bytes(out, b",\"drawn\":\"yes\""),
+        Ok(_) => put_bytes(out, b",\"drawn\":\"yes\""),
         Err(cause) => {
-            bytes(out, b",\"drawn\":\"")?;
-            bytes(out, cause.word().as_bytes())?;
-            bytes(out, b"\"")
+            put_bytes(out, b",\"drawn\":\"")?;
+            put_bytes(out, cause.word().as_bytes())?;
+            put_bytes(out, b"\"")
         }
     }
 }
@@ -181,8 +181,8 @@ pub(crate) fn put_place(out: &mut Vec<u8>, file: u32, graph: u64) -> Result<(), 
     ensures { OnOk result (out.new.items ≡ out.old.items
         ++ 44 ∷ (member_text (codes "file") (natural file) ++ 44 ∷ member_text (codes "graph") (natural graph))) }
 {
-    natural_at(out, b",\"file\":", u64::from(file))?;
-    natural_at(out, b",\"graph\":", graph)
+    put_number(out, b",\"file\":", u64::from(file))?;
+    put_number(out, b",\"graph\":", graph)
 }
 
 /// Appends a comma and the members `m` and `n`, with the numbers of edges and of vertices, to `out`. `AllocError` if
@@ -191,8 +191,8 @@ pub(crate) fn put_sizes(out: &mut Vec<u8>, plane: &Plane) -> Result<(), AllocErr
     ensures { OnOk result (out.new.items ≡ out.old.items
         ++ 44 ∷ (member_text (codes "m") (natural (darts plane.now / 2)) ++ 44 ∷ member_text (codes "n") (natural (vertices plane.now)))) }
 {
-    natural_at(out, b",\"m\":", u64::from(plane.graph().edges()))?;
-    natural_at(out, b",\"n\":", u64::from(plane.graph().vertices()))
+    put_number(out, b",\"m\":", u64::from(plane.graph().edges()))?;
+    put_number(out, b",\"n\":", u64::from(plane.graph().vertices()))
 }
 
 /// Appends a comma and the member `points` to `out`: the corners of the first `edges` edges and the points of the
@@ -206,7 +206,7 @@ pub(crate) fn put_drawing(
 {
     match drawing {
         Ok(points) => put_drawn_points(out, edges, points),
-        Err(_) => bytes(out, b",\"points\":null"),
+        Err(_) => put_bytes(out, b",\"points\":null"),
     }
 }
 
@@ -215,11 +215,11 @@ pub(crate) fn put_drawing(
 fn put_drawn_points(out: &mut Vec<u8>, edges: u16, points: &Points) -> Result<(), AllocError>
     ensures { OnOk result (out.new.items ≡ out.old.items ++ 44 ∷ member_text (codes "points") (points_data edges (Drawn points.now))) }
 {
-    bytes(out, b",\"points\":{\"corners\":")?;
+    put_bytes(out, b",\"points\":{\"corners\":")?;
     put_corners(out, points, edges)?;
-    bytes(out, b",\"vertices\":")?;
+    put_bytes(out, b",\"vertices\":")?;
     put_points(out, points.vertices())?;
-    bytes(out, b"}")
+    put_bytes(out, b"}")
 }
 
 /// Appends a comma and the member `prices`, with the prices of the faces and of the vertices, to `out`. `AllocError` if
@@ -232,21 +232,21 @@ pub(crate) fn put_prices(
     requires { HasPrices plane.now prices.now }
     ensures { OnOk result (out.new.items ≡ out.old.items ++ 44 ∷ member_text (codes "prices") (prices_data prices.now)) }
 {
-    bytes(out, b",\"prices\":{\"faces\":")?;
+    put_bytes(out, b",\"prices\":{\"faces\":")?;
     put_face_prices(out, plane, prices)?;
-    bytes(out, b",\"vertices\":")?;
+    put_bytes(out, b",\"vertices\":")?;
     put_vertex_prices(out, plane, prices)?;
-    bytes(out, b"}")
+    put_bytes(out, b"}")
 }
 
 /// Appends a comma, the members `status` (`ok`) and `turns`, and the `}` that ends a graph's JSON object to `out`.
 /// `AllocError` if memory runs out; `out` may then end in a part of the text.
-pub(crate) fn put_end(out: &mut Vec<u8>, shape: &Shape) -> Result<(), AllocError>
+pub(crate) fn put_last(out: &mut Vec<u8>, shape: &Shape) -> Result<(), AllocError>
     ensures { OnOk result (out.new.items ≡ out.old.items
         ++ 44 ∷ (member_text (codes "status") (string (codes "ok"))
         ++ 44 ∷ (member_text (codes "turns") (array_of turns_data shape.now.strings) ++ 125 ∷ []))) }
 {
-    bytes(out, b",\"status\":\"ok\",\"turns\":")?;
+    put_bytes(out, b",\"status\":\"ok\",\"turns\":")?;
     put_turns(out, shape)?;
-    bytes(out, b"}")
+    put_bytes(out, b"}")
 }

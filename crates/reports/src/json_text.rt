@@ -8,7 +8,7 @@ use ortho_rep::{Point, Turn};
 use std::alloc::AllocError;
 
 /// Appends `bytes` to `out`. `AllocError` if there is no memory; `out` is then unchanged.
-pub(crate) fn bytes(out: &mut Vec<u8>, bytes: &[u8]) -> Result<(), AllocError>
+pub(crate) fn put_bytes(out: &mut Vec<u8>, bytes: &[u8]) -> Result<(), AllocError>
     ensures { OnOk result (out.new.items ≡ out.old.items ++ bytes.now) }
 {
     out.extend_from_slice(bytes)
@@ -16,7 +16,7 @@ pub(crate) fn bytes(out: &mut Vec<u8>, bytes: &[u8]) -> Result<(), AllocError>
 
 /// Appends a comma to `out` if `later`, that is, if an element was written before; otherwise nothing. `AllocError` if
 /// there is no memory; `out` is then unchanged.
-pub(crate) fn comma(out: &mut Vec<u8>, later: bool) -> Result<(), AllocError>
+pub(crate) fn put_comma(out: &mut Vec<u8>, later: bool) -> Result<(), AllocError>
     ensures { OnOk result (out.new.items ≡ out.old.items ++ comma_if later) }
 {
     if later {
@@ -28,21 +28,21 @@ pub(crate) fn comma(out: &mut Vec<u8>, later: bool) -> Result<(), AllocError>
 /// Appends a nonnegative number to `out` in decimal, after a comma if `later`. `AllocError` if memory runs out; `out`
 /// may then end in a part of the text.
 #[inline]
-pub(crate) fn natural(out: &mut Vec<u8>, later: bool, number: u64) -> Result<(), AllocError>
+pub(crate) fn put_natural(out: &mut Vec<u8>, later: bool, number: u64) -> Result<(), AllocError>
     ensures { OnOk result (out.new.items ≡ out.old.items ++ (comma_if later ++ decimal number)) }
 {
     if number < 10 {
-        return digit(out, later, number as u8);
+        return put_digit(out, later, number as u8);
     }
-    digits(out, later, number)
+    put_digits(out, later, number)
 }
 
 /// Appends a nonnegative number of any length to `out` in decimal, after a comma if `later`. `AllocError` if memory
 /// runs out; `out` may then end in a part of the text.
-fn digits(out: &mut Vec<u8>, later: bool, number: u64) -> Result<(), AllocError>
+fn put_digits(out: &mut Vec<u8>, later: bool, number: u64) -> Result<(), AllocError>
     ensures { OnOk result (out.new.items ≡ out.old.items ++ (comma_if later ++ decimal number)) }
 {
-    comma(out, later)?;
+    put_comma(out, later)?;
     let mut buffer = Buffer::new();
     out.extend_from_slice(buffer.format(number).as_bytes())
 }
@@ -51,7 +51,7 @@ fn digits(out: &mut Vec<u8>, later: bool, number: u64) -> Result<(), AllocError>
 /// is no memory; `out` is then unchanged.
 #[inline]
 #[tactic(auto, using(std::proofs::lemmas::Fmt::decimal_digit))]
-fn digit(out: &mut Vec<u8>, later: bool, number: u8) -> Result<(), AllocError>
+fn put_digit(out: &mut Vec<u8>, later: bool, number: u8) -> Result<(), AllocError>
     requires { number < 10 }
     ensures { OnOk result (out.new.items ≡ out.old.items ++ (comma_if later ++ decimal number)) }
 {
@@ -65,32 +65,32 @@ fn digit(out: &mut Vec<u8>, later: bool, number: u8) -> Result<(), AllocError>
 
 /// Appends an integer to `out` in decimal, after a comma if `later`. `AllocError` if memory runs out; `out` may then
 /// end in a part of the text.
-pub(crate) fn integer(out: &mut Vec<u8>, later: bool, number: i32) -> Result<(), AllocError>
+pub(crate) fn put_integer(out: &mut Vec<u8>, later: bool, number: i32) -> Result<(), AllocError>
     ensures { OnOk result (out.new.items ≡ out.old.items ++ (comma_if later ++ compact_text (integer number))) }
 {
     if number >= 0 {
-        return natural(out, later, number as u64);
+        return put_natural(out, later, number as u64);
     }
-    minus(out, later, number.unsigned_abs())
+    put_negative(out, later, number.unsigned_abs())
 }
 
 /// Appends a minus sign and `size` in decimal to `out`, after a comma if `later`. `AllocError` if memory runs out;
 /// `out` may then end in a part of the text.
-fn minus(out: &mut Vec<u8>, later: bool, size: u32) -> Result<(), AllocError>
+fn put_negative(out: &mut Vec<u8>, later: bool, size: u32) -> Result<(), AllocError>
     ensures { OnOk result (out.new.items ≡ out.old.items ++ (comma_if later ++ 45 ∷ decimal size)) }
 {
     if later && size < 10 {
-        return minus_digit(out, size as u8);
+        return put_negative_digit(out, size as u8);
     }
-    comma(out, later)?;
-    bytes(out, b"-")?;
-    natural(out, false, u64::from(size))
+    put_comma(out, later)?;
+    put_bytes(out, b"-")?;
+    put_natural(out, false, u64::from(size))
 }
 
 /// Appends a comma, a minus sign and `size`, which must have one digit, to `out`. `AllocError` if there is no memory;
 /// `out` is then unchanged.
 #[tactic(auto, using(std::proofs::lemmas::Fmt::decimal_digit))]
-fn minus_digit(out: &mut Vec<u8>, size: u8) -> Result<(), AllocError>
+fn put_negative_digit(out: &mut Vec<u8>, size: u8) -> Result<(), AllocError>
     requires { size < 10 }
     ensures { OnOk result (out.new.items ≡ out.old.items ++ 44 ∷ 45 ∷ decimal size) }
 {
@@ -99,23 +99,23 @@ fn minus_digit(out: &mut Vec<u8>, size: u8) -> Result<(), AllocError>
 
 /// Appends a point as `[x,y]` to `out`, after a comma if `later`. `AllocError` if memory runs out; `out` may then end
 /// in a part of the text.
-pub(crate) fn point(out: &mut Vec<u8>, later: bool, point: Point) -> Result<(), AllocError>
+pub(crate) fn put_point(out: &mut Vec<u8>, later: bool, point: Point) -> Result<(), AllocError>
     ensures { OnOk result (out.new.items ≡ out.old.items ++ (comma_if later ++ compact_text (point_data point))) }
 {
     if later && point.x < 10 && point.y < 10 {
-        return small_point(out, point.x as u8, point.y as u8);
+        return put_small_point(out, point.x as u8, point.y as u8);
     }
-    comma(out, later)?;
-    bytes(out, b"[")?;
-    natural(out, false, u64::from(point.x))?;
-    natural(out, true, u64::from(point.y))?;
-    bytes(out, b"]")
+    put_comma(out, later)?;
+    put_bytes(out, b"[")?;
+    put_natural(out, false, u64::from(point.x))?;
+    put_natural(out, true, u64::from(point.y))?;
+    put_bytes(out, b"]")
 }
 
 /// Appends a comma and a point as `[x,y]` to `out`; `x` and `y` must have one digit each. `AllocError` if there is no
 /// memory; `out` is then unchanged.
 #[tactic(auto, using(std::proofs::lemmas::Fmt::decimal_digit))]
-fn small_point(out: &mut Vec<u8>, x: u8, y: u8) -> Result<(), AllocError>
+fn put_small_point(out: &mut Vec<u8>, x: u8, y: u8) -> Result<(), AllocError>
     requires x { x < 10 }
     requires y { y < 10 }
     ensures { OnOk result (out.new.items ≡ out.old.items ++ 44 ∷ 91 ∷ (decimal x ++ 44 ∷ (decimal y ++ 93 ∷ []))) }
@@ -125,25 +125,25 @@ fn small_point(out: &mut Vec<u8>, x: u8, y: u8) -> Result<(), AllocError>
 
 /// Appends the turns of a dart to `out` as a string of letters `L` and `R` in quotation marks, after a comma if
 /// `later`. `AllocError` if memory runs out; `out` may then end in a part of the text.
-pub(crate) fn turns(out: &mut Vec<u8>, later: bool, turns: &[Turn]) -> Result<(), AllocError>
+pub(crate) fn put_string(out: &mut Vec<u8>, later: bool, turns: &[Turn]) -> Result<(), AllocError>
     ensures { OnOk result (out.new.items ≡ out.old.items ++ (comma_if later ++ compact_text (turns_data turns.now))) }
 {
     if later && turns.is_empty() {
-        return bytes(out, b",\"\"");
+        return put_bytes(out, b",\"\"");
     }
-    comma(out, later)?;
-    bytes(out, b"\"")?;
-    letters(out, turns)?;
-    bytes(out, b"\"")
+    put_comma(out, later)?;
+    put_bytes(out, b"\"")?;
+    put_letters(out, turns)?;
+    put_bytes(out, b"\"")
 }
 
 /// Appends a letter to `out` for each turn, in order, without quotation marks. `AllocError` if memory runs out; `out`
 /// may then end in a part of the text.
-fn letters(out: &mut Vec<u8>, turns: &[Turn]) -> Result<(), AllocError>
+fn put_letters(out: &mut Vec<u8>, turns: &[Turn]) -> Result<(), AllocError>
     ensures { OnOk result (out.new.items ≡ out.old.items ++ map letter_of turns.now) }
 {
     for turn in turns {
-        bytes(out, &[letter(*turn)])?;
+        put_bytes(out, &[letter(*turn)])?;
     }
     Ok(())
 }

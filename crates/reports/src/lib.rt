@@ -12,7 +12,7 @@ mod report_line;
 pub use answer::{Answer, Cause, Entry};
 pub use book::{Batch, Book, MAX_FILES, Style, books_of, status_of};
 pub use json_lines::{
-    LaidGraph, answer_line, end_line, entry_line, lacking_line, laid_line, write_json,
+    LaidGraph, answer_line, end_line, entry_line, laid_line, out_of_memory_line, write_json,
 };
 pub use report_line::{ReportLine, write_report};
 pub use streams::Form;

@@ -217,7 +217,7 @@ pub fn write_report<S: Sink>(batch: &Batch, sink: &mut S) -> Result<(), WriteFau
 {
     let mut lines = TextBuffer::new();
     for file in 0..batch.files() {
-        write_book(&mut lines, sink, file + 1, batch.book(file))?;
+        add_book(&mut lines, sink, file + 1, batch.book(file))?;
     }
     lines.flush(sink)
 }
@@ -225,7 +225,7 @@ pub fn write_report<S: Sink>(batch: &Batch, sink: &mut S) -> Result<(), WriteFau
 /// Appends the report lines of a book to `lines`, written to `sink` each time it is nearly full; `number` is the number
 /// of the file. `Write`, the only error, exactly if `sink` has then failed; it has then taken a prefix of the text in
 /// `lines` and the new one.
-fn write_book<S: Sink>(
+fn add_book<S: Sink>(
     lines: &mut TextBuffer,
     sink: &mut S,
     number: u32,
@@ -236,16 +236,16 @@ fn write_book<S: Sink>(
         (S.failed sink.new) (book_text number book.now) result }
 {
     let entries = book.entries();
-    write_line(lines, sink, &ReportLine::of_file(u64::from(number)))?;
-    write_entries(lines, sink, entries)?;
+    add_line(lines, sink, &ReportLine::of_file(u64::from(number)))?;
+    add_entries(lines, sink, entries)?;
     let end = ReportLine::of_end(book.mark(), entries.len() as u64);
-    write_line(lines, sink, &end)
+    add_line(lines, sink, &end)
 }
 
 /// Appends the report line of each entry to `lines`, written to `sink` each time it is nearly full; entries are
 /// numbered from 1. `Write`, the only error, exactly if `sink` has then failed; it has then taken a prefix of the text
 /// in `lines` and the new one.
-fn write_entries<S: Sink>(
+fn add_entries<S: Sink>(
     lines: &mut TextBuffer,
     sink: &mut S,
     entries: &[Entry],
@@ -255,7 +255,7 @@ fn write_entries<S: Sink>(
         (S.failed sink.new) (numbered_texts entry_line 1 entries.now) result }
 {
     for (index, entry) in entries.iter().enumerate() {
-        write_line(
+        add_line(
             lines,
             sink,
             &ReportLine::of_graph(index as u64 + 1, &entry.answer),
@@ -266,7 +266,7 @@ fn write_entries<S: Sink>(
 
 /// Appends a line to `lines`, which is first written to `sink` if it is nearly full. `Write`, the only error, exactly
 /// if `sink` has then failed; it has then taken a prefix of the text in `lines` and the new one.
-fn write_line<S: Sink>(
+fn add_line<S: Sink>(
     lines: &mut TextBuffer,
     sink: &mut S,
     line: &ReportLine,

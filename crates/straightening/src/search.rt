@@ -186,7 +186,7 @@ impl FaceSearch {
     /// Searches for a path from the face of `path.from` to that of `path.to` by steps of reduced cost 0, and returns
     /// whether there is one; its steps are kept for `send`. Between two calls of `clear`, no two searches may have the
     /// same `path.to`.
-    pub(crate) fn finds(
+    pub(crate) fn find_path(
         &mut self,
         plane: &Plane,
         prices: &Prices,
@@ -205,7 +205,7 @@ impl FaceSearch {
             if self.goals[end] == path.to || entered >= darts {
                 break;
             }
-            self.leave(plane, prices, flow, entered, path.to);
+            self.expand(plane, prices, flow, entered, path.to);
         }
         self.goals[end] == path.to
     }
@@ -227,7 +227,7 @@ impl FaceSearch {
 
     /// Takes each allowed step out of the face of dart `first`, in the search for dart `goal`: the faces entered are
     /// marked as reached, and queued, except those that this search has reached already.
-    fn leave(&mut self, plane: &Plane, prices: &Prices, flow: &ShapeFlow, first: u16, goal: u16)
+    fn expand(&mut self, plane: &Plane, prices: &Prices, flow: &ShapeFlow, first: u16, goal: u16)
         requires prices { HasPrices plane.now prices.now }
         requires first { first < darts plane.now }
     {

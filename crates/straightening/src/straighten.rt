@@ -196,7 +196,7 @@ fn straighten_one(
             from: clockwise_dart,
             to: reflex,
         };
-        if !search.finds(plane, prices, flow, back) {
+        if !search.find_path(plane, prices, flow, back) {
             return false;
         }
         search.send(plane, flow, back);

@@ -74,7 +74,7 @@ impl StraightEdges {
     }
 
     /// Whether a straight edge leads to `vertex` from a vertex with a lesser coordinate.
-    pub(crate) fn is_led_to(&self, vertex: u16) -> bool
+    pub(crate) fn has_lower_neighbour(&self, vertex: u16) -> bool
         requires { vertex < vec_len self.now.beside }
     {
         self.beside[usize::from(vertex)].back != 0
@@ -355,9 +355,9 @@ fn list_corners(
         place = x.of.len() as u16;
         let end = (index + 1 == corners.len()).then_some(bent.head);
         segment = if vertical {
-            turn(x, segment, y, (from.y, corner.y), place, end)?
+            add_corner(x, segment, y, (from.y, corner.y), place, end)?
         } else {
-            turn(y, segment, x, (from.x, corner.x), place, end)?
+            add_corner(y, segment, x, (from.x, corner.x), place, end)?
         };
         vertical = !vertical;
         from = corner;
@@ -372,7 +372,7 @@ fn list_corners(
 /// Adds the corner at `place`, to which an edge runs along `segment` of `from_segments` between the coordinates `run`.
 /// Returns the segment of `to_segments` along which it leaves: that of the vertex `end`, or a new one if `None`.
 /// `TooLarge` if there are too many or `end` is on none; `Memory` if there is no memory. The segments may have changed.
-fn turn(
+fn add_corner(
     from_segments: &mut Segments,
     segment: u16,
     to_segments: &mut Segments,

@@ -186,7 +186,7 @@ impl Segments {
         ensures of { vec_len self.new.of ≡ vec_len self.old.of }
         ensures edges { vec_len self.new.edges.beside ≡ vec_len self.old.edges.beside }
     {
-        if self.edges.is_led_to(vertex) {
+        if self.edges.has_lower_neighbour(vertex) {
             return Ok(());
         }
         let first = vertex - 1;
@@ -281,14 +281,14 @@ impl Segments {
     {
         let mut levels = from.levels(other);
         for coordinate in usize::from(from.coordinate) + 1..usize::from(to.coordinate) {
-            levels = self.levels_behind(other, coordinate, levels);
+            levels = self.levels_reached(other, coordinate, levels);
         }
         levels & to.levels(other) != 0
     }
 
     /// The levels, one bit each, of all segments with this coordinate that cross one of `levels`; 0 if there are none.
     /// It does not see segments that cross a level above 63; `other` are the segments of the other axis.
-    fn levels_behind(&self, other: &[Segment], coordinate: usize, levels: u64) -> u64
+    fn levels_reached(&self, other: &[Segment], coordinate: usize, levels: u64) -> u64
         requires coordinate { coordinate < vec_len self.now.firsts }
         requires listed { AreListed self.now.segments.items self.now.firsts.items }
         requires met { HaveEnds self.now.segments.items (length other.now) }
@@ -405,7 +405,7 @@ pub(crate) fn take_first(firsts: &mut [u16], coordinate: usize) -> u16
 
 /// Puts `segment`, whose index is `place`, at the front of the list of its coordinate: sets `segment.next` to the entry
 /// of `firsts` for that coordinate, and then the entry to `place` plus 1.
-pub(crate) fn list(firsts: &mut [u16], segment: &mut Segment, place: u16)
+pub(crate) fn put_first(firsts: &mut [u16], segment: &mut Segment, place: u16)
     requires coordinate { segment.old.coordinate < length firsts.old }
     requires place { place + 1 < 2 ^ 16 }
     ensures next { segment.new ≡ record segment.old { next = slice_index firsts.old segment.old.coordinate } }
@@ -424,7 +424,7 @@ fn list_all(segments: &mut [Segment], firsts: &mut [u16])
     ensures ends { KeepEnds segments.old segments.new }
 {
     for place in 0..segments.len() {
-        list(firsts, &mut segments[place], place as u16);
+        put_first(firsts, &mut segments[place], place as u16);
     }
 }
 

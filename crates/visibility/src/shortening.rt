@@ -6,7 +6,7 @@ ghost use Rattle.visibility.specs.Axes.{AreFew, AreListed, HaveEnds, KeepEnds};
 ghost use Rattle.visibility.specs.Crossing.{AreCrossed};
 
 use crate::segments::{MAX_COORDINATE, Segment, Segments};
-use least_length::{Wire, find_shorter, take_shorter};
+use least_length::{Wire, find_shorter, write_if_shorter};
 use std::alloc::{AllocError, Global};
 
 /// How many segments the searches for one drawing may go over in all, each counted each time. Only drawings with many
@@ -172,7 +172,7 @@ fn find(
     if *looks > 0 {
         return Ok(false);
     }
-    take_shorter(search, segments, wires, coordinates)
+    write_if_shorter(search, segments, wires, coordinates)
 }
 
 /// Gives each of `segments` a coordinate found: segment r the one at the place `places[r]` in `coordinates`. It does

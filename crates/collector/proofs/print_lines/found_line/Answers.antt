@@ -58,6 +58,6 @@ returns-in_ok-text-in-Json c =
     let laid : entry.answer ≡ Laid drawn.plane drawn.shape drawn.prices (Ok points) = answer ∙ ap answer_in found in (
       subst (λ (a : Answer). a ≢ NoMemory) (sym laid) apart,
       json_line c.args.form entry c.in_ok-ok-in-Json.field-0 c.from-graph.result c.args.file c.args.ordinal (Laid drawn.plane drawn.shape drawn.prices (Ok points)) c.of.result c.in-Json.is file ordinal
-          (of_made c.number_of.result c.in_ok-ok-in-Json.field-0 (λ n. n ≡ c.args.file + 1) c.in_ok-ok-in-Json.ensures.value c.number_of.ensures.number) c.from-graph.ensures laid
+          (of_made c.file_number.result c.in_ok-ok-in-Json.field-0 (λ n. n ≡ c.args.file + 1) c.in_ok-ok-in-Json.ensures.value c.file_number.ensures.number) c.from-graph.ensures laid
           (c.of.ensures ∙ of_made c.laid_line.result c.in_ok-text-in-Json.text _ c.in_ok-text-in-Json.ensures.value c.laid_line.ensures),
     )

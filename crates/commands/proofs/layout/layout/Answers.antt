@@ -14,7 +14,7 @@ returns-clause-written g c =
     let asked = c.args.asked.now in
     let known = g.N.NamedFiles.meaning in
     let files = known c.args.files.now in
-    let run = c.over-run.result in
+    let run = c.run_with-run.result in
     let named = c.in_ok-named.ensures in
     let old = g.S.Sink.taken c.args.out.now in
     let form = asked.style.form in
@@ -22,9 +22,9 @@ returns-clause-written g c =
     let status = c.in_ok-status.status in
     as_asked (λ choice meaning count. IsTextOfBooks choice form meaning count old (g.S.Sink.taken out) (g.S.Sink.failed out) status)
     run.choice asked.run.choice (meanings_in (known run.opener.now.files.now) run.opener.now.names.now) (meanings_in files asked.run.names.items) run.files (vec_len asked.run.names)
-    (c.over-run.ensures.choice ∙ named.choice)
-    (opened_as known run.opener.now c.opener-opener.result c.args.files.now asked.run.names.items c.over-run.ensures.opener (c.opener-opener.ensures.files ∙ named.files) (c.opener-opener.ensures.names ∙ named.names))
-    (c.over-run.ensures.files ∙ named.count)
+    (c.run_with-run.ensures.choice ∙ named.choice)
+    (opened_as known run.opener.now c.opener-opener.result c.args.files.now asked.run.names.items c.run_with-run.ensures.opener (c.opener-opener.ensures.files ∙ named.files) (c.opener-opener.ensures.names ∙ named.names))
+    (c.run_with-run.ensures.files ∙ named.count)
     (laid_out run.choice (meanings_in (known run.opener.now.files.now) run.opener.now.names.now) form run.files old (g.S.Sink.taken out) (g.S.Sink.failed out) status
     c.in_ok-status.ensures.written c.in_ok-status.ensures.stands c.in_ok-status.ensures.status)
 
@@ -33,15 +33,15 @@ returns-in_err-status-clause-begun g c =
     let asked = c.args.asked.now in
     let known = g.N.NamedFiles.meaning in
     let files = known c.args.files.now in
-    let run = c.over-run.result in
+    let run = c.run_with-run.result in
     let named = c.in_ok-named.ensures in
     let old = g.S.Sink.taken c.args.out.now in
     on_err c.from_residual-in_err-status.result (inr (
     as_asked (λ choice meaning count. ∥ IsBegun choice meaning asked.style.form count old (g.S.Sink.taken c.write_text-outcome.new.sink) ∥₁)
     run.choice asked.run.choice (meanings_in (known run.opener.now.files.now) run.opener.now.names.now) (meanings_in files asked.run.names.items) run.files (vec_len asked.run.names)
-    (c.over-run.ensures.choice ∙ named.choice)
-    (opened_as known run.opener.now c.opener-opener.result c.args.files.now asked.run.names.items c.over-run.ensures.opener (c.opener-opener.ensures.files ∙ named.files) (c.opener-opener.ensures.names ∙ named.names))
-    (c.over-run.ensures.files ∙ named.count) c.in_err-status.ensures.begun))
+    (c.run_with-run.ensures.choice ∙ named.choice)
+    (opened_as known run.opener.now c.opener-opener.result c.args.files.now asked.run.names.items c.run_with-run.ensures.opener (c.opener-opener.ensures.files ∙ named.files) (c.opener-opener.ensures.names ∙ named.names))
+    (c.run_with-run.ensures.files ∙ named.count) c.in_err-status.ensures.begun))
 
 pub returns-in_err-status-clause-too_many : goal.returns-in_err-status-clause-too_many
 returns-in_err-status-clause-too_many g c =

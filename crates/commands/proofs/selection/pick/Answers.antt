@@ -15,7 +15,7 @@ returns-clause-written g c =
     let asked = c.args.asked.now in
     let known = g.N.NamedFiles.meaning in
     let files = known c.args.files.now in
-    let run = c.over-run.result in
+    let run = c.run_with-run.result in
     let named = c.in_ok-named.ensures in
     let old = g.S.Sink.taken c.args.out.now in
     let out = c.pick_files-outcome.new.sink in
@@ -27,9 +27,9 @@ returns-clause-written g c =
     (sym c.as_slice-flaws.ensures.value)
     (as_asked (λ choice meaning count. IsAllPicked asked.selection choice meaning count old (g.S.Sink.taken out) c.in_ok-flaws.flaws.items)
     run.choice asked.run.choice (meanings_in (known run.opener.now.files.now) run.opener.now.names.now) (meanings_in files asked.run.names.items) run.files (vec_len asked.run.names)
-    (c.over-run.ensures.choice ∙ named.choice)
-    (opened_as known run.opener.now c.opener-opener.result c.args.files.now asked.run.names.items c.over-run.ensures.opener (c.opener-opener.ensures.files ∙ named.files) (c.opener-opener.ensures.names ∙ named.names))
-    (c.over-run.ensures.files ∙ named.count) c.in_ok-flaws.ensures.written))
+    (c.run_with-run.ensures.choice ∙ named.choice)
+    (opened_as known run.opener.now c.opener-opener.result c.args.files.now asked.run.names.items c.run_with-run.ensures.opener (c.opener-opener.ensures.files ∙ named.files) (c.opener-opener.ensures.names ∙ named.names))
+    (c.run_with-run.ensures.files ∙ named.count) c.in_ok-flaws.ensures.written))
     (subst (λ (ns : List (Bor (List ℕ))). TellsFlaws err ns flaws) c.in_ok-named.ensures.names c.write_flaws.ensures)
 
 pub returns-in_err-flaws-clause-begun : goal.returns-in_err-flaws-clause-begun
@@ -37,15 +37,15 @@ returns-in_err-flaws-clause-begun g c =
     let asked = c.args.asked.now in
     let known = g.N.NamedFiles.meaning in
     let files = known c.args.files.now in
-    let run = c.over-run.result in
+    let run = c.run_with-run.result in
     let named = c.in_ok-named.ensures in
     let old = g.S.Sink.taken c.args.out.now in
     on_err c.from_residual-in_err-flaws.result (inr (
     as_asked (λ choice meaning count. ∥ IsPickBegun asked.selection choice meaning count old (g.S.Sink.taken c.pick_files-outcome.new.sink) ∥₁)
     run.choice asked.run.choice (meanings_in (known run.opener.now.files.now) run.opener.now.names.now) (meanings_in files asked.run.names.items) run.files (vec_len asked.run.names)
-    (c.over-run.ensures.choice ∙ named.choice)
-    (opened_as known run.opener.now c.opener-opener.result c.args.files.now asked.run.names.items c.over-run.ensures.opener (c.opener-opener.ensures.files ∙ named.files) (c.opener-opener.ensures.names ∙ named.names))
-    (c.over-run.ensures.files ∙ named.count) c.in_err-flaws.ensures.begun))
+    (c.run_with-run.ensures.choice ∙ named.choice)
+    (opened_as known run.opener.now c.opener-opener.result c.args.files.now asked.run.names.items c.run_with-run.ensures.opener (c.opener-opener.ensures.files ∙ named.files) (c.opener-opener.ensures.names ∙ named.names))
+    (c.run_with-run.ensures.files ∙ named.count) c.in_err-flaws.ensures.begun))
 
 pub returns-in_err-flaws-clause-too_many : goal.returns-in_err-flaws-clause-too_many
 returns-in_err-flaws-clause-too_many g c = λ shown.

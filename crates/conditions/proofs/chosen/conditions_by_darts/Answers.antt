@@ -8,8 +8,8 @@ use Rattle.conditions.proofs.chosen.conditions_by_darts.Goals as goal
 pub returns-then-not-are_angles-clause-fault : goal.returns-then-not-are_angles-clause-fault
 returns-then-not-are_angles-clause-fault c = λ _ all. both_ways c.are_angles.result c.if-not-are_angles.true (c.are_angles.ensures.1 all)
 
-pub returns-then-not-are_darts-clause-fault : goal.returns-then-not-are_darts-clause-fault
-returns-then-not-are_darts-clause-fault c = λ _. (c.are_angles.ensures.0 c.if-not-are_angles.false, λ all. both_ways c.are_darts.result c.if-not-are_darts.true (c.are_darts.ensures.1 all))
+pub returns-then-not-are_all_adjacent-clause-fault : goal.returns-then-not-are_all_adjacent-clause-fault
+returns-then-not-are_all_adjacent-clause-fault c = λ _. (c.are_angles.ensures.0 c.if-not-are_angles.false, λ all. both_ways c.are_all_adjacent.result c.if-not-are_all_adjacent.true (c.are_all_adjacent.ensures.1 all))
 
 pub returns-then-not-can_be-clause-fault : goal.returns-then-not-can_be-clause-fault
 returns-then-not-can_be-clause-fault c = λ _.
@@ -20,7 +20,7 @@ returns-then-not-can_be-clause-fault c = λ _.
     let are = c.in_ok-angles.ensures.angles in
     let alongs = c.in_ok-turns.ensures.turns in
     let range = c.are_angles.ensures.0 c.if-not-are_angles.false in
-    let named = c.are_darts.ensures.0 c.if-not-are_darts.false in
+    let named = c.are_all_adjacent.ensures.0 c.if-not-are_all_adjacent.false in
     let for_these = given_for p conditions angles turns c.graph-graph.ensures.ends are alongs in
     record {
       angles_are = range;
@@ -41,7 +41,7 @@ returns-in-Some-clause-asked c =
     let are = c.in_ok-angles.ensures.angles in
     let alongs = c.in_ok-turns.ensures.turns in
     let range = c.are_angles.ensures.0 c.if-not-are_angles.false in
-    let named = c.are_darts.ensures.0 c.if-not-are_darts.false in
+    let named = c.are_all_adjacent.ensures.0 c.if-not-are_all_adjacent.false in
     let for_these = given_for p conditions angles turns c.graph-graph.ensures.ends are alongs in
     let can : CanBeGiven angles turns = can_alike c.deref.result.now angles c.deref-2.result.now turns c.deref.ensures.value c.deref-2.ensures.value (c.can_be.ensures.0 c.if-not-can_be.false) in
     record {
@@ -61,7 +61,7 @@ returns-in-None-clause-fault c = λ _.
     let are = c.in_ok-angles.ensures.angles in
     let alongs = c.in_ok-turns.ensures.turns in
     let range = c.are_angles.ensures.0 c.if-not-are_angles.false in
-    let named = c.are_darts.ensures.0 c.if-not-are_darts.false in
+    let named = c.are_all_adjacent.ensures.0 c.if-not-are_all_adjacent.false in
     let for_these = given_for p conditions angles turns c.graph-graph.ensures.ends are alongs in
     let can : CanBeGiven angles turns = can_alike c.deref.result.now angles c.deref-2.result.now turns c.deref.ensures.value c.deref-2.ensures.value (c.can_be.ensures.0 c.if-not-can_be.false) in
     record {

@@ -3,11 +3,11 @@ use Rattle.std.proofs.lemmas.Bool.{both_ways}
 use Rattle.embedding.specs.Darts.{dart_count}
 use Rattle.conditions.proofs.conditions.dart_of.Goals as goal
 
-pub returns-then-is_named-clause-named : goal.returns-then-is_named-clause-named
-returns-then-is_named-clause-named c = c.is_named.ensures.0 c.if-is_named.true
+pub returns-then-has_ends-clause-named : goal.returns-then-has_ends-clause-named
+returns-then-has_ends-clause-named c = c.has_ends.ensures.0 c.if-has_ends.true
 
 pub loop-dart-preserved : goal.loop-dart-preserved
-loop-dart-preserved c = below_more _ _ c.loop-dart.invariant (λ named. both_ways c.is_named.result c.if-is_named.false (c.is_named.ensures.1 named))
+loop-dart-preserved c = below_more _ _ c.loop-dart.invariant (λ named. both_ways c.has_ends.result c.if-has_ends.false (c.has_ends.ensures.1 named))
 
 pub unreachable-requires : goal.unreachable-requires
 unreachable-requires c =

@@ -3,9 +3,9 @@ use Rattle.std.proofs.lemmas.Bool.{both_ways}
 use Rattle.embedding.specs.Darts.{dart_count}
 use Rattle.conditions.proofs.conditions.is_dart.Goals as goal
 
-pub returns-then-is_named : goal.returns-then-is_named
-returns-then-is_named c =
-    let named = c.is_named.ensures.0 c.if-is_named.true in (
+pub returns-then-has_ends : goal.returns-then-has_ends
+returns-then-has_ends c =
+    let named = c.has_ends.ensures.0 c.if-has_ends.true in (
       λ _. record {
         dart = c.loop-dart.dart;
         inside = omega (arith, c.loop-dart-test.true, c.darts-dart-end.ensures.count, ap dart_count c.graph.ensures.value);
@@ -16,7 +16,7 @@ returns-then-is_named c =
     )
 
 pub loop-dart-preserved : goal.loop-dart-preserved
-loop-dart-preserved c = below_more _ _ c.loop-dart.invariant (λ named. both_ways c.is_named.result c.if-is_named.false (c.is_named.ensures.1 named))
+loop-dart-preserved c = below_more _ _ c.loop-dart.invariant (λ named. both_ways c.has_ends.result c.if-has_ends.false (c.has_ends.ensures.1 named))
 
 pub returns : goal.returns
 returns c = (

@@ -22,7 +22,7 @@ loop-dart-preserved c =
     let here : c.from.result ≡ face_at p dart = c.from.ensures ∙ c.face_of-face.ensures.value in
     record {
       size = search arith;
-      so_far = marked_next (face_at p) (IsAmong p c.args.list.now) p.faces dart c.from.result c.loop-dart.barred c.mark.new.marks c.is_among.result c.mark.ensures c.is_among.ensures here (omega (arith, c.from.ensures, c.face_of-face.ensures.named)) c.loop-dart.invariant.size c.loop-dart.invariant.so_far;
+      so_far = marked_next (face_at p) (IsAmong p c.args.list.now) p.faces dart c.from.result c.loop-dart.barred c.mark_if.new.marks c.is_among.result c.mark_if.ensures c.is_among.ensures here (omega (arith, c.from.ensures, c.face_of-face.ensures.named)) c.loop-dart.invariant.size c.loop-dart.invariant.so_far;
     }
 
 pub returns : goal.returns

@@ -35,11 +35,11 @@ corners-init c =
     let m = c.peak-start.result in
     let below : Below t.darts face = below_left t.darts face (concatenated c.requires.waiting.1) c.requires.waiting.2.below in
     let turned : Below t.darts (drop m face ++ take m face) = below_turned t.darts m face below in
-    reading_begins (dart_map_of t) face (room t) m c.start_at.new.ring c.requires.sound c.requires.waiting.0 c.requires.waiting.1 c.requires.waiting.2
+    reading_begins (dart_map_of t) face (room t) m c.rotate_to.new.ring c.requires.sound c.requires.waiting.0 c.requires.waiting.1 c.requires.waiting.2
     c.requires.space
     (subst (λ (A : List ℕ). IsPeak (map (λ (a : ℕ). get_or A a 0) face) m) c.as_slice.ensures.value c.peak-start.ensures)
-    c.start_at.ensures.after
-    (subst (λ (xs : List ℕ). All (λ a. a < room t) xs) (sym c.start_at.ensures.after)
+    c.rotate_to.ensures.after
+    (subst (λ (xs : List ℕ). All (λ a. a < room t) xs) (sym c.rotate_to.ensures.after)
     (all_below t.darts (room t) (drop m face ++ take m face) (omega arith) turned))
 
 pub read_corner-height-requires-clause-reading : goal.read_corner-height-requires-clause-reading

@@ -7,7 +7,7 @@ pub returns-clause-in_grid : goal.returns-clause-in_grid
 returns-clause-in_grid c = (λ _. none_all IsInGrid c.args.route.now.corners.now c.requires, λ _. refl)
 
 pub returns-clause-on_axes : goal.returns-clause-on_axes
-returns-clause-on_axes c = axes_straight c.args.route.now c.requires c.is_axis.result c.is_axis.ensures
+returns-clause-on_axes c = axes_straight c.args.route.now c.requires c.is_axial.result c.is_axial.ensures
 
 pub returns-clause-turning : goal.returns-clause-turning
 returns-clause-turning c = turning_straight c.args.route.now c.requires c.args.turns.now c.is_empty.result c.is_empty.ensures

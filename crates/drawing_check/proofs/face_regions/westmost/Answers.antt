@@ -5,7 +5,7 @@ use Rattle.ortho_rep.specs.Edges.{is_lesser}
 use Rattle.ortho_rep.proofs.EdgeNumbers.{edge_number-le}
 use Rattle.drawing_check.proofs.Leaving.{number_of_lesser, number_of_greater}
 use Rattle.drawing_check.specs.declared.face_regions.Upright.{Upright}
-use Rattle.drawing_check.specs.Westmost.{with_edge}
+use Rattle.drawing_check.specs.Westmost.{west_with_edge}
 use Rattle.drawing_check.proofs.WestParts.{westmost_more, westmost_kept}
 use Rattle.drawing_check.proofs.face_regions.westmost.Goals as goal
 use Rattle.drawing_check.proofs.face_regions.westmost.Goals.{then-dart-reverse, else-dart-reverse}
@@ -25,7 +25,7 @@ loop-dart-preserved c =
           let lesser : is_lesser p dart ≡ true = lt-ltb dart (reverse_dart p dart) (omega (arith, reverse_dart_is, w.if-dart-reverse.true)) in
           record {
             number = omega (arith, w.edge-is, number_of_lesser p dart lesser, before.number);
-            so_far = w.west-is ∙ w.with_edge-west.ensures ∙ ap (λ (o : Option Upright). with_edge p points o dart) before.so_far ∙ sym (westmost_more p points dart lesser);
+            so_far = w.west-is ∙ w.west_with_edge-west.ensures ∙ ap (λ (o : Option Upright). west_with_edge p points o dart) before.so_far ∙ sym (westmost_more p points dart lesser);
           }
       | else-dart-reverse w ↦
           let greater : is_lesser p dart ≡ false = le-ltb dart (reverse_dart p dart) (omega (arith, reverse_dart_is, w.if-dart-reverse.false)) in

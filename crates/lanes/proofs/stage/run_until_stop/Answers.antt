@@ -22,11 +22,11 @@ loop-preserved-in-Continue-branch-4 g c =
     let about = g.A.Numbered.about in
     record {
       from_same = c.take.ensures.link ∙ c.loop.invariant.from_same;
-      stays = g.met.O.Outlet.stays_on _ _ _ c.loop.invariant.stays c.pass_on.ensures.stays;
-      same = passed_on about _ _ (g.O.Outlet.told c.loop.to) (g.O.Outlet.told c.pass_on.new.to) _ (notes_of_items about c.in-Items.batch.items.items)
-          c.loop.invariant.same c.in_ok-item.ensures.ok c.in_ok-pass_on-in-Items.ensures.told (ap (notes_of about) (sym c.in-Items.is));
-      none = c.in_ok-pass_on-in-Items.ensures.none;
-      going = c.pass_on.ensures.going c.loop.invariant.going;
+      stays = g.met.O.Outlet.stays_on _ _ _ c.loop.invariant.stays c.work_on_batch.ensures.stays;
+      same = passed_on about _ _ (g.O.Outlet.told c.loop.to) (g.O.Outlet.told c.work_on_batch.new.to) _ (notes_of_items about c.in-Items.batch.items.items)
+          c.loop.invariant.same c.in_ok-item.ensures.ok c.in_ok-work_on_batch-in-Items.ensures.told (ap (notes_of about) (sym c.in-Items.is));
+      none = c.in_ok-work_on_batch-in-Items.ensures.none;
+      going = c.work_on_batch.ensures.going c.loop.invariant.going;
     }
 
 pub loop-preserved : goal.loop-preserved
@@ -44,8 +44,8 @@ loop-preserved g c =
 pub returns-in_err-tell-in-Item-clause-stays : goal.returns-in_err-tell-in-Item-clause-stays
 returns-in_err-tell-in-Item-clause-stays g c = g.met.O.Outlet.stays_on _ _ _ c.loop.invariant.stays c.tell.ensures.stays
 
-pub returns-in_err-pass_on-in-Items-clause-stays : goal.returns-in_err-pass_on-in-Items-clause-stays
-returns-in_err-pass_on-in-Items-clause-stays g c = g.met.O.Outlet.stays_on _ _ _ c.loop.invariant.stays c.pass_on.ensures.stays
+pub returns-in_err-work_on_batch-in-Items-clause-stays : goal.returns-in_err-work_on_batch-in-Items-clause-stays
+returns-in_err-work_on_batch-in-Items-clause-stays g c = g.met.O.Outlet.stays_on _ _ _ c.loop.invariant.stays c.work_on_batch.ensures.stays
 
 pub returns-in_err-tell-in-End-clause-stays : goal.returns-in_err-tell-in-End-clause-stays
 returns-in_err-tell-in-End-clause-stays g c = g.met.O.Outlet.stays_on _ _ _ c.loop.invariant.stays c.tell-in-End.ensures.stays

@@ -13,5 +13,5 @@ returns c =
     let near = c.args.near.now in
     let outer = face_at p c.args.dart in
     let here : slice_index far outer ≡ 0 = omega (arith, c.if-far-outer-gt0.false, ap (λ (z : ℕ). slice_index far z) (c.from-outer.ensures ∙ c.face_of.ensures.value)) in
-    subst (λ (n : ℕ). NeedsBends (with_outer p outer) n) (sym c.excess.ensures)
+    subst (λ (n : ℕ). NeedsBends (with_outer p outer) n) (sym c.bends_by_distances.ensures)
     (needs_distances (with_outer p outer) far near (ends_turned p outer c.graph-graph.ensures.ends) here c.requires.none (c.are_smooth.ensures c.if-not-are_smooth.false) c.requires.nearest)

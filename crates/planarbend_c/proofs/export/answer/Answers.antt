@@ -19,7 +19,7 @@ returns-in_default-drawing_of-clause-outcome c =
     record { plain = λ _. inl (inr unknown); keeping = λ _. inl (inr unknown) }
 
 pub tell-requires : goal.tell-requires
-tell-requires c = c.in-Ok.ensures.found.drawn
+write_layout-requires c = c.in-Ok.ensures.found.drawn
 
 pub returns-in-Ok-clause-outcome : goal.returns-in-Ok-clause-outcome
 returns-in-Ok-clause-outcome c =
@@ -27,11 +27,11 @@ returns-in-Ok-clause-outcome c =
     let found = c.in-Ok.ensures in
     record {
       plain = λ none.
-          told IsFound (λ _. ⊥) (input_of c.args.request.now.source) c.args.request.now.outer c.args.request.now.drawing (finding_of layout) c.tell.new.counts (contents c.tell.new.lists) c.tell.result
+          told IsFound (λ _. ⊥) (input_of c.args.request.now.source) c.args.request.now.outer c.args.request.now.drawing (finding_of layout) c.write_layout.new.counts (contents c.write_layout.new.lists) c.write_layout.result
           (answer_of IsFound (input_of c.args.request.now.source) c.args.request.now.outer c.args.request.now.drawing c.in-Some.choice c.in-Some-drawing_of.kind (finding_of layout)
           (sym c.choice_of.ensures ∙ c.in-Some.is) (sym c.drawing_of.ensures ∙ c.in-Some-drawing_of.is) found.is_record found.found
           found.asked)
-          c.tell.ensures.told;
+          c.write_layout.ensures.told;
       keeping = λ some. absurd (some (c.asks_nothing.ensures.0 c.if-asks_nothing.true));
     }
 
@@ -43,10 +43,10 @@ returns-in-Err-clause-outcome c = record {
 
 pub returns-in-Ok-clause-undrawn : goal.returns-in-Ok-clause-undrawn
 returns-in-Ok-clause-undrawn c none =
-    c.tell.ensures.undrawn (not_drawn c.args.request.now.drawing c.in-Some-drawing_of.kind (finding_of c.in-Ok.layout) (sym c.drawing_of.ensures ∙ c.in-Some-drawing_of.is) c.in-Ok.ensures.asked none)
+    c.write_layout.ensures.undrawn (not_drawn c.args.request.now.drawing c.in-Some-drawing_of.kind (finding_of c.in-Ok.layout) (sym c.drawing_of.ensures ∙ c.in-Some-drawing_of.is) c.in-Ok.ensures.asked none)
 
 pub tell-requires-in-Ok-lay_out_keeping : goal.tell-requires-in-Ok-lay_out_keeping
-tell-requires-in-Ok-lay_out_keeping c = c.in-Ok-lay_out_keeping.ensures.found.drawn
+write_layout-requires-in-Ok-lay_out_keeping c = c.in-Ok-lay_out_keeping.ensures.found.drawn
 
 pub returns-in-Ok-lay_out_keeping-clause-outcome : goal.returns-in-Ok-lay_out_keeping-clause-outcome
 returns-in-Ok-lay_out_keeping-clause-outcome c =
@@ -56,11 +56,11 @@ returns-in-Ok-lay_out_keeping-clause-outcome c =
     record {
       plain = λ none. absurd (both_ways c.asks_nothing.result c.if-asks_nothing.false (c.asks_nothing.ensures.1 none));
       keeping = λ some.
-          told (IsFoundKeeping request.conditions) (IsUnlaid request (cut_contents c.lay_out_keeping.new.cut)) (input_of request.source) request.outer request.drawing (finding_of layout) c.tell-in-Ok-lay_out_keeping.new.counts (contents c.tell-in-Ok-lay_out_keeping.new.lists) c.tell-in-Ok-lay_out_keeping.result
+          told (IsFoundKeeping request.conditions) (IsUnlaid request (cut_contents c.lay_out_keeping.new.cut)) (input_of request.source) request.outer request.drawing (finding_of layout) c.write_layout-in-Ok-lay_out_keeping.new.counts (contents c.write_layout-in-Ok-lay_out_keeping.new.lists) c.write_layout-in-Ok-lay_out_keeping.result
           (answer_of (IsFoundKeeping request.conditions) (input_of request.source) request.outer request.drawing c.in-Some.choice c.in-Some-drawing_of.kind (finding_of layout)
           (sym c.choice_of.ensures ∙ c.in-Some.is) (sym c.drawing_of.ensures ∙ c.in-Some-drawing_of.is) found.is_record found.found
           found.asked)
-          c.tell-in-Ok-lay_out_keeping.ensures.told;
+          c.write_layout-in-Ok-lay_out_keeping.ensures.told;
     }
 
 pub returns-in-Err-lay_out_keeping-clause-outcome : goal.returns-in-Err-lay_out_keeping-clause-outcome
@@ -73,4 +73,4 @@ returns-in-Err-lay_out_keeping-clause-outcome c = record {
 
 pub returns-in-Ok-lay_out_keeping-clause-undrawn : goal.returns-in-Ok-lay_out_keeping-clause-undrawn
 returns-in-Ok-lay_out_keeping-clause-undrawn c none =
-    c.tell-in-Ok-lay_out_keeping.ensures.undrawn (not_drawn c.args.request.now.drawing c.in-Some-drawing_of.kind (finding_of c.in-Ok-lay_out_keeping.layout) (sym c.drawing_of.ensures ∙ c.in-Some-drawing_of.is) c.in-Ok-lay_out_keeping.ensures.asked none)
+    c.write_layout-in-Ok-lay_out_keeping.ensures.undrawn (not_drawn c.args.request.now.drawing c.in-Some-drawing_of.kind (finding_of c.in-Ok-lay_out_keeping.layout) (sym c.drawing_of.ensures ∙ c.in-Some-drawing_of.is) c.in-Ok-lay_out_keeping.ensures.asked none)

@@ -8,7 +8,7 @@ use Rattle.planarbend_c.specs.Requests.{shape_kind}
 use Rattle.planarbend_c.proofs.layout.laid_keeping.Goals as goal
 
 pub returns-in-Ok-Err-clause-fault : goal.returns-in-Ok-Err-clause-fault
-returns-in-Ok-Err-clause-fault c = c.unkept.ensures.told c.args.conditions.now c.args.choice (parsed_lists c.args.rec.now) (subst (λ made. IfErr made (IsUnkept c.args.conditions.now c.args.choice (parsed_lists c.args.rec.now))) c.in-Ok-Err.field-0-is c.in-Ok-Err.ensures.unkept)
+returns-in-Ok-Err-clause-fault c = c.outcome_of_keep_fault.ensures.told c.args.conditions.now c.args.choice (parsed_lists c.args.rec.now) (subst (λ made. IfErr made (IsUnkept c.args.conditions.now c.args.choice (parsed_lists c.args.rec.now))) c.in-Ok-Err.field-0-is c.in-Ok-Err.ensures.unkept)
 
 pub returns-in-Err-Wide-clause-fault : goal.returns-in-Err-Wide-clause-fault
 returns-in-Err-Wide-clause-fault c =

@@ -15,11 +15,11 @@ returns-clause-inside c =
     let corners : List (List Point) = c.args.points.now.corners in
     λ k d lt. subst (All IsInGrid) (get_or_default corners k [] d lt) (c.loop-edge.invariant k (omega (arith, lt, ap dart_count c.graph.ensures.value)))
 
-pub returns-in_err-check_edge-clause-first : goal.returns-in_err-check_edge-clause-first
-returns-in_err-check_edge-clause-first c =
+pub returns-in_err-check_edge_corners-clause-first : goal.returns-in_err-check_edge_corners-clause-first
+returns-in_err-check_edge_corners-clause-first c =
     let points = c.args.points.now in
     let edge = c.loop-edge.edge in
     let q = err_from_is_err_and c.from_residual.result c.from_residual.ensures.1 in
     rw q.1 (subst (λ (fault : Fault). All IsInGrid points.vertices → IsFirstFailure c.args.plane.now points fault) (sym q.2)
     (first_outside c.args.plane.now points edge _ c.requires c.loop-edge.invariant
-    (subst (λ (cs : List Point). IsCornerFault cs edge c.in_err-check_edge.field-0.0) c.corners.ensures c.in_err-check_edge.ensures.first)))
+    (subst (λ (cs : List Point). IsCornerFault cs edge c.in_err-check_edge_corners.field-0.0) c.corners.ensures c.in_err-check_edge_corners.ensures.first)))

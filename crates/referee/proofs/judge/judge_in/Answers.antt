@@ -21,9 +21,9 @@ returns-in_err-check_axes-clause-refused c = let p = err_from_is_err_and c.from_
 pub returns-in_err-shape-clause-refused : goal.returns-in_err-shape-clause-refused
 returns-in_err-shape-clause-refused c = let p = err_from_is_err_and c.from_residual-in_err-shape.result c.from_residual-in_err-shape.ensures.1 in rw p.1 (λ some. none_by_turns c.args.plane.now c.args.points (c.in_err-shape.ensures.refused (λ m. some (p.2 ∙ m))))
 
-pub returns-in_err-check_embedding-clause-refused : goal.returns-in_err-check_embedding-clause-refused
-returns-in_err-check_embedding-clause-refused c = let p = err_from_is_err_and c.from_residual-in_err-check_embedding.result c.from_residual-in_err-check_embedding.ensures.1 in rw p.1 (λ _.
-    none_by_disorder c.args.plane.now c.args.points c.in_ok-shape.shape _ c.graph-graph.ensures.ends c.in_ok-shape.ensures.taken c.in_err-check_embedding.ensures.first)
+pub returns-in_err-check_angle_sums-clause-refused : goal.returns-in_err-check_angle_sums-clause-refused
+returns-in_err-check_angle_sums-clause-refused c = let p = err_from_is_err_and c.from_residual-in_err-check_angle_sums.result c.from_residual-in_err-check_angle_sums.ensures.1 in rw p.1 (λ _.
+    none_by_disorder c.args.plane.now c.args.points c.in_ok-shape.shape _ c.graph-graph.ensures.ends c.in_ok-shape.ensures.taken c.in_err-check_angle_sums.ensures.first)
 
 pub returns-in_err-outer-clause-refused : goal.returns-in_err-outer-clause-refused
 returns-in_err-outer-clause-refused c = let p = err_from_is_err_and c.from_residual-in_err-outer.result c.from_residual-in_err-outer.ensures.1 in rw p.1 (λ _.
@@ -36,7 +36,7 @@ returns-then-not-is_shape-clause-refused c = λ _.
 
 pub returns-in-Err-clause-refused : goal.returns-in-Err-clause-refused
 returns-in-Err-clause-refused c = λ some.
-    none_by_fault c.args.plane.now c.in_ok-outer.outer c.args.points c.in_ok-shape.shape c.in-Err.fault c.in_ok-shape.ensures.taken (c.meeting.ensures.real some)
+    none_by_fault c.args.plane.now c.in_ok-outer.outer c.args.points c.in_ok-shape.shape c.in-Err.fault c.in_ok-shape.ensures.taken (c.fault_of_check.ensures.real some)
     (subst (λ (q : PlaneModel). IsFirstFault q c.in_ok-shape.shape c.args.points c.in-Err.fault) c.set_outer.ensures c.in-Err.ensures.refused.fault)
 
 pub returns-in_err-check_counts-clause-first : goal.returns-in_err-check_counts-clause-first
@@ -59,20 +59,20 @@ returns-in_err-shape-clause-first c =
     let q = err_from_is_err_and c.from_residual-in_err-shape.result c.from_residual-in_err-shape.ensures.1 in
     rw q.1 (λ some. subst (IsFirstFailure c.args.plane.now c.args.points) (sym q.2) (c.in_err-shape.ensures.first (λ m. some (q.2 ∙ m)) (lines_of c.in_ok-check_counts.ensures.whole c.in_ok-check_grid.ensures.inside c.in_ok-check_axes.ensures.on_axes)))
 
-pub returns-in_err-check_embedding-clause-first : goal.returns-in_err-check_embedding-clause-first
-returns-in_err-check_embedding-clause-first c =
-    let q = err_from_is_err_and c.from_residual-in_err-check_embedding.result c.from_residual-in_err-check_embedding.ensures.1 in
-    rw q.1 (λ some. subst (IsFirstFailure c.args.plane.now c.args.points) (sym q.2) (first_disorder c.args.plane.now c.args.points c.in_ok-shape.shape _ (lines_of c.in_ok-check_counts.ensures.whole c.in_ok-check_grid.ensures.inside c.in_ok-check_axes.ensures.on_axes) c.in_ok-shape.ensures.taken c.in_err-check_embedding.ensures.first))
+pub returns-in_err-check_angle_sums-clause-first : goal.returns-in_err-check_angle_sums-clause-first
+returns-in_err-check_angle_sums-clause-first c =
+    let q = err_from_is_err_and c.from_residual-in_err-check_angle_sums.result c.from_residual-in_err-check_angle_sums.ensures.1 in
+    rw q.1 (λ some. subst (IsFirstFailure c.args.plane.now c.args.points) (sym q.2) (first_disorder c.args.plane.now c.args.points c.in_ok-shape.shape _ (lines_of c.in_ok-check_counts.ensures.whole c.in_ok-check_grid.ensures.inside c.in_ok-check_axes.ensures.on_axes) c.in_ok-shape.ensures.taken c.in_err-check_angle_sums.ensures.first))
 
 pub returns-in_err-outer-clause-first : goal.returns-in_err-outer-clause-first
 returns-in_err-outer-clause-first c =
     let q = err_from_is_err_and c.from_residual-in_err-outer.result c.from_residual-in_err-outer.ensures.1 in
-    rw q.1 (λ some. subst (IsFirstFailure c.args.plane.now c.args.points) (sym q.2) (first_no_outer c.args.plane.now c.args.points c.in_ok-shape.shape _ (lines_of c.in_ok-check_counts.ensures.whole c.in_ok-check_grid.ensures.inside c.in_ok-check_axes.ensures.on_axes) c.in_ok-shape.ensures.taken c.in_ok-check_embedding.ensures.ordered c.in_err-outer.ensures.kind c.in_err-outer.ensures.none))
+    rw q.1 (λ some. subst (IsFirstFailure c.args.plane.now c.args.points) (sym q.2) (first_no_outer c.args.plane.now c.args.points c.in_ok-shape.shape _ (lines_of c.in_ok-check_counts.ensures.whole c.in_ok-check_grid.ensures.inside c.in_ok-check_axes.ensures.on_axes) c.in_ok-shape.ensures.taken c.in_ok-check_angle_sums.ensures.ordered c.in_err-outer.ensures.kind c.in_err-outer.ensures.none))
 
 pub returns-then-not-is_shape-clause-first : goal.returns-then-not-is_shape-clause-first
 returns-then-not-is_shape-clause-first c = λ some.
     no_outer_but c.args.plane.now c.args.points c.in_ok-shape.shape c.in_ok-outer.outer (lines_of c.in_ok-check_counts.ensures.whole c.in_ok-check_grid.ensures.inside c.in_ok-check_axes.ensures.on_axes)
-    c.in_ok-shape.ensures.taken c.in_ok-check_embedding.ensures.ordered c.in_ok-outer.ensures.named c.in_ok-outer.ensures.turns
+    c.in_ok-shape.ensures.taken c.in_ok-check_angle_sums.ensures.ordered c.in_ok-outer.ensures.named c.in_ok-outer.ensures.turns
     (λ is. iff_false c.is_shape.ensures c.if-not-is_shape.true (subst (λ (q : PlaneModel). IsShape q c.in_ok-shape.shape) (sym c.set_outer.ensures) is))
 
 pub returns-in-Err-clause-first : goal.returns-in-Err-clause-first
@@ -81,7 +81,7 @@ returns-in-Err-clause-first c = λ some.
     let shape = c.in_ok-shape.shape in
     let outer = c.in_ok-outer.outer in
     let is = subst (λ (q : PlaneModel). IsShape q shape) c.set_outer.ensures (c.is_shape.ensures.0 c.if-not-is_shape.false) in
-    subst (IsFirstFailure p c.args.points) (sym (c.meeting.ensures.kind some))
+    subst (IsFirstFailure p c.args.points) (sym (c.fault_of_check.ensures.kind some))
     (meets_by_fault p outer c.args.points shape c.in-Err.fault (lines_of c.in_ok-check_counts.ensures.whole c.in_ok-check_grid.ensures.inside c.in_ok-check_axes.ensures.on_axes)
-    c.in_ok-shape.ensures.taken c.in_ok-outer.ensures.named is (c.meeting.ensures.real some)
+    c.in_ok-shape.ensures.taken c.in_ok-outer.ensures.named is (c.fault_of_check.ensures.real some)
     (subst (λ (q : PlaneModel). IsFirstFault q shape c.args.points c.in-Err.fault) c.set_outer.ensures c.in-Err.ensures.refused.fault))

@@ -22,15 +22,15 @@ returns c =
     let last : List ℕ = 125 ∷ 10 ∷ [] in
     let rest : List ℕ = (34 ∷ 44 ∷ file) ++ ((44 ∷ graphs) ++ last) in
     let start = c.in_ok-out.out.items in
-    let end = c.bytes-3.new.out.items in
+    let end = c.put_bytes-3.new.out.items in
     let none : start ≡ [] = search rules in
     let named : c.as_bytes.result.now ≡ word = c.as_bytes.ensures.value ∙ c.mark_word.ensures.word in
-    let worded : c.bytes-2.new.out.items ≡ c.bytes.new.out.items ++ word = rw named at c.in_ok-bytes-2.ensures in
-    let filed : c.natural_at.new.out.items ≡ c.bytes-2.new.out.items ++ 34 ∷ 44 ∷ file = rw c.from.ensures at c.in_ok-natural_at.ensures in
+    let worded : c.put_bytes-2.new.out.items ≡ c.put_bytes.new.out.items ++ word = rw named at c.in_ok-put_bytes-2.ensures in
+    let filed : c.put_number.new.out.items ≡ c.put_bytes-2.new.out.items ++ 34 ∷ 44 ∷ file = rw c.from.ensures at c.in_ok-put_number.ensures in
     let whole : end ≡ start ++ ((123 ∷ key) ++ (word ++ rest)) =
-    then start c.bytes.new.out.items end (123 ∷ key) (word ++ rest) c.in_ok-bytes.ensures
-    (then c.bytes.new.out.items c.bytes-2.new.out.items end word rest worded
-    (then c.bytes-2.new.out.items c.natural_at.new.out.items end (34 ∷ 44 ∷ file) ((44 ∷ graphs) ++ last) filed
-    (then c.natural_at.new.out.items c.natural_at-2.new.out.items end (44 ∷ graphs) last c.in_ok-natural_at-2.ensures c.in_ok-bytes-3.ensures))) in
+    then start c.put_bytes.new.out.items end (123 ∷ key) (word ++ rest) c.in_ok-put_bytes.ensures
+    (then c.put_bytes.new.out.items c.put_bytes-2.new.out.items end word rest worded
+    (then c.put_bytes-2.new.out.items c.put_number.new.out.items end (34 ∷ 44 ∷ file) ((44 ∷ graphs) ++ last) filed
+    (then c.put_number.new.out.items c.put_number-2.new.out.items end (44 ∷ graphs) last c.in_ok-put_number-2.ensures c.in_ok-put_bytes-3.ensures))) in
     rw (plain_mark c.args.mark)
     (whole ∙ ap (λ (text : List ℕ). text ++ ((123 ∷ key) ++ (word ++ rest))) none ∙ joined key word file graphs)

@@ -42,16 +42,16 @@ returns c =
     let half : c.edges.result ≡ darts plane / 2 = omega arith in
     let drawing_put : c.put_drawing.new.out.items ≡ c.put_sizes.new.out.items ++ drawing = rw half at c.in_ok-put_drawing.ensures in
     let end = c.push.new.self.items in
-    let pushed : end ≡ c.put_end.new.out.items ++ 10 ∷ [] = search rules in
+    let pushed : end ≡ c.put_last.new.out.items ++ 10 ∷ [] = search rules in
     let start = c.in_ok-out.out.items in
     let none : start ≡ [] = search rules in
     let whole : end ≡ start ++ (shape_text ++ (place ++ (sizes ++ (drawing ++ (proof ++ (last ++ 10 ∷ [])))))) =
-    then start c.put_shape.new.out.items end shape_text (place ++ (sizes ++ (drawing ++ (proof ++ (last ++ 10 ∷ []))))) c.in_ok-put_shape.ensures
-    (then c.put_shape.new.out.items c.put_place.new.out.items end place (sizes ++ (drawing ++ (proof ++ (last ++ 10 ∷ [])))) c.in_ok-put_place.ensures
+    then start c.put_first.new.out.items end shape_text (place ++ (sizes ++ (drawing ++ (proof ++ (last ++ 10 ∷ []))))) c.in_ok-put_first.ensures
+    (then c.put_first.new.out.items c.put_place.new.out.items end place (sizes ++ (drawing ++ (proof ++ (last ++ 10 ∷ [])))) c.in_ok-put_place.ensures
     (then c.put_place.new.out.items c.put_sizes.new.out.items end sizes (drawing ++ (proof ++ (last ++ 10 ∷ []))) c.in_ok-put_sizes.ensures
     (then c.put_sizes.new.out.items c.put_drawing.new.out.items end drawing (proof ++ (last ++ 10 ∷ [])) drawing_put
     (then c.put_drawing.new.out.items c.put_prices.new.out.items end proof (last ++ 10 ∷ []) c.in_ok-put_prices.ensures
-    (then c.put_prices.new.out.items c.put_end.new.out.items end last (10 ∷ []) c.in_ok-put_end.ensures pushed))))) in
+    (then c.put_prices.new.out.items c.put_last.new.out.items end last (10 ∷ []) c.in_ok-put_last.ensures pushed))))) in
     whole ∙ ap (λ (text : List ℕ). text ++ (shape_text ++ (place ++ (sizes ++ (drawing ++ (proof ++ (last ++ 10 ∷ []))))))) none
     ∙ joined (member_text (codes "angles") angles) (member_text (codes "bends") bends) (member_text (codes "drawn") drawn) (member_text (codes "f") faces)
     (member_text (codes "file") file) (member_text (codes "graph") graph) (member_text (codes "m") edges) (member_text (codes "n") count)

@@ -24,15 +24,15 @@ returns c =
     let last : List ℕ = 34 ∷ 44 ∷ (status ++ 125 ∷ 10 ∷ []) in
     let rest : List ℕ = (44 ∷ key) ++ (word ++ last) in
     let start = c.in_ok-out.out.items in
-    let end = c.bytes-3.new.out.items in
+    let end = c.put_bytes-3.new.out.items in
     let none : start ≡ [] = search rules in
-    let filed : c.natural_at.new.out.items ≡ start ++ 123 ∷ file = rw c.from.ensures at c.in_ok-natural_at.ensures in
+    let filed : c.put_number.new.out.items ≡ start ++ 123 ∷ file = rw c.from.ensures at c.in_ok-put_number.ensures in
     let named : c.as_bytes.result.now ≡ word = c.as_bytes.ensures.value ∙ c.word.ensures in
-    let worded : c.bytes-2.new.out.items ≡ c.bytes.new.out.items ++ word = rw named at c.in_ok-bytes-2.ensures in
+    let worded : c.put_bytes-2.new.out.items ≡ c.put_bytes.new.out.items ++ word = rw named at c.in_ok-put_bytes-2.ensures in
     let whole : end ≡ start ++ ((123 ∷ file) ++ ((44 ∷ graph) ++ rest)) =
-    then start c.natural_at.new.out.items end (123 ∷ file) ((44 ∷ graph) ++ rest) filed
-    (then c.natural_at.new.out.items c.natural_at-2.new.out.items end (44 ∷ graph) rest c.in_ok-natural_at-2.ensures
-    (then c.natural_at-2.new.out.items c.bytes.new.out.items end (44 ∷ key) (word ++ last) c.in_ok-bytes.ensures
-    (then c.bytes.new.out.items c.bytes-2.new.out.items end word last worded c.in_ok-bytes-3.ensures))) in
+    then start c.put_number.new.out.items end (123 ∷ file) ((44 ∷ graph) ++ rest) filed
+    (then c.put_number.new.out.items c.put_number-2.new.out.items end (44 ∷ graph) rest c.in_ok-put_number-2.ensures
+    (then c.put_number-2.new.out.items c.put_bytes.new.out.items end (44 ∷ key) (word ++ last) c.in_ok-put_bytes.ensures
+    (then c.put_bytes.new.out.items c.put_bytes-2.new.out.items end word last worded c.in_ok-put_bytes-3.ensures))) in
     rw (plain_rule c.args.rule)
     (whole ∙ ap (λ (text : List ℕ). text ++ ((123 ∷ file) ++ ((44 ∷ graph) ++ rest))) none ∙ joined file graph key word status)

@@ -8,18 +8,18 @@ use Rattle.reports.proofs.TextParts.{texts-next, texts-at, texts-all, texts_rest
 use Rattle.reports.proofs.Lacks.{lacks_whole, lacks_nothing}
 use Rattle.reports.proofs.json_lines.write_json.Goals as goal
 
-pub returns-in_err-write_book : goal.returns-in_err-write_book
-returns-in_err-write_book g c =
+pub returns-in_err-add_book : goal.returns-in_err-add_book
+returns-in_err-add_book g c =
     let p = err_from_is_err_and c.from_residual.result c.from_residual.ensures.1 in
-    let is : c.from_residual.result ≡ Err c.in_err-write_book.field-0.0 =
+    let is : c.from_residual.result ≡ Err c.in_err-add_book.field-0.0 =
     subst (λ (e : WriteFault). c.from_residual.result ≡ Err e) p.2 p.1 in
     let xs = c.args.batch.now in
     let i = c.loop-file.file in
     let x = c.book.result.now in
     let here : x ≡ get_or xs i x = c.book.ensures x in
     let below : i < length xs = subst (λ n. i < n) c.files-file-end.ensures.count c.loop-file-test.true in
-    lacks_whole _ _ _ _ c.write_book.new.lines _ (numbered_texts book_json 1 (take i xs)) (book_json (i + 1) x) (texts_rest book_json xs (i + 1)) (json_text xs) _ _
-    c.loop-file.invariant.in_transit c.in_err-write_book.ensures
+    lacks_whole _ _ _ _ c.add_book.new.lines _ (numbered_texts book_json 1 (take i xs)) (book_json (i + 1) x) (texts_rest book_json xs (i + 1)) (json_text xs) _ _
+    c.loop-file.invariant.in_transit c.in_err-add_book.ensures
     (texts-at book_json xs i x below here) is
 
 pub loop-file-preserved : goal.loop-file-preserved
@@ -30,10 +30,10 @@ loop-file-preserved g c =
     let here : x ≡ get_or xs i x = c.book.ensures x in
     let below : i < length xs = subst (λ n. i < n) c.files-file-end.ensures.count c.loop-file-test.true in
     record {
-      whole = c.in_ok-write_book.ensures.0;
-      in_transit = subst (λ (text : List ℕ). IsInTransit (g.S.Sink.taken c.args.sink.now) (g.S.Sink.taken c.write_book.new.sink) c.write_book.new.lines text)
+      whole = c.in_ok-add_book.ensures.0;
+      in_transit = subst (λ (text : List ℕ). IsInTransit (g.S.Sink.taken c.args.sink.now) (g.S.Sink.taken c.add_book.new.sink) c.add_book.new.lines text)
           (texts-next book_json xs i x below here)
-          (c.in_ok-write_book.ensures.1 _ _ c.loop-file.invariant.in_transit);
+          (c.in_ok-add_book.ensures.1 _ _ c.loop-file.invariant.in_transit);
     }
 
 pub returns : goal.returns

@@ -6,4 +6,4 @@ returns-in-Ok c = rw c.in-Ok.is c.put_drawn_points.ensures
 
 pub returns-in-Err : goal.returns-in-Err
 unfolding escape_byte
-returns-in-Err c = rw c.in-Err.is c.bytes.ensures
+returns-in-Err c = rw c.in-Err.is c.put_bytes.ensures

@@ -11,13 +11,13 @@ pub returns : goal.returns
 unfolding escape_byte
 returns c =
     let points = c.args.points.now in
-    let end = c.bytes-3.new.out.items in
+    let end = c.put_bytes-3.new.out.items in
     let corners : List ℕ = compact_text (array_of (corners_data points) (range_with_len 0 c.args.edges)) in
     let vertices : List ℕ = compact_text (array_of point_data points.vertices) in
     let key : List ℕ = 44 ∷ 34 ∷ (codes "vertices" ++ 34 ∷ 58 ∷ []) in
-    on_ok_weaker c.bytes-3.result (λ last.
-    let seen : c.put_points.new.out.items ≡ c.bytes-2.new.out.items ++ vertices = rw c.vertices.ensures at c.in_ok-put_points.ensures in
-    then c.args.out.now.items c.bytes.new.out.items end _ (corners ++ (key ++ (vertices ++ 125 ∷ []))) c.in_ok-bytes.ensures
-    (then c.bytes.new.out.items c.put_corners.new.out.items end corners (key ++ (vertices ++ 125 ∷ [])) c.in_ok-put_corners.ensures
-    (then c.put_corners.new.out.items c.bytes-2.new.out.items end key (vertices ++ 125 ∷ []) c.in_ok-bytes-2.ensures
-    (then c.bytes-2.new.out.items c.put_points.new.out.items end vertices (125 ∷ []) seen last)))) c.bytes-3.ensures
+    on_ok_weaker c.put_bytes-3.result (λ last.
+    let seen : c.put_points.new.out.items ≡ c.put_bytes-2.new.out.items ++ vertices = rw c.vertices.ensures at c.in_ok-put_points.ensures in
+    then c.args.out.now.items c.put_bytes.new.out.items end _ (corners ++ (key ++ (vertices ++ 125 ∷ []))) c.in_ok-put_bytes.ensures
+    (then c.put_bytes.new.out.items c.put_corners.new.out.items end corners (key ++ (vertices ++ 125 ∷ [])) c.in_ok-put_corners.ensures
+    (then c.put_corners.new.out.items c.put_bytes-2.new.out.items end key (vertices ++ 125 ∷ []) c.in_ok-put_bytes-2.ensures
+    (then c.put_bytes-2.new.out.items c.put_points.new.out.items end vertices (125 ∷ []) seen last)))) c.put_bytes-3.ensures

@@ -6,4 +6,4 @@ use Rattle.reports.proofs.json_objects.put_place.Goals as goal
 
 pub returns : goal.returns
 unfolding escape_byte
-returns c = on_ok_weaker c.natural_at-2.result (λ last. rw (sym c.from.ensures) (then c.args.out.now.items c.natural_at.new.out.items c.natural_at-2.new.out.items _ _ c.in_ok-natural_at.ensures last)) c.natural_at-2.ensures
+returns c = on_ok_weaker c.put_number-2.result (λ last. rw (sym c.from.ensures) (then c.args.out.now.items c.put_number.new.out.items c.put_number-2.new.out.items _ _ c.in_ok-put_number.ensures last)) c.put_number-2.ensures

@@ -13,4 +13,4 @@ returns c =
     let twice : 2 * c.edges.result ≡ darts plane = c.edges.ensures.count ∙ ap dart_count c.graph.ensures.value in
     let edges : c.from.result ≡ darts plane / 2 = c.from.ensures ∙ omega arith in
     let count : c.from-2.result ≡ vertices plane = c.from-2.ensures ∙ c.vertices.ensures.count ∙ ap length c.graph-2.ensures.value in
-    on_ok_weaker c.natural_at-2.result (λ last. rw (sym edges, sym count) (then c.args.out.now.items c.natural_at.new.out.items c.natural_at-2.new.out.items _ _ c.in_ok-natural_at.ensures last)) c.natural_at-2.ensures
+    on_ok_weaker c.put_number-2.result (λ last. rw (sym edges, sym count) (then c.args.out.now.items c.put_number.new.out.items c.put_number-2.new.out.items _ _ c.in_ok-put_number.ensures last)) c.put_number-2.ensures

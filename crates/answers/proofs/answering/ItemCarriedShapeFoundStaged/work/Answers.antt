@@ -5,4 +5,4 @@ use Rattle.answers.proofs.answering.ItemCarriedShapeFoundStaged.work.Goals as go
 
 pub finish-requires-clause-shaped : goal.finish-requires-clause-shaped
 finish-requires-clause-shaped g c =
-    subst (λ made. ∥ IsShaped c.args.self.task.choice (lists_of (g.P.Carried.Carried.bytes c.args.self.rec)) made ∥₁) (sym c.taken-shaped_plane.ensures) c.args.self.made
+    subst (λ made. ∥ IsShaped c.args.self.task.choice (lists_of (g.P.Carried.Carried.bytes c.args.self.rec)) made ∥₁) (sym c.take_from_holder-shaped_plane.ensures) c.args.self.made

@@ -10,5 +10,5 @@ invariant_of-result g c =
     record {
       known = c.args.self.known;
       made = ∥∥₁_map c.args.self.made
-          (λ made. shaped_held c.args.self.task.choice _ c.shape-shaped_plane.result c.held.result c.held.ensures (c.shape-shaped_plane.ensures.shaped _ (subst (IsEmbedded (lists_of (g.P.Carried.Carried.bytes c.args.self.rec))) (sym c.taken-plane.ensures) made)));
+          (λ made. shaped_held c.args.self.task.choice _ c.shape-shaped_plane.result c.put_in_holder.result c.put_in_holder.ensures (c.shape-shaped_plane.ensures.shaped _ (subst (IsEmbedded (lists_of (g.P.Carried.Carried.bytes c.args.self.rec))) (sym c.take_from_holder-plane.ensures) made)));
     }

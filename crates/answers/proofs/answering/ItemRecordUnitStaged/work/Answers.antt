@@ -9,5 +9,5 @@ pub invariant_of-result : goal.invariant_of-result
 invariant_of-result g c =
     record {
       known = subst (λ bytes. ∥ g.P.Purpose.accepts c.args.self.task.file c.args.self.task.ordinal bytes × IsSpelt bytes ∥₁) (sym c.carried.ensures) c.args.self.known;
-      made = ∣ subst (λ bytes. IsEmbedded (lists_of bytes) c.held.result) (sym c.carried.ensures) (embedded_held _ c.embed-plane.result c.held.result c.held.ensures c.embed-plane.ensures) ∣₁;
+      made = ∣ subst (λ bytes. IsEmbedded (lists_of bytes) c.put_in_holder.result) (sym c.carried.ensures) (embedded_held _ c.embed-plane.result c.put_in_holder.result c.put_in_holder.ensures c.embed-plane.ensures) ∣₁;
     }

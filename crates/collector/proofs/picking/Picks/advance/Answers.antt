@@ -12,16 +12,16 @@ loop-alloc-preserved-in-Continue-branch-2 g c =
     let inv = c.loop-alloc.invariant in
     let next = c.in_ok-go_on.ensures.next in
     record {
-      stands = c.in_ok-begin.ensures.stands.stands;
+      stands = c.in_ok-drain.ensures.stands.stands;
       same = record {
         selection = inv.same.selection;
         choice = inv.same.choice;
-        files = c.begin.ensures.taken.count ∙ ap (λ (o : OrderModel). length o.waiting) next ∙ inv.same.files;
+        files = c.drain.ensures.taken.count ∙ ap (λ (o : OrderModel). length o.waiting) next ∙ inv.same.files;
       };
       flaws = inv.flaws;
       written = λ start arrived was.
-          picked_next at.selection start (g.S.Sink.taken c.loop-alloc.sink) (g.S.Sink.taken c.begin.new.sink) at.order c.go_on.new.self c.begin.new.self arrived
-          next (c.in_ok-go_on.ensures.more.0 c.if-branch.true) c.begin.ensures.taken c.in_ok-begin.ensures.goes_on c.begin.ensures.current (inv.written start arrived was);
+          picked_next at.selection start (g.S.Sink.taken c.loop-alloc.sink) (g.S.Sink.taken c.drain.new.sink) at.order c.go_on.new.self c.drain.new.self arrived
+          next (c.in_ok-go_on.ensures.more.0 c.if-branch.true) c.drain.ensures.taken c.in_ok-drain.ensures.goes_on c.drain.ensures.current (inv.written start arrived was);
     }
 
 pub loop-alloc-preserved : goal.loop-alloc-preserved
@@ -53,13 +53,13 @@ returns-in_err-go_on-clause-partial g c =
     (subst (λ n. IsPartOfPicked at.selection start now n arrived) inv.same.files
     (part_here at.selection start now at.order.buffer at.order.current at.order.waiting arrived (inv.written start arrived was))))
 
-pub returns-in_err-begin-clause-partial : goal.returns-in_err-begin-clause-partial
-returns-in_err-begin-clause-partial g c =
+pub returns-in_err-drain-clause-partial : goal.returns-in_err-drain-clause-partial
+returns-in_err-drain-clause-partial g c =
     let at = c.loop-alloc.self in
     let inv = c.loop-alloc.invariant in
-    let new = g.S.Sink.taken c.begin.new.sink in
-    err_any c.from_residual-in_err-begin.result (λ start arrived was.
+    let new = g.S.Sink.taken c.drain.new.sink in
+    err_any c.from_residual-in_err-drain.result (λ start arrived was.
     subst (λ s. IsPartOfPicked s start new (length c.args.self.now.order.waiting) arrived) inv.same.selection
     (subst (λ n. IsPartOfPicked at.selection start new n arrived) inv.same.files
     (part_next at.selection start (g.S.Sink.taken c.loop-alloc.sink) new at.order c.go_on.new.self arrived
-    c.in_ok-go_on.ensures.next (c.in_ok-go_on.ensures.more.0 c.if-branch.true) c.in_err-begin.ensures.partial (inv.written start arrived was))))
+    c.in_ok-go_on.ensures.next (c.in_ok-go_on.ensures.more.0 c.if-branch.true) c.in_err-drain.ensures.partial (inv.written start arrived was))))

@@ -13,8 +13,8 @@ returns-clause-held g c =
     let mark = c.args.mark in
     let before = c.args.self.now in
     let after = c.advance.new.self in
-    let order = c.keep_end.new.self in
-    let ended = c.in_ok-keep_end.ensures in
+    let order = c.store_mark.new.self in
+    let ended = c.in_ok-store_mark.ensures in
     let meaning = g.J.KnownFiles.meaning in
     let old = g.S.Sink.taken c.args.sink.now in
     let new = g.S.Sink.taken c.advance.new.sink in
@@ -36,8 +36,8 @@ returns-clause-partial g c =
     let mark = c.args.mark in
     let before = c.args.self.now in
     let after = c.advance.new.self in
-    let order = c.keep_end.new.self in
-    let ended = c.in_ok-keep_end.ensures in
+    let order = c.store_mark.new.self in
+    let ended = c.in_ok-store_mark.ensures in
     let meaning = g.J.KnownFiles.meaning in
     let old = g.S.Sink.taken c.args.sink.now in
     let new = g.S.Sink.taken c.advance.new.sink in
@@ -49,9 +49,9 @@ returns-clause-partial g c =
     (partial start next (picked_marked before.selection start old before.order order file came next count mark ended.open.1 more ended.kept ended.same was)))
     held (may_end meaning start old before ns file count mark ended.open.1 (λ other. (ended.kept.here other).counted) ended.is_end held))
 
-pub returns-in_err-keep_end-clause-partial : goal.returns-in_err-keep_end-clause-partial
-returns-in_err-keep_end-clause-partial g c =
+pub returns-in_err-store_mark-clause-partial : goal.returns-in_err-store_mark-clause-partial
+returns-in_err-store_mark-clause-partial g c =
     let before = c.args.self.now in
-    let mid : Picks = record before { order = c.keep_end.new.self } in
+    let mid : Picks = record before { order = c.store_mark.new.self } in
     err_any c.from_residual.result (λ start ns held.
-    left_off_held g.J.KnownFiles.meaning start (g.S.Sink.taken c.args.sink.now) before mid ns (record { selection = refl; choice = refl; files = c.in_err-keep_end.ensures.count }) held)
+    left_off_held g.J.KnownFiles.meaning start (g.S.Sink.taken c.args.sink.now) before mid ns (record { selection = refl; choice = refl; files = c.in_err-store_mark.ensures.count }) held)

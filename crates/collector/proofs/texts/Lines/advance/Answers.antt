@@ -9,7 +9,7 @@ use Rattle.collector.specs.Written.{IsPartialText}
 use Rattle.collector.proofs.Moving.{no_more, left_ended, left_file, begun_file, written_over}
 use Rattle.collector.proofs.Partial.{partial_as, partial_end, partial_remaining, partial_first, partial_file}
 use Rattle.collector.proofs.texts.Lines.advance.Goals as goal
-use Rattle.collector.proofs.texts.Lines.advance.Goals.{then-branch+in_ok-put-2+in_ok-begin, else-branch}
+use Rattle.collector.proofs.texts.Lines.advance.Goals.{then-branch+in_ok-put-2+in_ok-drain, else-branch}
 
 pub returns-in_err-put-clause-partial : goal.returns-in_err-put-clause-partial
 returns-in_err-put-clause-partial g c =
@@ -72,8 +72,8 @@ returns-in_err-put-2-clause-partial g c =
     (partial_first self.form start mid new here.buffer here.current here.waiting came below (subst (IsPartlyAdded mid here.buffer new) preamble c.in_err-put-2.ensures.partial)
     (left_file self.form start old mid self.order put here came end within c.in-Some.ensures.ended goes same went (inv.written start came was)))))
 
-pub returns-in_err-begin-clause-partial : goal.returns-in_err-begin-clause-partial
-returns-in_err-begin-clause-partial g c =
+pub returns-in_err-drain-clause-partial : goal.returns-in_err-drain-clause-partial
+returns-in_err-drain-clause-partial g c =
     let first = c.args.self.now in
     let self = c.loop-end.self in
     let inv = c.loop-end.invariant in
@@ -94,12 +94,12 @@ returns-in_err-begin-clause-partial g c =
     let files : length here.waiting ≡ length self.order.waiting = ap (λ (o : OrderModel). length o.waiting) went ∙ ap (λ (o : OrderModel). length o.waiting) same in
     let between = c.put-then-branch.new.self in
     let next = g.S.Sink.taken c.put-then-branch.new.sink in
-    let new = g.S.Sink.taken c.begin.new.sink in
-    err_any c.from_residual-in_err-begin.result (λ start came was.
+    let new = g.S.Sink.taken c.drain.new.sink in
+    err_any c.from_residual-in_err-drain.result (λ start came was.
     partial_as first.form self.form start new (length first.order.waiting) (length self.order.waiting) came inv.same.form inv.same.files
     (subst (λ n. IsPartialText self.form start new n came) files
     (partial_file self.form start mid next new here between came below (subst (GoesOn mid here.buffer next between.buffer) preamble c.in_ok-put-2.ensures.goes_on) c.in_ok-put-2.ensures.same
-    c.in_err-begin.ensures.partial
+    c.in_err-drain.ensures.partial
     (left_file self.form start old mid self.order put here came end within c.in-Some.ensures.ended goes same went (inv.written start came was)))))
 
 pub loop-end-preserved : goal.loop-end-preserved
@@ -120,27 +120,27 @@ loop-end-preserved g c =
     let same = c.in_ok-put.ensures.same in
     let files : length here.waiting ≡ length self.order.waiting = ap (λ (o : OrderModel). length o.waiting) went ∙ ap (λ (o : OrderModel). length o.waiting) same in
     elim c.if-branch.branch [
-      | then-branch+in_ok-put-2+in_ok-begin w ↦
+      | then-branch+in_ok-put-2+in_ok-drain w ↦
           let below : here.current < length here.waiting = subst (λ (o : OrderModel). o.current < length o.waiting) (sym went) (c.in_ok-go_on.ensures.more.0 w.if-branch.true) in
           let preamble : w.as_slice-then-branch.result.now ≡ preamble_in self.form (here.current + 1) =
           w.as_slice-then-branch.ensures.value ∙ w.preamble_line-first.ensures ∙ ap (λ n. preamble_in self.form (n + 1)) w.current-then-branch.ensures in
           let between = w.put-then-branch.new.self in
           let next = g.S.Sink.taken w.put-then-branch.new.sink in
-          let after : Lines = record self { order = w.begin.new.self } in
+          let after : Lines = record self { order = w.drain.new.self } in
           record {
-            stands = subst (λ s. g.S.Sink.failed s ≡ false) (sym w.sink-is) w.in_ok-begin.ensures.stands.stands;
+            stands = subst (λ s. g.S.Sink.failed s ≡ false) (sym w.sink-is) w.in_ok-drain.ensures.stands.stands;
             same = subst (AreLinesOf first) (sym w.self-is) (record {
               form = inv.same.form;
               choice = inv.same.choice;
-              files = w.begin.ensures.taken.count ∙ ap (λ (o : OrderModel). length o.waiting) w.in_ok-put-2.ensures.same ∙ files ∙ inv.same.files;
+              files = w.drain.ensures.taken.count ∙ ap (λ (o : OrderModel). length o.waiting) w.in_ok-put-2.ensures.same ∙ files ∙ inv.same.files;
             });
             flawless = ap (λ (l : Lines). l.flawless) w.self-is ∙ inv.flawless;
             written = λ start came was.
                 subst (λ l. LinesWrite start (g.S.Sink.taken c.if-branch.sink) l came) (sym w.self-is)
                 (subst (λ s. LinesWrite start (g.S.Sink.taken s) after came) (sym w.sink-is)
-                (begun_file self.form start mid next (g.S.Sink.taken w.begin.new.sink) here between w.begin.new.self came below
+                (begun_file self.form start mid next (g.S.Sink.taken w.drain.new.sink) here between w.drain.new.self came below
                 (subst (GoesOn mid here.buffer next between.buffer) preamble w.in_ok-put-2.ensures.goes_on) w.in_ok-put-2.ensures.same
-                w.begin.ensures.taken w.in_ok-begin.ensures.goes_on w.begin.ensures.current
+                w.drain.ensures.taken w.in_ok-drain.ensures.goes_on w.drain.ensures.current
                 (left_file self.form start old mid self.order put here came end within c.in-Some.ensures.ended goes same went (inv.written start came was))));
           }
       | else-branch w ↦

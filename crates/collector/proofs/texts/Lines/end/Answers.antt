@@ -15,8 +15,8 @@ returns-clause-held g c =
     let file = c.args.file in
     let mark = c.args.mark in
     let count = c.args.known.count in
-    let order = c.keep_end.new.self in
-    let ended = c.in_ok-keep_end.ensures in
+    let order = c.store_mark.new.self in
+    let ended = c.in_ok-store_mark.ensures in
     let mid : Lines = record before { order = order; flawless = c.is_flawless_with-self.result } in
     let kept : AreLinesOf before mid = record { form = refl; choice = refl; files = ended.count } in
     let old = g.S.Sink.taken c.args.sink.now in
@@ -35,8 +35,8 @@ returns-clause-partial g c =
     let file = c.args.file in
     let mark = c.args.mark in
     let count = c.args.known.count in
-    let order = c.keep_end.new.self in
-    let ended = c.in_ok-keep_end.ensures in
+    let order = c.store_mark.new.self in
+    let ended = c.in_ok-store_mark.ensures in
     let mid : Lines = record before { order = order; flawless = c.is_flawless_with-self.result } in
     let kept : AreLinesOf before mid = record { form = refl; choice = refl; files = ended.count } in
     let old = g.S.Sink.taken c.args.sink.now in
@@ -47,11 +47,11 @@ returns-clause-partial g c =
     (λ came next more was. written_marked before.form start old before.order order file came next count mark ended.open.1 ended.open.0 more ended.kept ended.same was)
     (partial start) held)
 
-pub returns-in_err-keep_end-clause-partial : goal.returns-in_err-keep_end-clause-partial
-returns-in_err-keep_end-clause-partial g c =
+pub returns-in_err-store_mark-clause-partial : goal.returns-in_err-store_mark-clause-partial
+returns-in_err-store_mark-clause-partial g c =
     let before = c.args.self.now in
-    let mid : Lines = record before { order = c.keep_end.new.self } in
+    let mid : Lines = record before { order = c.store_mark.new.self } in
     let now = g.S.Sink.taken c.args.sink.now in
     err_any c.from_residual.result (λ start ns held.
-    inl (left_off_as g.J.KnownFiles.meaning start now before mid ns (record { form = refl; choice = refl; files = c.in_err-keep_end.ensures.count })
+    inl (left_off_as g.J.KnownFiles.meaning start now before mid ns (record { form = refl; choice = refl; files = c.in_err-store_mark.ensures.count })
     (left_off_held g.J.KnownFiles.meaning start now before ns held)))

@@ -43,14 +43,14 @@ returns-clause-held g c =
     let entry = lacking (entry_of c.args.printed.file c.args.printed.ordinal c.args.printed.rec.value c.args.printed.choice (answer_in c.args.printed.found.value) c.args.printed.answers) in
     let file = c.args.printed.file in
     let before = c.args.self.now in
-    let after = c.add_lacking.new.self in
+    let after = c.add_out_of_memory_line.new.self in
     let below : file < length before.order.waiting = search rules in
     let from : before.order.current ≤ file = search rules in
     let choice : c.args.printed.choice ≡ before.choice = search rules in
     let comes = comes_next before.choice c.args.printed.choice (g.J.KnownFiles.meaning file) file c.args.printed.ordinal before.order.waiting entry refl refl refl choice
     c.args.printed.rec_is c.args.printed.placed (c.is_next.ensures.next (search rules)) in
-    ok_both c.add_lacking.result c.add_lacking.ensures.added c.add_lacking.ensures.lacking (λ added lacks start ns held.
-    held_item g.J.KnownFiles.meaning start (g.S.Sink.taken c.args.sink.now) (g.S.Sink.taken c.add_lacking.new.sink) before after ns file entry c.add_lacking.ensures.same c.add_lacking.ensures.current below from comes
+    ok_both c.add_out_of_memory_line.result c.add_out_of_memory_line.ensures.added c.add_out_of_memory_line.ensures.lacking (λ added lacks start ns held.
+    held_item g.J.KnownFiles.meaning start (g.S.Sink.taken c.args.sink.now) (g.S.Sink.taken c.add_out_of_memory_line.new.sink) before after ns file entry c.add_out_of_memory_line.ensures.same c.add_out_of_memory_line.ensures.current below from comes
     (λ came next more was. added start came next entry refl refl refl more was)
     (λ came next more was. subst (λ b. (b ≡ true) ↔ ((k : ℕ) → k < length before.order.waiting → IsFlawlessSoFar (next k))) (sym lacks) (whole_lacking (length before.order.waiting) file entry came next below refl more))
     held)
@@ -81,14 +81,14 @@ returns-clause-partial g c =
     let entry = lacking (entry_of c.args.printed.file c.args.printed.ordinal c.args.printed.rec.value c.args.printed.choice (answer_in c.args.printed.found.value) c.args.printed.answers) in
     let file = c.args.printed.file in
     let before = c.args.self.now in
-    let after = c.add_lacking.new.self in
+    let after = c.add_out_of_memory_line.new.self in
     let below : file < length before.order.waiting = search rules in
     let from : before.order.current ≤ file = search rules in
     let choice : c.args.printed.choice ≡ before.choice = search rules in
     let comes = comes_next before.choice c.args.printed.choice (g.J.KnownFiles.meaning file) file c.args.printed.ordinal before.order.waiting entry refl refl refl choice
     c.args.printed.rec_is c.args.printed.placed (c.is_next.ensures.next (search rules)) in
-    err_then c.add_lacking.result c.add_lacking.ensures.partial (λ partial start ns held.
-    left_off_item g.J.KnownFiles.meaning start (g.S.Sink.taken c.args.sink.now) (g.S.Sink.taken c.add_lacking.new.sink) before after ns file entry c.add_lacking.ensures.same below from comes
+    err_then c.add_out_of_memory_line.result c.add_out_of_memory_line.ensures.partial (λ partial start ns held.
+    left_off_item g.J.KnownFiles.meaning start (g.S.Sink.taken c.args.sink.now) (g.S.Sink.taken c.add_out_of_memory_line.new.sink) before after ns file entry c.add_out_of_memory_line.ensures.same below from comes
     (λ came next more was. partial start came next entry refl refl refl more was) held)
 
 pub returns-then-ne-clause-partial : goal.returns-then-ne-clause-partial

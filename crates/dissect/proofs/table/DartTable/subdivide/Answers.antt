@@ -11,10 +11,10 @@ returns-clause-subdivide c =
     s.prev.items c.put_before.new.prev.items c.put_before-2.new.prev.items
     s.reverse_dart.items c.pair.new.reverse_dart.items c.pair-2.new.reverse_dart.items
     s.head.items _ s.direction.items _ s.angle.items _
-    s.before.items c.take_over.new.before.items c.take_over-2.new.before.items
+    s.before.items c.put_before_on_edge.new.before.items c.put_before_on_edge-2.new.before.items
     c.requires.tied c.requires.e_in
     (get_or_read s.reverse_dart.items c.args.e c.index-reverse_dart.result.now (omega arith) c.index-reverse_dart.ensures 0)
     (omega arith) (omega arith) (omega arith) (omega arith) (omega arith) (omega arith) (omega arith)
     c.put_before.ensures.next c.put_before.ensures.prev c.put_before-2.ensures.next c.put_before-2.ensures.prev
-    c.pair.ensures.reverse_dart c.pair-2.ensures.reverse_dart c.take_over.ensures.before c.take_over-2.ensures.before
+    c.pair.ensures.reverse_dart c.pair-2.ensures.reverse_dart c.put_before_on_edge.ensures.before c.put_before_on_edge-2.ensures.before
     refl refl refl

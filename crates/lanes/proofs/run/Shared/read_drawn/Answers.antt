@@ -25,6 +25,6 @@ returns-clause-told g c =
       count = c.in_ok-end.end.count;
       mark = c.in_ok-end.end.mark;
       kept = _;
-      keeps = keeps_as _ _ _ _ _ _ _ _ _ (ap (λ l. told ++ notes_of_items about l) c.requires.none ∙ append-nil told) c.in_ok-give_all.ensures.told c.in_ok-end.ensures.kept;
+      keeps = keeps_as _ _ _ _ _ _ _ _ _ (ap (λ l. told ++ notes_of_items about l) c.requires.none ∙ append-nil told) c.in_ok-give_collected.ensures.told c.in_ok-end.ensures.kept;
       ended = notes-after about _ _ (End c.args.file c.in_ok-end.end.mark c.end-known.result) c.in_ok-give.ensures.ok;
     }

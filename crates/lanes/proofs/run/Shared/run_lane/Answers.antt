@@ -30,14 +30,14 @@ module _ {A M : Type 0} where
 pub returns : goal.returns
 returns g c =
     let about = g.L.Entry.Numbered.about in
-    let before = given_at c.work_through_files-seat.new.giver in
+    let before = given_at c.run_stages-seat.new.giver in
     let after = given_at c.give-stop.new.self in
     let stop = c.give-stop.result in
     record {
-      to_same = (c.give-stop.ensures.lane.0 ∙ c.work_through_files-seat.ensures.same.0, c.give-stop.ensures.lane.1 ∙ c.work_through_files-seat.ensures.same.1);
-      stopped = ends_stopped about before after stop c.work_through_files-seat.ensures.goes_on c.give-stop.ensures.ok;
-      refused = goes_on_refused about before after stop c.work_through_files-seat.ensures.goes_on c.give-stop.ensures.refused c.give-stop.ensures.item;
-      tells = told_stopped before after stop c.work_through_files-seat.result
+      to_same = (c.give-stop.ensures.lane.0 ∙ c.run_stages-seat.ensures.same.0, c.give-stop.ensures.lane.1 ∙ c.run_stages-seat.ensures.same.1);
+      stopped = ends_stopped about before after stop c.run_stages-seat.ensures.goes_on c.give-stop.ensures.ok;
+      refused = goes_on_refused about before after stop c.run_stages-seat.ensures.goes_on c.give-stop.ensures.refused c.give-stop.ensures.item;
+      tells = told_stopped before after stop c.run_stages-seat.result
           (λ s ms. TellsSeat about c.args.self.now.run.now.choice (g.O.Opener.meaning c.args.self.now.run.now.opener.now) c.args.self.now.tickets.now s ms)
-          c.give-stop.ensures.ok c.work_through_files-seat.ensures.told;
+          c.give-stop.ensures.ok c.run_stages-seat.ensures.told;
     }

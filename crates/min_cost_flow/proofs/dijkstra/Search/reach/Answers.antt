@@ -25,9 +25,9 @@ returns-then-input-step-lt0-clause-relaxed c =
     let b : v < nodes_of g = end_in g c.args.self.now c.args.step o in
     let wants : excess_of g v <ℤ pos 0 = is_less _ _ fe c.if-input-step-lt0.true in
     let away : c.distance-away.result ≡ c.args.step.label -ℤ potential_of g v = away_is _ _ _ (offer_within g c.args.self.now c.args.step o) (potential_near g v o.search.input b) c.distance-away.ensures in
-    let a = c.candidate.ensures in
-    let either : ((c.candidate.new.self.bound ≡ c.args.self.now.bound) × (c.candidate.new.self.found ≡ c.args.self.now.found)) ⊎ ((c.candidate.new.self.bound ≡ c.distance-away.result) × (c.candidate.new.self.found ≡ c.args.step.number)) = elim a.either [ inl h ↦ inl h | inr h ↦ inr (passed_is _ _ fd h.0, h.1) ] in
-    offered g c.args.self.now c.candidate.new.self c.args.step c.distance-away.result o wants away a.same a.bound either
+    let a = c.take_if_nearer.ensures in
+    let either : ((c.take_if_nearer.new.self.bound ≡ c.args.self.now.bound) × (c.take_if_nearer.new.self.found ≡ c.args.self.now.found)) ⊎ ((c.take_if_nearer.new.self.bound ≡ c.distance-away.result) × (c.take_if_nearer.new.self.found ≡ c.args.step.number)) = elim a.either [ inl h ↦ inl h | inr h ↦ inr (passed_is _ _ fd h.0, h.1) ] in
+    offered g c.args.self.now c.take_if_nearer.new.self c.args.step c.distance-away.result o wants away a.same a.bound either
 
 pub offset_bounds-input-step-2 : goal.offset_bounds-input-step-2
 offset_bounds-input-step-2 c =

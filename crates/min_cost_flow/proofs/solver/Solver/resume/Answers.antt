@@ -50,7 +50,7 @@ resend-requires c =
     let value : es ≡ moved l.nodes.excess.items c.args.from c.args.to c.args.amount = c.move_units.ensures ∙ ap (λ (xs : List ℤ). moved xs c.args.from c.args.to c.args.amount) c.deref_mut-2.ensures.value in
     let base = rw d at c.rebase.ensures.moved in
     let low = c.rebase.ensures.low c.if-not-rebase.false in
-    let little = rw c.deref.ensures.value at (c.carries_little.ensures c.if-not-carries_little.false) in
+    let little = rw c.deref.ensures.value at (c.can_carry_more.ensures c.if-not-can_carry_more.false) in
     let wide : length (with_items l.nodes.excess es).items ≡ node_count net = ap (length {A = ℤ}) (excess_is ∙ value) ∙ length-moved l.nodes.excess.items c.args.from c.args.to c.args.amount ∙ r.excesses in
     record {
       ready = (
@@ -81,7 +81,7 @@ returns c =
     let value : es ≡ moved l.nodes.excess.items c.args.from c.args.to c.args.amount = c.move_units.ensures ∙ ap (λ (xs : List ℤ). moved xs c.args.from c.args.to c.args.amount) c.deref_mut-2.ensures.value in
     let base = rw d at c.rebase.ensures.moved in
     let low = c.rebase.ensures.low c.if-not-rebase.false in
-    let little = rw c.deref.ensures.value at (c.carries_little.ensures c.if-not-carries_little.false) in
+    let little = rw c.deref.ensures.value at (c.can_carry_more.ensures c.if-not-can_carry_more.false) in
     record {
       network = c.shift.ensures;
       answer = rw c.shift.ensures (c.resend.ensures (shifted net c.args.from c.args.to c.args.amount) (ready_moved net l _ _ c.args.from c.args.to c.args.amount st c.requires.in_range c.requires.from c.requires.to c.requires.few

@@ -1,8 +1,0 @@
-use Rattle.std.proofs.Common.{◌<◌, ◌≤◌, vec_len}
-use Rattle.least_length.proofs.pulling.Pulling.measure.Given as goal
-
-abbrev pub invariant-loop : goal.invariant-loop
-invariant-loop l = record {
-  segment : l.segment < vec_len l.self.coordinates;
-  units : l.units ≤ l.most;
-}
