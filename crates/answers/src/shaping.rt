@@ -142,8 +142,8 @@ pub(crate) fn shape(
 }
 
 /// Returns, by dart, the direction in which it arrives at its head when the shape is drawn: 0 east, 1 north, 2 west, 3
-/// south. Works in the lists of `scratch`, one of which becomes the result; `AllocError` if memory runs out, and these
-/// lists are then gone.
+/// south. Works in `directions` and `search` of `scratch`, and takes one list of theirs for the result; `AllocError` if
+/// memory runs out, and both are then empty.
 pub(crate) fn directions_of(
     alloc: Global,
     scratch: &mut ShapeScratch,

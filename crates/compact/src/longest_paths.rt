@@ -1,8 +1,8 @@
 //! Longest paths (Lengauer 1990) over segments: vertices that darts across join, by the neighbours of each vertex.
 //! Segments come in a topological order: the preorder of a depth-first tree, which has of the arcs to a segment the one
 //! farthest to the right. In a plane map with one source and one sink, as boxes are, an arc from a segment that comes
-//! later would have to cross the path of the tree. All is inlined into the two calls of `lower_bounds_along`, so that the
-//! directions of an axis are constants.
+//! later would have to cross the path of the tree. All is inlined into the two calls of `lower_bounds_along`, so that
+//! the directions of an axis are constants.
 ghost use Rattle.std.specs.Prelude.{◌≡◌, ℕ, ◌*◌, ◌<◌, length, IfOk, ◌^◌, ◌≤◌};
 ghost use Rattle.compact.specs.Neighbours.{AreNeighbours, HasNeighbours, neighbour, AreUnder, Grow, StayEqual, StayUnder};
 ghost use Rattle.dissect.specs.Boxes.{dart_map};
@@ -210,13 +210,13 @@ fn place_segment(
     }
 }
 
-/// Sets `coordinates`, all of them 0 at first, to lengths of longest paths along the axis of `neighbours`, segment by
-/// segment in a topological order. It overwrites `stack`, which has a place for each vertex and does not grow. Nothing
-/// changes if no vertex from `begin` on can be the first of all.
+/// Sets `coordinates`, all 0 at first, to lengths of longest paths along the axis of `neighbours`, at most 65,535, if
+/// all faces are boxes. It overwrites `stack`, which has a place for each vertex and does not grow. `coordinates` stays
+/// as it is if no vertex from `begin` on can be the first of all.
 ///
-/// Segments wait in `stack`. The first one of all is looked for from the vertex `begin` on. If all faces are boxes, it
-/// visits each segment once, in time linear in the vertices. What is proved, of any faces, is that no coordinate goes
-/// above any that grow along the arcs.
+/// Segments are placed in a topological order, and wait in `stack`. The first one of all is looked for from the vertex
+/// `begin` on. If all faces are boxes, it visits each segment once, in time linear in the vertices. What is proved, of
+/// any faces, is that no coordinate goes above any that grow along the arcs.
 #[inline(always)]
 pub fn raise_to_longest_paths(
     stack: &mut [u32],

@@ -166,8 +166,8 @@ fn is_up_to(limit: Option<u32>, number: u32) -> bool
     }
 }
 
-/// The range that `text` names, `A:B`, `A:`, `:B` or `A`, also an empty one, whose first number is above its last;
-/// `None` if the text has another form, or a number of more than 32 bits.
+/// The range that `text` names, `A:B`, `A:` (no last number), `:B` (from 0) or `A`, also an empty one, whose first
+/// number is above its last; `None` if the text has another form, or a number of more than 32 bits.
 fn ends_of(text: &str) -> Option<Range>
     ensures some { IfSome result (NamesEnds text.now) }
     ensures none { IfNone result ((range : Range) → ¬ NamesEnds text.now range) }

@@ -126,9 +126,9 @@ impl Solver {
         self.looks = 0;
     }
 
-    /// Sends the whole excess of node `root`, if it has one, to nodes with a deficit, and counts each path in
-    /// `searches`; returns whether all of it could be sent. If not, what was sent stays, and `visits` has the last
-    /// search's labels.
+    /// Sends the whole excess of node `root`, if it has one, to nodes with a deficit; updates the potentials, `looks`,
+    /// and `searches`, the number of paths. Returns whether all of it could be sent; if not, what was sent stays, and
+    /// `visits` has the last search's labels.
     fn send_all_from(&mut self, root: usize) -> bool
         requires between_searches { (net : NetworkModel) × IsBetweenSearches net self.old }
         requires root { root < length self.old.nodes.excess.items }

@@ -23,9 +23,9 @@ use embedding::ReadFault;
 use ortho_rep::Points;
 use std::alloc::{AllocError, Global};
 
-/// Parses `source` as one record and returns its layout with the outer face of `choice`, with a drawing of the kind
-/// `kind`, or without one if that is `None`. The error is the outcome: `NotARecord`, `Large`, `Refused` with the first
-/// rule that the record breaks, or `Memory` if memory runs out.
+/// Parses `source` as one record; returns its layout with the outer face of `choice`, and a drawing of `kind` unless
+/// that is `None`. `NotARecord` if it is not exactly one record, `Large` if its entries of 16 bits begin with too many
+/// vertices, `Refused` with the first rule that the record breaks, `Memory` if memory runs out.
 pub(crate) fn lay_out(
     alloc: Global,
     source: &Source<'_>,
