@@ -180,9 +180,9 @@ impl<L: Tap> Checker<L> {
         Ok(())
     }
 
-    /// Reads the line of `rec`, the next record, whose index in its file is `place`, and appends the verdict (`Memory`
-    /// if memory runs out) to the buffered text, which first goes to `out` if it is nearly full. `Write`, the only
-    /// error, exactly if `out` has then failed; the verdict is then not appended.
+    /// Reads the line of `rec`, the next record, whose index in its file is `place`; notes its verdict (`Memory` if
+    /// memory runs out) in the run, and appends it to the buffered text, which first goes to `out` if it is nearly
+    /// full. `Write`, the only error, exactly if `out` has then failed; the verdict is noted, but not appended.
     fn write_verdict<R: Wait, S: Sink>(
         &mut self,
         rt: &R,

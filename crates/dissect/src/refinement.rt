@@ -41,8 +41,8 @@ pub fn cut_across(table: &mut DartTable, d: u32, c: u32)
     table.chord(d, first, chord_direction);
 }
 
-/// Whether the top three corners of the stack, the first `height` of `ring`, are a right turn below two left turns;
-/// false if it has fewer than three.
+/// Whether the top three corners of the stack, the first `height` of `ring`, are two left turns above a right turn or a
+/// dead end, that is, an angle of 3 or 4 in `table`; false if it has fewer than three. None of them may be straight.
 fn has_hook(table: &DartTable, ring: &[u32], height: usize) -> bool
     requires high { height ≤ length ring.now }
     requires inside { All (λ a. a < room table.now) ring.now }

@@ -98,7 +98,8 @@ impl SightLists {
         Ok(())
     }
 
-    /// The index in `sights` of the pair to which the member `end` of `ends` belongs.
+    /// The index in `sights` of the pair to which the member `end` of `ends` belongs. Members are numbered from 1, two
+    /// for each pair, from the last pair to the first; `end` must be one of these numbers.
     pub(crate) fn pair_of(&self, end: u32) -> usize
         requires some { 0 < end }
         requires end { end ≤ 2 * vec_len self.now.sights }

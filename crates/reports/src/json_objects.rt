@@ -239,8 +239,9 @@ pub(crate) fn put_prices(
     put_bytes(out, b"}")
 }
 
-/// Appends a comma, the members `status` (`ok`) and `turns`, and the `}` that ends a graph's JSON object to `out`.
-/// `AllocError` if memory runs out; `out` may then end in a part of the text.
+/// Appends a comma, the members `status` (`ok`) and `turns` (for each dart of `shape`, in order, a string of letters
+/// `L` and `R`), and the `}` that ends a graph's JSON object to `out`. `AllocError` if memory runs out; `out` may then
+/// end in a part of the text.
 pub(crate) fn put_last(out: &mut Vec<u8>, shape: &Shape) -> Result<(), AllocError>
     ensures { OnOk result (out.new.items ≡ out.old.items
         ++ 44 ∷ (member_text (codes "status") (string (codes "ok"))
