@@ -49,8 +49,8 @@ fn trace(alloc: Global, scratch: &mut faces::Scratch, graph: Graph) -> Result<Pl
 }
 
 /// The plane of a record, whose outer face is the one with the most darts; `Rule` with the first rule that the record
-/// breaks, or `Memory` if it breaks none, but memory runs out. The plane takes lists of `scratch` with it; after
-/// `Memory` some may be gone.
+/// breaks, or `Memory` if it breaks none, but memory runs out. The plane takes lists of `scratch` with it; after an
+/// error some may be gone.
 ///
 /// If there is no memory for the graph, the rules are tried without one, which allocates nothing.
 pub(crate) fn embed(
@@ -68,7 +68,7 @@ pub(crate) fn embed(
 }
 
 /// The plane of a wide record, exactly as `embed` of a record: `Rule` with the first rule that the record breaks, or
-/// `Memory` if it breaks none, but memory runs out. The plane takes lists of `scratch` with it; after `Memory` some may
+/// `Memory` if it breaks none, but memory runs out. The plane takes lists of `scratch` with it; after an error some may
 /// be gone.
 pub(crate) fn embed_wide(
     alloc: Global,

@@ -50,12 +50,13 @@ impl<T: Drop> From<AllocFailed<T>> for LineFault {
     }
 }
 
-/// The JSON value of a line. `Malformed` if the bytes of the line are not one JSON text in UTF-8, `Memory` if memory
-/// runs out.
+/// The JSON value of a line. `Malformed` if the bytes of the line are not one JSON text in UTF-8, or if it nests values
+/// more than 127 deep or has a number that is too large for a float. `Memory` if memory runs out.
 ///
 /// # Errors
 ///
-/// `Memory` if memory runs out. Otherwise `Malformed`: the line is not JSON text in UTF-8.
+/// `Memory` if memory runs out. Otherwise `Malformed`: the line is not JSON text in UTF-8, or is too deep or has a
+/// number too large, as above.
 pub(crate) fn value_in(alloc: Global, line: &[u8]) -> Result<Value, LineFault>
     ensures ok { IfOk result (λ value. IsTextOf line.now (view value)) }
     ensures none { IfErr result (λ fault. fault ≢ Memory → (value : Data) → IsTextOf line.now value → ⊥) }

@@ -66,7 +66,7 @@ impl Scratch {
 ///
 /// `Memory` if memory ran out for the line, which may then be the end of a run. `Ok` exactly if, unless memory runs
 /// out, the record breaks no rule, and points are given that draw a representation of its embedding, with whatever
-/// outer face, of which all claims hold.
+/// outer face, of which all claims hold and, if `faces`, each region is its face.
 pub(crate) fn record_verdict(
     alloc: Global,
     scratch: &mut Scratch,

@@ -36,14 +36,14 @@ pub(crate) enum LineContent {
 }
 
 /// The content of a line: `End` if it is a JSON object with a field `end`, otherwise the drawing that it describes.
-/// `Malformed` if it is no JSON object, `Memory` if memory runs out, otherwise the fault of its first wrong field, in
-/// the order `points`, `angles`, `turns`, `prices`, `bends`, `outer`.
+/// `Malformed` if it is no JSON object that `value_in` accepts, `Memory` if memory runs out, otherwise the fault of its
+/// first wrong field, in the order `points`, `angles`, `turns`, `prices`, `bends`, `outer`.
 ///
 /// # Errors
 ///
 /// `Memory` if memory runs out. Otherwise the line says neither a drawing whose numbers have their ranges nor an end:
-/// `Malformed` if it is no JSON object, and else the fault of its first wrong field, in the order `points`, `angles`,
-/// `turns`, `prices`, `bends`, `outer`.
+/// `Malformed` if it is no JSON object that `value_in` accepts, and else the fault of its first wrong field, in the
+/// order `points`, `angles`, `turns`, `prices`, `bends`, `outer`.
 pub(crate) fn content_of(alloc: Global, line: &[u8]) -> Result<LineContent, LineFault>
     ensures ok { IfOk result (Says line.now) }
     ensures none { IfErr result (λ fault. fault ≢ Memory → SaysNothing line.now) }
@@ -155,7 +155,7 @@ pub(crate) fn next_input<R: Wait, L: Tap>(
 ///
 /// # Errors
 ///
-/// `Memory` if memory runs out before it is known whether a line is the end of a run.
+/// `Memory` if memory runs out for a line, also for the drawing of one that is known to be no end of a run.
 pub(crate) fn read_trailing<R: Wait, L: Tap>(
     rt: &R,
     alloc: Global,

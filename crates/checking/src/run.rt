@@ -54,9 +54,9 @@ pub struct CheckOutcome {
 ///
 /// # Errors
 ///
-/// `Write` exactly if the sink has then failed. `Memory` if memory runs out for the buffers, or before it is known
-/// whether a line after the last record is the end of a run. A prefix of the text was then written; if a byte of the
-/// last line was, that line has the number of lines that are left.
+/// `Write` exactly if the sink has then failed. `Memory` if memory runs out for the buffers, or for a line after the
+/// last record. A prefix of the text was then written; if a byte of the last line was, that line has the number of
+/// lines that are left.
 pub fn check_files<R: AllocGlobal + Wait, G: Tap, L: Tap, S: Sink>(
     rt: &R,
     graphs: G,
@@ -83,7 +83,7 @@ pub fn check_files<R: AllocGlobal + Wait, G: Tap, L: Tap, S: Sink>(
 }
 
 /// Reads the records of `graphs` through `buffer`; returns their number and the mark, which is `Memory` if memory runs
-/// out in a record. Their verdicts (also `Memory`) are added to the text of `checker`, which goes to `out` when nearly
+/// out for them. Their verdicts (also `Memory`) are added to the text of `checker`, which goes to `out` when nearly
 /// full. `Write`, the only error, exactly if `out` has then failed; it has then taken a prefix of the text.
 fn check_records<R: Wait, G: Tap, L: Tap, S: Sink>(
     rt: &R,

@@ -220,8 +220,8 @@ impl<J: KnownFiles + Send + Sync> Purpose for FindFacts<J> {
     }
 
     /// Returns the record `rec` of `task` with its facts, which are `None` if memory ran out for its shaped plane. The
-    /// lists of `shaped_plane` go to `scratch` for reuse once the facts are known; without a shaped plane `scratch`
-    /// stays as it is.
+    /// lists of `shaped_plane` then go to `scratch` for reuse, or are dropped if it has no holder for them; without a
+    /// shaped plane `scratch` stays as it is.
     fn finish(
         self,
         _alloc: Global,

@@ -294,7 +294,7 @@ impl<S: Sink, J: KnownFiles + Send + Sync> Consumer<FoundFacts<J>, KnownEnd<J>>
 
     /// Takes in the record `item`: if chosen, it goes on to the sink, or is buffered if its file is not current; then
     /// pauses later files or lets them go on. `Refused` exactly if the sink fails, `Memory` if there is no memory to
-    /// buffer it, `LaneLost` if it is not the next of its file. After an error no file is paused.
+    /// buffer it, `LaneLost` if it is not the next of its file or its choice differs. After an error no file is paused.
     fn item(&mut self, item: FoundFacts<J>) -> Result<(), RunFault<SinkFault>> {
         let taken = self.lines.item(self.alloc, self.sink, item);
         self.lines.order.keep_pace(&self.pace, taken.is_ok());

@@ -72,7 +72,7 @@ impl RecordSink for Entries {
 /// # Errors
 ///
 /// `TooManyFiles` exactly if there are more than `MAX_FILES`; `Memory` if there was no memory for the buffer that files
-/// are read into or for the books. There is no other error.
+/// are read into, for the entries or for the books. There is no other error.
 pub fn run_plain<O: Opener>(
     alloc: Global,
     opener: &O,
@@ -160,8 +160,9 @@ const _: () = prove!(MAX_LANES == 8);
 /// # Errors
 ///
 /// `TooManyFiles` exactly if there are more than `MAX_FILES`; `BadLanes` exactly if there are no lanes or more than
-/// `MAX_LANES`, and no more files than that. `Memory`: no memory for links, the fan, tickets, buffers, lists of lanes
-/// or books. `LaneLost`: an end of a link or of the fan was gone. `Thread`: a thread could not be started.
+/// `MAX_LANES`, and at most `MAX_FILES` files. `Memory`: no memory for links, the fan, tickets, buffers, lists of
+/// lanes, entries or books. `LaneLost`: an end of a link or of the fan was gone. `Thread`: a thread could not be
+/// started.
 pub fn run_batch<R: Threads + Wait + Sync, O: Opener, G: Gate>(
     rt: &R,
     alloc: Global,

@@ -239,7 +239,7 @@ pub struct Texts<'s, S, W: Drop> {
     /// The text in transit and what is buffered: `Lines`, or `Picks` of records. A type parameter, since contracts do
     /// not name a `&mut` beside a field that owns memory.
     pub lines: W,
-    /// The limit on buffered text above which the reading of later files pauses.
+    /// The limit on buffered text from which on the reading of later files pauses.
     pub pace: Pace<'s>,
 }
 
@@ -304,7 +304,7 @@ impl<S: Sink, J: KnownFiles + Send + Sync> Consumer<Printed<J>, KnownEnd<J>>
 
     /// Takes in the line of the entry `item`, or one saying that memory ran out: sends it on to the sink or buffers it;
     /// then pauses later files or lets them go on. `Refused` exactly if the sink fails, `Memory` if there is no memory
-    /// for such a line or to buffer it, `LaneLost` if it is not the next one. After an error no file is paused.
+    /// to make or buffer it, `LaneLost` if its place, format or choice is wrong. After an error no file is paused.
     fn item(&mut self, item: Printed<J>) -> Result<(), RunFault<SinkFault>> {
         let taken = self.lines.line(self.alloc, self.sink, item);
         self.lines.order.keep_pace(&self.pace, taken.is_ok());
@@ -313,7 +313,7 @@ impl<S: Sink, J: KnownFiles + Send + Sync> Consumer<Printed<J>, KnownEnd<J>>
 
     /// Takes in the end of file `file`; if it is current, sends its last line and the text of the next files on to the
     /// sink; then pauses later files or lets them go on. `Refused` exactly if the sink fails, `Memory` if a last line
-    /// lacks memory, `LaneLost` if the file has ended or `known` does not fit. After an error no file is paused.
+    /// lacks memory, `LaneLost` if `file` has ended, is not to come or `known` is wrong. After an error none pauses.
     fn end(
         &mut self,
         file: u32,

@@ -183,7 +183,7 @@ fn clap_error(alloc: Global, words: &[String]) -> Result<Option<Error>, Error> {
 }
 
 /// The request that `words` make; `files` must be the files that they name, in order. `None` if they ask for help, name
-/// no command, or if an option, a value or the number of files is not valid.
+/// no command, or if an option, a value or the number of files is not valid, or standard input is named twice.
 fn request_of<'a>(words: &[String], files: Vec<&'a str>) -> Option<Request<'a>>
     requires files { map (λ file. file.now) files.items ≡ files_in words.now }
     ensures some { IfSome result (IsAskedBy words.now) }

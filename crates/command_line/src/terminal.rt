@@ -108,8 +108,8 @@ impl<W: io::Write, R: Clock + Wait, E: io::Write + IsTerminal + Copy> io::Write
     ghost contents = { λ w. W.contents w.writer };
 
     /// Writes the first bytes of `buf`, perhaps not all, to the output; returns their number or the error. On a shared
-    /// terminal, first clears the console's line of progress, which stays cleared after an error; if what was written
-    /// does not end a line, the console then shows nothing until a later write does.
+    /// terminal, first clears the console's line of progress, which stays cleared after an error; if it writes bytes of
+    /// which the last ends no line, the console shows nothing until a later write ends a line or writes no byte.
     fn write(&mut self, buf: &[u8]) -> io::Result<usize> {
         if !self.is_shared {
             return self.writer.write(buf);

@@ -77,13 +77,14 @@ pub fn check<R: AllocGlobal + Wait, N: NamedFiles, S: Sink, E: Sink>(
 /// returns the exit status: 0, 3 or 4 if the text in `out` is whole; 2 if the words are refused or there are none, with
 /// `out` unchanged; 1 if memory, a write or the run failed, with a prefix of the text in `out`.
 ///
-/// `files` opens the files that are named, and standard input by its name. Output is written to `out`; the message of a
-/// fault and a line for each file that fails or is not planar_code are written to `err`. A failure of these writes to
-/// `err` changes nothing, nor does the progress that `console` shows.
+/// `files` opens the files that are named, and standard input by its name. Output is written to `out`. The message of a
+/// fault, the help if there are no words, and a line for each file that fails or is not planar_code are written to
+/// `err`; `pick` and `count` write one for each file that does not end complete, and one if memory ran out for graphs
+/// of it. A failure of these writes to `err` changes nothing, nor does the progress that `console` shows.
 ///
-/// The status is 0 for the version, for help and for a whole text in which each file ends complete and every graph is
-/// answered, 4 for a whole text of `check` in which some drawing is not ok or a line has no graph, 3 for any other
-/// whole text, 2 for a command line that is refused, and 1 if there is no whole text.
+/// The status is 0 for the version and for help, 2 for a command line that is refused, and 1 if there is no whole text.
+/// For any other whole text it is 3 if a file did not end complete, the lines of `check` could not be read, or memory
+/// ran out for a graph; otherwise 4 if a verdict of `check` is not ok or a line has no graph; otherwise 0.
 pub fn command<
     R: AllocGlobal + Threads + Wait + Sync,
     N: NamedFiles,

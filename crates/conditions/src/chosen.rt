@@ -32,8 +32,8 @@ use std::marker::Model;
 /// adjacent; otherwise `Conflict` exactly if two conditions on one angle or one edge differ; otherwise `TooManyTurns`
 /// exactly if all edges together are to have more than `MAX_GIVEN_TURNS` turns; otherwise `NoOuter` exactly if no face
 /// may be outside; otherwise `NoShape` exactly if no shape with a chosen face keeps what is given; all of this memory
-/// aside. `NoShape` has vertices and faces that show it for the face with the most darts. `Memory` if memory runs out.
-/// The outer face may have changed.
+/// aside. `NoShape` has vertices and faces that show it for the face with the most darts of those that may be outside.
+/// `Memory` if memory runs out. The outer face may have changed.
 pub fn shape_keeping_in(
     alloc: Global,
     scratch: &mut Scratch,

@@ -220,7 +220,7 @@ fn put_angle(found: &mut [Option<u8>], dart: u16, angle: u8) -> bool
 ///
 /// # Errors
 ///
-/// `Conflict` exactly if, memory aside, turns that differ are asked for along one dart; `Memory` if memory runs out.
+/// `Conflict` exactly if, memory aside, turns that differ are asked for along one edge; `Memory` if memory runs out.
 pub(crate) fn turns_of(
     alloc: Global,
     plane: &Plane,

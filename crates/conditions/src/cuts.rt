@@ -177,7 +177,8 @@ impl From<AllocError> for KeepFault {
 /// A proof that no shape with a certain outer face keeps what is given: a cut that turns more than can leave it.
 #[derive(Debug, Drop)]
 pub struct Unkept {
-    /// The outer face: the one with the most darts, among equals the one with the least number.
+    /// The outer face: of those that may be outside the one with the most darts, among equals the one with the least
+    /// number.
     pub outer: u16,
     /// The vertices and faces that turn more than can leave them.
     pub cut: Cut,

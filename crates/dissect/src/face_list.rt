@@ -148,11 +148,12 @@ pub fn list_faces(table: &DartTable, right: u32, faces: Faces) -> Result<Faces, 
 }
 
 /// Appends to `faces` the corners of the face into which a cut will merge the outer face and the inside of the
-/// rectangle, neither of which `table` has yet, and their number. Removes `right` from the corners in `faces.outer` if
-/// its angle is 3. `AllocError` if there is no memory; `faces` may then have a part of them.
+/// rectangle, and their number. Removes `right` from the corners in `faces.outer` if its angle is 3. `AllocError` if
+/// there is no memory; `faces` may then have a part of them.
 ///
-/// The cut leads from `right` to the side `side`. After `right` it goes along the cut, round the inside of the
-/// rectangle and back. `right` stays one of its corners unless the cut leaves it straight.
+/// `table` has neither the rectangle nor the cut yet. The cut leads from `right` to the side `side`. After `right` the
+/// walk round the merged face goes along the cut, round the inside of the rectangle and back. `right` stays one of its
+/// corners unless the cut leaves it straight.
 pub fn add_merged_face(
     table: &DartTable,
     right: u32,

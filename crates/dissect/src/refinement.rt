@@ -25,7 +25,7 @@ const BOX_CORNERS: usize = 4;
 /// Cuts across a face of `table` by a new edge, from the head of the dart `d`, a right turn, to a new vertex on the
 /// edge of the dart that follows the dart `c`. `table` must have room for four more darts, so it does not grow.
 ///
-/// The new edge leaves one right angle on its left. Constant time.
+/// At the head of `d`, one right angle lies between the new edge and the dart that followed `d`. Constant time.
 pub fn cut_across(table: &mut DartTable, d: u32, c: u32)
     requires sound { IsSound (dart_map_of table.old) }
     requires can { CanCut (dart_map_of table.old) d c }

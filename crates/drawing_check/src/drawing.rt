@@ -94,7 +94,7 @@ impl Drawing {
 /// The conditions are, in order: every coordinate is at most 65,535; consecutive points of an edge's path differ in
 /// exactly one coordinate; each edge has as many corners as turns, each corner turns as its string says, and at the
 /// head of each dart the direction changes as its angle says; no grid point is used twice, by vertices and between the
-/// ends of paths. The first three are checked without allocation: `Memory` is returned only if they hold.
+/// ends of paths. The first three are checked even if memory runs out: `Memory` is returned only if they hold.
 ///
 /// The points are compared as rectangles, one for each vertex and at most one for each part. For s of them it takes O(s
 /// log s) time, and 16 bytes of memory each, sorted in place unless they lie in few rows and columns; besides, a table

@@ -144,8 +144,8 @@ impl FileOrder {
         })
     }
 
-    /// The index, from 0, of the current file, the first whose text is not written completely, even if its end is kept
-    /// already; past the last file if all texts are.
+    /// The index, from 0, of the current file, the first that `go_on` has not passed, even if its end is stored; past
+    /// the last file if all are passed. Text of earlier files may still be in transit.
     pub fn current(&self) -> u32
         ensures { result ≡ self.now.current }
     {

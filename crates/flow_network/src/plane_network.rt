@@ -378,7 +378,8 @@ impl FaceNet {
         self.network.shift(from, to, 8);
     }
 
-    /// The number of the corner arc of a dart, which is the dart's own. The arc carries its angle less one.
+    /// The number of the corner arc of a dart, which is the dart's own. The arc carries its angle less one, or nothing
+    /// if the angle is given.
     pub fn corner_arc(&self, dart: u16) -> u32
         ensures { result ≡ dart }
     {
@@ -386,7 +387,7 @@ impl FaceNet {
     }
 
     /// The number of the crossing arc of a dart: the dart's own plus the number of all darts. The arc carries its left
-    /// turns.
+    /// turns, or nothing if the turns are given.
     pub fn crossing_arc(&self, dart: u16) -> u32
         ensures { result ≡ self.now.darts + dart }
     {

@@ -211,8 +211,8 @@ fn two_ends(low: &str, high: &str) -> Option<Range>
     }
 }
 
-/// `Some` of the number that `text` names, `Some(None)` if `text` is empty, and `None` if it is neither a number of at
-/// most 32 bits nor empty.
+/// `Some(Some(number))` if `text` names a number of at most 32 bits, `Some(None)` if it is empty, and `None` if it is
+/// neither.
 fn end_of(text: &str) -> Option<Option<u32>>
     ensures some { IfSome result (IsEnd text.now) }
     ensures none { IfNone result ((end : Option ℕ) → ¬ IsEnd text.now end) }

@@ -151,8 +151,8 @@ impl<T: Drop> ReturnQueue<T> {
         ))
     }
 
-    /// Allocates an empty queue that holds at most `room` items, and returns one end of it; `again` makes more ends.
-    /// `AllocError` if there is no memory.
+    /// Allocates an empty queue that holds at most `room` items, and returns one end of it; `another_end` makes more
+    /// ends. `AllocError` if there is no memory.
     pub fn alone(alloc: Global, room: usize) -> Result<ReturnQueue<T>, AllocError>
         requires { 0 < room }
     {

@@ -144,7 +144,8 @@ impl<K: RecordSink> Receiver for FileReceiver<'_, K> {
 ///
 /// # Errors
 ///
-/// The refusal of `sink`, if it does not keep a record. It has then kept the records before.
+/// The refusal of `sink`, if it does not keep a record or does not pass records on. It has then kept the records
+/// before.
 pub fn read_file<O: Opener, K: RecordSink>(
     opener: &O,
     alloc: Global,

@@ -200,9 +200,9 @@ pub fn run_stage<A: Staged, M: Drop, R: Wait, G: Gate>(
 /// `to` gave stays given. If memory runs out for an item, its result says so.
 ///
 /// It gives what the stage before gives, in order: records with the work of this stage done, and ends unchanged. The
-/// records of a message are given once the work is done on all of them. It does not give the stop: that is left to the
-/// caller. Before it works on a record it passes the gate and exchanges lists with other stages; all records use one
-/// scratch.
+/// records of a message are given once the work is done on all of them; if there is no list for the results, each is
+/// given at once. It does not give the stop: that is left to the caller. Before it works on a record it passes the gate
+/// and exchanges lists with other stages; all records use one scratch.
 pub fn run_until_stop<A: Staged, M: Drop, R: Wait, G: Gate, O: Outlet<A::Next, M>>(
     rt: &R,
     alloc: Global,

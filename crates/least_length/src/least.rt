@@ -12,7 +12,8 @@ use crate::pulling::Pulling;
 use crate::segments::{Balance, MAX_SEGMENTS, MAX_SIGHTS, MAX_WIRES, Segment, Wire};
 use std::alloc::{AllocError, Global};
 
-/// The buffers of a search or a certificate, reused for the next one. Their contents between two calls do not matter.
+/// The buffers of a search or a certificate, reused for the next one. Between two calls their contents matter
+/// only to [`write_if_shorter`].
 #[derive(Drop)]
 pub struct Scratch {
     pub(crate) balance: Balance,
@@ -116,13 +117,13 @@ pub(crate) fn highest(segments: &[Segment]) -> u16
 /// Flows, 1993). True is returned only if [`certify_lengths`](crate::certify_lengths) accepts the result. It is false
 /// if the wires are no shorter than with the segments' own coordinates; if the search would go over more segments than
 /// there are `looks`, of which it takes one for each segment, each time, and all if they are too few; if more than
-/// 16,384 pairs are met, if more than 65,536 wires or 65,533 segments are given, or if the input is other than said
-/// above. That it is never false otherwise is measured and not proved. It reuses the caller's scratch and list; if it
-/// is false, what the list holds does not matter.
+/// 16,384 pairs are met, or if more than 65,536 wires or 65,533 segments are given; it may be false if the input is
+/// other than said above. That it is never false otherwise is measured and not proved. It reuses the caller's scratch
+/// and list; if it is false, what the list holds does not matter.
 ///
 /// # Errors
 ///
-/// `AllocError` if there is no memory for the coordinates or for the search.
+/// `AllocError` if there is no memory for the coordinates, the search or the check.
 pub fn find_shorter(
     scratch: &mut Scratch,
     segments: &[Segment],
@@ -149,11 +150,12 @@ pub fn find_shorter(
 /// matter. Overwrites a buffer of `scratch`, but not what was found. `AllocError` if there is no memory.
 ///
 /// If a search of [`find_shorter`] had too few looks, this makes use of what it found until then: the same scratch,
-/// segments and wires are to be given. The total length need not be least.
+/// segments and wires are to be given. The total length need not be least. The result is false also if a coordinate is
+/// above 65,535, a wire has an end that is no segment, or more than 65,536 wires are given.
 ///
 /// # Errors
 ///
-/// `AllocError` if there is no memory for the coordinates.
+/// `AllocError` if there is no memory for the coordinates or the check.
 pub fn write_if_shorter(
     scratch: &mut Scratch,
     segments: &[Segment],

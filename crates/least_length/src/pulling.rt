@@ -266,7 +266,7 @@ impl Pulling {
 
     /// Moves all segments reached up until one is adjacent to one not reached, replaces `unlooked` by those that then
     /// are, and sets `moved`. False if no segment is in their way, and none moves, or if a coordinate would be above
-    /// 4,294,967,295, and some have moved. `AllocError` if there is no memory for `unlooked`, and none moves.
+    /// 4,294,967,295, and some may have moved. `AllocError` if there is no memory for `unlooked`, and none moves.
     fn move_up(&mut self) -> Result<bool, AllocError>
         requires ready { IsReady self.old }
         ensures ready { OnOk result (IsReady self.new) }

@@ -50,8 +50,8 @@ impl SightLists {
     /// before it on its levels; `ends` stays. `segments` must be in the order of their coordinates, and no level may be
     /// above `top`. `AllocError` if there is no memory for the buffers; what `sights` holds then does not matter.
     ///
-    /// The weight of a pair is the number of wires that run from one to the other. A pair that is met on several
-    /// adjacent levels is listed once.
+    /// The weight of a pair is the number of levels on which a wire runs from one to the other, also a wire that begins
+    /// before the first or ends behind the second. A pair that is met on several adjacent levels is listed once.
     pub(crate) fn list(
         &mut self,
         segments: &[Segment],

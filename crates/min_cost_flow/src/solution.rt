@@ -114,8 +114,8 @@ impl Solved {
 /// supplies sum to 0, the marked nodes supply more than the arcs out of their set can carry. `AllocError` if there is
 /// no memory for `scratch` or the marks; `scratch` can be used again.
 ///
-/// The marked nodes are those that the last search reached, from a node with an excess by unsaturated residual arcs. If
-/// the supplies do not sum to 0, nothing is said of them.
+/// The marked nodes are those that a search without a path reached, from a node with an excess by unsaturated residual
+/// arcs; without such a search none is marked. If the supplies do not sum to 0, nothing more is said of them.
 ///
 /// # Errors
 /// `AllocError` if an allocation was refused. All lists stay in the scratch, which can be used again.
@@ -136,8 +136,8 @@ pub fn overfull_in(
     Ok(Some(marks_of_reached(alloc, &solver.visits)?))
 }
 
-/// A new list with a mark for each node: true if the last search reached it, so that it has a label in `visits`.
-/// `AllocError` if there is no memory for the list.
+/// A new list with a mark for each node: true if it has a label in `visits`, which only a search that found no path
+/// leaves there. `AllocError` if there is no memory for the list.
 fn marks_of_reached(alloc: Global, visits: &[Visit]) -> Result<Vec<bool>, AllocError>
     ensures size { IfOk result (λ marks. length marks.items ≡ length visits.now) }
     ensures each { IfOk result (λ marks. (v : ℕ) → v < length visits.now → is_in marks.items v ≡ was_reached visits.now v) }

@@ -95,7 +95,7 @@ impl Solver {
 impl Solver {
     /// Finds a flow of least cost, from the zero flow on, in lists that `prepare` has sized for `network`; returns
     /// whether there is a flow. If so, `residual` holds the flow and `nodes` its potentials; if not, what was sent
-    /// stays there, and `visits` keeps the labels of a search that found no path.
+    /// stays there, and `visits` keeps the labels of a search that found no path, if there was one.
     pub(crate) fn solve(&mut self, network: &Network) -> bool
         requires { IsSized network.now self.old }
         ensures done { result ≡ true → IsRoundDone network.now (flow_in self.new) (potential_at self.new) self.new.searches self.new.looks }

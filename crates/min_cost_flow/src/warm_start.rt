@@ -46,8 +46,8 @@ impl Solver {
     }
 
     /// Sends the whole excess of `root`, the only node that may have one, to nodes with a deficit; returns whether
-    /// neither an excess nor a deficit is left. `looks` then counts the last search alone, and `searches` stays as it
-    /// is.
+    /// neither an excess nor a deficit is left. If it searches, `looks` then counts the last search alone; `searches`
+    /// stays as it is.
     fn resend(&mut self, root: usize) -> bool
         requires ready { (net : NetworkModel) × IsReady net self.old }
         requires root { root < length self.old.nodes.excess.items }

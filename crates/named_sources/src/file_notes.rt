@@ -334,7 +334,7 @@ impl FileNotes {
     /// out for the format of a file, its line is left out.
     ///
     /// The line of a file that was not opened or not read to its end says why, with the system's reason; that of one
-    /// that is not planar_code says what it looks like. A failure of this write changes nothing.
+    /// that is not planar_code says what it looks like. After a failed write `err` may have a part of a line.
     pub fn write<E: Sink>(&self, alloc: Global, names: &[&str], err: &mut E)
         requires { E.failed err.old ≡ false }
     {

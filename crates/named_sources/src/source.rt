@@ -40,11 +40,11 @@ pub fn if_open<F: AsFd + Copy>(stream: F) -> Option<F> {
     is_open(&stream).then_some(stream)
 }
 
-/// Opens the folder `/` in place of this standard stream if it is closed, and returns it; `None` if the stream is open
-/// or the folder could not be opened, for example for lack of memory.
+/// Opens the folder `/` in place of this standard stream if it is closed or its file descriptor cannot be duplicated,
+/// and returns it; `None` if the stream is open or the folder could not be opened, for example for lack of memory.
 ///
-/// It has the stream's file descriptor, if the standard streams with lower ones are open or have a folder too; no file
-/// can then get it by chance, as long as the folder is held. Every read and write of a folder fails.
+/// It has a closed stream's file descriptor, if the standard streams with lower ones are open or have a folder too; no
+/// file can then get it by chance, as long as the folder is held. Every read and write of a folder fails.
 pub fn place_holder<R: Files, F: AsFd + Copy>(rt: &R, stream: F) -> Option<R::File> {
     if is_open(&stream) {
         return None;
@@ -139,8 +139,8 @@ pub struct NotedSource<'r, F> {
 }
 
 impl<'r, F: Tap> NotedSource<'r, F> {
-    /// The open file `source`, of which nothing was read yet, as a source that writes to `note` what it reads, if there
-    /// is a note.
+    /// The open file `source`, of which nothing was read yet, as a source that writes to `note` its first bytes and the
+    /// reason of a failed read, if there is a note.
     pub(crate) fn new(source: F, note: Option<&'r FileNote>) -> NotedSource<'r, F>
         ensures to_come { noted_to_come F.to_come result ≡ F.to_come source }
         ensures fails { noted_fails F.fails result ≡ F.fails source }

@@ -209,7 +209,7 @@ impl Walk {
 
 /// Tries faces in depth-first order over shared edges, so that each move is short, and returns the moved flow. The face
 /// tried last is left as the outer one of `plane`; `incumbent` becomes the best face so far, `bounds` rise, and `walk`
-/// marks the faces and edges passed.
+/// marks the faces that it comes to and the edges that it crosses.
 ///
 /// Which faces it comes to is not proved: no result rests on it.
 ///
@@ -246,8 +246,8 @@ fn tour(
 }
 
 /// Takes one step of the tour: returns the next dart, and the face across `dart` if `walk` had not seen it, else
-/// `None`. `walk` then marks that face as seen and the edge as a door: both of its darts lead on to what comes after
-/// their reverse.
+/// `None`. If it had not, `walk` marks that face as seen and the edge as crossed. After a dart of a crossed edge comes
+/// the dart after its reverse.
 fn next_of_tour(plane: &Plane, dart: u16, walk: &mut Walk) -> (u16, Option<u16>)
     requires dart { dart < darts plane.now }
     requires walk { HasRoom plane.now walk.old }

@@ -80,7 +80,7 @@ fn best_found(
 
 /// Tries each face that is not barred as the outer one of `plane`, and returns the best with its bends; `None` if with
 /// none of them a shape keeps what is given. The face tried last is left as the outer one. It uses the buffers of
-/// `scratch`; `AllocError` if there is no memory, and some of them may then be lost.
+/// `scratch`, some of which may be lost in each case. `AllocError` if there is no memory.
 fn best_face(
     alloc: Global,
     scratch: &mut Scratch,

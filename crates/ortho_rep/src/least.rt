@@ -103,8 +103,8 @@ pub fn least_shape_keeping_in(
 }
 
 /// The representation that a flow of least cost and what is given determine, and its prices, in the three buffers of
-/// `lists`, which they take with them. `AllocError` if a buffer is too small and there is no memory; those taken before
-/// are then gone.
+/// `lists`, which they take with them. `AllocError` if a buffer is too small and there is no memory; that buffer and
+/// those taken before are then gone.
 pub(crate) fn shape_in(
     alloc: Global,
     lists: &mut ShapeLists,

@@ -17,7 +17,7 @@ use std::marker::Model;
 ///
 /// A shape and its prices take their lists with them. If both are returned before the next call, none allocates for a
 /// plane with no more vertices, faces and darts than one before it had; if one is not, the next call allocates its
-/// lists alone, and exactly what they hold. A call that runs out of memory may lose the buffers; the next one then
+/// lists alone, and exactly what they hold. A call that returns an error may lose the buffers; the next one then
 /// allocates them anew.
 #[derive(Drop)]
 pub struct Scratch {
@@ -125,7 +125,7 @@ impl Shape {
     /// Moves the list of this shape to `scratch`, to be reused; the list that was there is dropped. A shape by `new`
     /// has no such list: it is dropped, and `scratch` stays as it is. It allocates nothing.
     ///
-    /// Lists that are not of darts, as [`least_shape_in`](crate::least_shape_in) makes it, are dropped.
+    /// A shape that [`least_shape_in`](crate::least_shape_in) made has such a list.
     pub fn give_back(self, scratch: &mut Scratch) {
         match self.store {
             ShapeStore::OneSided(darts) => scratch.lists.darts = darts,

@@ -67,7 +67,7 @@ impl Framer {
 
     /// Reads one byte of the header, or to the end of one record or of `text`, which is not empty; returns the number
     /// of bytes read, and the record if one ended, else `None`. `Header`, `Large`, `Oversize` or `Many` at a byte that
-    /// may not come, `Memory` without memory for a record, the earlier fault if it has failed; it stores no fault.
+    /// may not come, `Memory` without memory for a record; it stores no fault. It must not have failed before.
     fn step(&mut self, alloc: Global, text: &[u8]) -> Result<(usize, Option<Record>), FeedFault>
         requires some { 0 < length text.now }
         requires running { HasNotFailed self.old }

@@ -24,8 +24,8 @@ use ortho_rep::Points;
 use std::alloc::{AllocError, Global};
 
 /// Parses `source` as one record; returns its layout with the outer face of `choice`, and a drawing of `kind` unless
-/// that is `None`. `NotARecord` if it is not exactly one record, `Large` if its entries of 16 bits begin with too many
-/// vertices, `Refused` with the first rule that the record breaks, `Memory` if memory runs out.
+/// that is `None`. `Large` if its entries of 16 bits begin with too many vertices, else `NotARecord` if it is not
+/// exactly one record, `Refused` with the first rule that the record breaks, `Memory` if memory runs out.
 pub(crate) fn lay_out(
     alloc: Global,
     source: &Source<'_>,
@@ -167,8 +167,8 @@ pub(crate) fn lay_out_keeping(
 }
 
 /// Returns the layout of a parsed record under the conditions, with a drawing of the kind `kind`, or without one if
-/// that is `None`. `Refused` for a broken rule, the outcome of `unkept` if no shape is found, `Wide` if points would
-/// lie outside the grid, or `Memory`; `NoShape` alone changes `cut`, to its cut.
+/// that is `None`. `Refused` for a broken rule, that of `outcome_of_keep_fault` if no shape is found, `Wide` if points
+/// would lie outside the grid, or `Memory`; `NoShape` alone changes `cut`, to its cut.
 fn laid_keeping(
     alloc: Global,
     rec: &Parsed,

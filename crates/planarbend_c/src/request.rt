@@ -215,9 +215,9 @@ impl Parsed {
     }
 }
 
-/// Returns a copy of `source` as a record, with entries of 8 or 16 bits; `NotARecord` if `source` is not exactly one
-/// record, `Large` if its entries of 16 bits begin with a number of vertices above the maximum, `Memory` if memory runs
-/// out.
+/// Returns a copy of `source` as a record, with entries of 8 or 16 bits; `Large` if its entries of 16 bits begin with a
+/// number of vertices above the maximum, otherwise `NotARecord` if `source` is not exactly one record, `Memory` if
+/// memory runs out.
 pub(crate) fn parse(alloc: Global, source: &Source<'_>) -> Result<Parsed, Outcome>
     ensures lists { IfOk result (λ rec. parsed_lists rec ≡ input_lists (input_of source.now)) }
     ensures is_record { IfOk result (λ _. IsOneRecord (input_of source.now)) }
@@ -245,8 +245,8 @@ fn parsed_bytes(alloc: Global, bytes: &[u8]) -> Result<Parsed, Outcome>
 }
 
 /// Returns a record that owns a copy of these entries of 16 bits; `Large` if their number of vertices is above the
-/// maximum, `NotARecord` if they are not exactly one record, `Memory` if memory runs out. More entries than a record
-/// can have are not copied.
+/// maximum, otherwise `NotARecord` if they are not exactly one record, `Memory` if memory runs out. More entries than a
+/// record can have are not copied.
 fn parsed_entries(alloc: Global, entries: &[u16]) -> Result<Parsed, Outcome>
     ensures lists { IfOk result (λ rec. parsed_lists rec ≡ input_lists (Entries entries.now)) }
     ensures is_record { IfOk result (λ _. IsOneRecord (Entries entries.now)) }

@@ -263,15 +263,16 @@ impl<T: Drop> Gatherer<T> {
     }
 
     /// Removes the next item from the fan, and returns its lane's number and the item; `None` if none arrives within
-    /// `patience` microseconds (at least about a millisecond). Subtracts the time waited from `patience`, which is 0
-    /// after `None`. `Closed` if all givers are gone and no item is left: nothing is taken.
+    /// `patience` microseconds (at least about a millisecond). Subtracts the time waited, except some before `Closed`,
+    /// from `patience`, which is 0 after `None`. `Closed` if all givers are gone and no item is left: nothing is taken.
     ///
     /// The item is taken in one step. While the fan is empty, the call tries again for about a millisecond, as `take`
-    /// does, then after naps, each an eighth of the time that it has waited and at most a tenth of a second. The time
-    /// slept is subtracted from `patience`, and ten microseconds for the call itself. It allocates nothing.
+    /// does, then after naps, each an eighth of the time that it has waited and at most a tenth of a second; the last
+    /// one may end after `patience`. The time slept is subtracted from `patience`, and ten microseconds for the call
+    /// itself. It allocates nothing.
     ///
     /// # Errors
-    /// `Closed` as in `take`.
+    /// `Closed` as in `take`. If it comes within the first millisecond, the time slept is not subtracted.
     pub fn take_within<R: Wait>(
         &mut self,
         rt: &R,
@@ -345,8 +346,9 @@ impl<T: Drop> Gatherer<T> {
         sender.learn_as::<EachLane>(pass);
     }
 
-    /// Consumes the gatherer and `givers`, and drops the items that the fan still holds; returns nothing and cannot
-    /// fail. It proves that no item of their lanes was lost, repeated or reordered.
+    /// Consumes the gatherer and `givers`; the items that the fan still holds are dropped, but if it has other givers,
+    /// only when these are gone too. Returns nothing and cannot fail. It proves that no item of the lanes of `givers`
+    /// was lost, repeated or reordered.
     ///
     /// The items given at a lane are those taken from it, followed by those that the fan still holds.
     ///

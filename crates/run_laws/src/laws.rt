@@ -319,8 +319,8 @@ pub fn one_facts()
         → AreFacts choice g (Some facts) → AreFacts choice g (Some other) → facts ≡ other }
 {}
 
-/// Theorem: two picks by one selection, from files with the same known bytes, have the same text, unless memory ran
-/// out.
+/// Theorem: two picks by one selection and under one choice of the outer face, from files with the same known bytes,
+/// have the same text, unless memory ran out.
 ///
 /// This holds for any lanes, capacity and schedule.
 pub fn one_picked_text()
@@ -333,8 +333,8 @@ pub fn one_picked_text()
         → picked_text selection books ≡ picked_text selection others }
 {}
 
-/// Theorem: two tables with the same columns, of the graphs that one selection chooses from files with the same known
-/// bytes, have the same text, unless memory ran out.
+/// Theorem: two tables with the same columns, of the graphs that one selection chooses, under one choice of the outer
+/// face, from files with the same known bytes, have the same text, unless memory ran out.
 ///
 /// This holds for any lanes, capacity and schedule.
 pub fn one_counted_text()

@@ -310,7 +310,7 @@ impl FaceSearch {
         }
     }
 
-    /// Moves a unit in `flow` along `path`, which must be the path that the last call of `finds` found.
+    /// Moves a unit in `flow` along `path`, which must be the path that the last call of `find_path` found.
     pub(crate) fn send(&self, plane: &Plane, flow: &mut ShapeFlow, path: PathEnds)
         requires { path.to < darts plane.now }
     {

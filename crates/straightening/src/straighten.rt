@@ -62,7 +62,8 @@ const REFLEX: u8 = 3;
 /// cost is 0 by the prices (a flow of least cost stays one along a cycle of such arcs, by complementary slackness). On
 /// that path no vertex of degree 2 begins to turn. The result of these moves is returned only if `is_shape` and
 /// `certify` accept it and it has fewer reflex angles. Otherwise the given shape is returned: after one look at each
-/// angle if no vertex can be made straight. How few vertices turn in the end is measured and not proved.
+/// angle if no reflex angle may give a unit to the right angle. How few vertices turn in the end is measured and not
+/// proved.
 ///
 /// # Errors
 ///

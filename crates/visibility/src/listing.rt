@@ -108,7 +108,7 @@ pub(crate) fn find_ends(along: &mut Segments, other: &mut Segments) -> Result<()
 
 /// Sets for each of `segments` the indices in `others` of the segments on which it begins and ends, as `of` gives them
 /// for its end places, and counts it at these in `others`. `TooLarge` if a place is on no segment, or 65,535 begin or
-/// end on one already: earlier segments have then changed.
+/// end on one already: `segments` and `others` are then changed in part.
 fn set_ends(
     segments: &mut [Segment],
     others: &mut [Segment],
@@ -370,7 +370,7 @@ fn list_corners(
 }
 
 /// Adds the corner at `place`, to which an edge runs along `segment` of `from_segments` between the coordinates `run`.
-/// Returns the segment of `to_segments` along which it leaves: that of the vertex `end`, or a new one if `None`.
+/// Returns the segment of `to_segments` along which it leaves: that at the place `end`, or a new one if `None`.
 /// `TooLarge` if there are too many or `end` is on none; `Memory` if there is no memory. The segments may have changed.
 fn add_corner(
     from_segments: &mut Segments,

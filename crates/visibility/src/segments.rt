@@ -338,8 +338,8 @@ impl Segments {
     }
 
     /// Gives each segment a coordinate of its own, from 0 on, in the order of those that they have, and makes the lists
-    /// anew. `TooLarge` if one is listed twice, `Memory` if there is no memory for the lists: coordinates have then
-    /// changed, and the lists do not fit them.
+    /// anew. `TooLarge` if more are listed than there are, `Memory` if there is no memory for the lists: coordinates
+    /// have then changed, and the lists do not fit them.
     pub(crate) fn set_apart(&mut self) -> Result<(), SegmentFault>
         requires listed { AreListed self.old.segments.items self.old.firsts.items }
         ensures listed { OnOk result (AreListed self.new.segments.items self.new.firsts.items) }
@@ -429,7 +429,7 @@ fn list_all(segments: &mut [Segment], firsts: &mut [u16])
 }
 
 /// Gives each of `segments` that the lists `firsts` have a coordinate of its own, in the order of those that they have,
-/// but does not list them anew. `TooLarge` if one is listed twice: some coordinates have then changed.
+/// but does not list them anew. `TooLarge` if more are listed than there are: coordinates have then changed.
 fn spread(segments: &mut [Segment], firsts: &[u16]) -> Result<(), SegmentFault>
     requires { AreListed segments.old firsts.now }
     ensures few { AreFew segments.new }
