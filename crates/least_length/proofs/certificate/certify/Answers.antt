@@ -9,7 +9,7 @@ returns-clause-exact c =
     let joined : c.have_ends.result ≡ true = search rules in
     let seen : c.are_sights.result ≡ true = search rules in
     IfOk-weaker c.is_balanced.result _ _
-    (λ found even. certificate_parts c.args.segments.now c.args.wires.now (coordinates_in c.args.coordinates.now) c.args.sights.now found (c.in_ok-kept.ensures.0 (search rules)) (c.have_ends.ensures.0 joined) (c.are_sights.ensures.0 seen) (sym c.weigh.ensures ∙ c.if-weigh-measure.false ∙ c.length_of_wires.ensures) even)
+    (λ found even. certificate_parts c.args.segments.now c.args.wires.now (coordinates_in c.args.coordinates.now) c.args.sights.now found (c.in_ok-kept.ensures.0 (search rules)) (c.have_ends.ensures.0 joined) (c.are_sights.ensures.0 seen) (sym c.weigh.ensures ∙ c.if-weigh-length_of_wires.false ∙ c.length_of_wires.ensures) even)
     c.is_balanced.ensures
 
 pub returns-clause-least : goal.returns-clause-least

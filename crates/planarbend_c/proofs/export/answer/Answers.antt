@@ -18,7 +18,7 @@ returns-in_default-drawing_of-clause-outcome c =
     let unknown = sym c.drawing_of.ensures ∙ c.in_default-drawing_of.is in
     record { plain = λ _. inl (inr unknown); keeping = λ _. inl (inr unknown) }
 
-pub tell-requires : goal.tell-requires
+pub write_layout-requires : goal.write_layout-requires
 write_layout-requires c = c.in-Ok.ensures.found.drawn
 
 pub returns-in-Ok-clause-outcome : goal.returns-in-Ok-clause-outcome
@@ -45,7 +45,7 @@ pub returns-in-Ok-clause-undrawn : goal.returns-in-Ok-clause-undrawn
 returns-in-Ok-clause-undrawn c none =
     c.write_layout.ensures.undrawn (not_drawn c.args.request.now.drawing c.in-Some-drawing_of.kind (finding_of c.in-Ok.layout) (sym c.drawing_of.ensures ∙ c.in-Some-drawing_of.is) c.in-Ok.ensures.asked none)
 
-pub tell-requires-in-Ok-lay_out_keeping : goal.tell-requires-in-Ok-lay_out_keeping
+pub write_layout-requires-in-Ok-lay_out_keeping : goal.write_layout-requires-in-Ok-lay_out_keeping
 write_layout-requires-in-Ok-lay_out_keeping c = c.in-Ok-lay_out_keeping.ensures.found.drawn
 
 pub returns-in-Ok-lay_out_keeping-clause-outcome : goal.returns-in-Ok-lay_out_keeping-clause-outcome

@@ -14,8 +14,8 @@ loop-dart-preserved c =
     let dart = c.loop-dart.dart in
     let strings = c.args.shape.now.strings in
     let before = map turns_data (take dart strings) in
-    one_more c.put_bytes.new.out.items c.loop-dart.out.items c.put_string-in-loop-dart.new.out.items before _ _ (nat_lt 0 dart) c.loop-dart.invariant c.in_ok-put_string.ensures (some_taken turns_data dart strings (omega arith)) (
-    ap (λ (turns : List Turn). before ++ turns_data turns ∷ []) c.put_string.ensures.value
+    one_more c.put_bytes.new.out.items c.loop-dart.out.items c.put_string.new.out.items before _ _ (nat_lt 0 dart) c.loop-dart.invariant c.in_ok-put_string.ensures (some_taken turns_data dart strings (omega arith)) (
+    ap (λ (turns : List Turn). before ++ turns_data turns ∷ []) c.turns.ensures.value
     ∙ sym (map_more turns_data strings dart [] (omega arith)))
 
 pub returns : goal.returns
